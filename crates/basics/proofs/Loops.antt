@@ -1,0 +1,182 @@
+-- Laws of the loops and searches. Assumes nothing.
+use mathlib.Core.Path.{_≡_, refl, sym, ap, _∙_, subst}
+use mathlib.Core.List.{List, [], _∷_, _++_, map}
+use mathlib.Core.Bool.{Bool, true, false, not, _&&_, _||_, cond}
+use Prim.Native.Nat.{ℕ, zero, suc, _+_, _-_, _≤_, _<_}
+use native.Mathlib.Numerals.{add-one}
+use native.Mathlib.Omega.{arith}
+use native.Mathlib.Nat.{not-suc-le-zero, le-of-suc-le-suc, suc-ne-zero, suc-inj}
+use lib.Dec.{T}
+use lib.ListN.{length, getD, set}
+use Rattle.basics.specs.Loops.{run, times, consIf, keep, every, allOf, upFrom, first, atOr}
+use Rattle.basics.specs.declared.Spot.{Spot}
+use Rattle.basics.specs.declared.Spot.the-variants.{At, Nowhere}
+
+-- every element has P
+abbrev pub All : {A : Type 0} → (A → Type 0) → List A → Type 0
+All P [] = Unit {0}
+All P (x ∷ xs) = P x × All P xs
+
+pub All-map : {A B : Type 0} (P : B → Type 0) (f : A → B) (xs : List A) → All (λ x. P (f x)) xs → All P (map f xs)
+All-map P f [] h = tt
+All-map P f (x ∷ xs) h = (h .0, All-map P f xs (h .1))
+
+pub All-imp : {A : Type 0} (P Q : A → Type 0) (xs : List A) → ((x : A) → P x → Q x) → All P xs → All Q xs
+All-imp P Q [] i h = tt
+All-imp P Q (x ∷ xs) i h = (i x (h .0), All-imp P Q xs i (h .1))
+
+pub All-getD : {A : Type 0} (P : A → Type 0) (xs : List A) (i : ℕ) (d : A) → All P xs → i < length xs → P (getD xs i d)
+All-getD P [] i d h l = absurd (not-suc-le-zero l)
+All-getD P (x ∷ xs) zero d h l = h .0
+All-getD P (x ∷ xs) (suc i) d h l = All-getD P xs i d (h .1) (le-of-suc-le-suc l)
+
+-- what `keep` keeps passes the test, and has what all had
+module _ {A : Type 0} (p : A → Bool) (P : A → Type 0) where
+  consIf-all : (b : Bool) (x : A) (xs : List A) → P x → (T b → T (p x)) → All (λ y. T (p y) × P y) xs → All (λ y. T (p y) × P y) (consIf b x xs)
+  consIf-all true x xs q t h = ((t tt, q), h)
+  consIf-all false x xs q t h = h
+
+  pub keep-all : (xs : List A) → All P xs → All (λ y. T (p y) × P y) (keep p xs)
+  unfolding keep
+  keep-all [] h = tt
+  keep-all (x ∷ xs) h = consIf-all (p x) x (keep p xs) (h .0) (λ t. t) (keep-all xs (h .1))
+
+-- a test that passes on the whole list
+pub and-left : (a b : Bool) → T (a && b) → T a
+and-left true b t = tt
+and-left false b t = t
+
+pub and-right : (a b : Bool) → T (a && b) → T b
+and-right true b t = t
+and-right false b t = absurd t
+
+module _ {A : Type 0} where
+  pub All-any : (P : A → Type 0) → ((x : A) → P x) → (xs : List A) → All P xs
+  All-any P h [] = tt
+  All-any P h (x ∷ xs) = (h x, All-any P h xs)
+
+  pub every-all : (p : A → Bool) (xs : List A) → T (every p xs) → All (λ x. T (p x)) xs
+  unfolding every
+  every-all p [] t = tt
+  every-all p (x ∷ xs) t = (and-left (p x) (every p xs) t, every-all p xs (and-right (p x) (every p xs) t))
+
+module _ {A S : Type 0} where
+  pub run-append : (f : A → S → S) (xs ys : List A) (s : S) → run f (xs ++ ys) s ≡ run f ys (run f xs s)
+  unfolding run
+  run-append f [] ys s = refl
+  run-append f (x ∷ xs) ys s = run-append f xs ys (f x s)
+
+  -- two runs over one list, step by step
+  pub run-both : {R : Type 0} (P : A → Type 0) (Q : S → R → Type 0) (f : A → S → S) (g : A → R → R)
+      → ((x : A) (s : S) (t : R) → P x → Q s t → Q (f x s) (g x t))
+      → (xs : List A) (s : S) (t : R) → All P xs → Q s t → Q (run f xs s) (run g xs t)
+  unfolding run
+  run-both P Q f g h [] s t a q = q
+  run-both P Q f g h (x ∷ xs) s t a q = run-both P Q f g h xs (f x s) (g x t) (a .1) (h x s t (a .0) q)
+
+  -- an invariant
+  pub run-keeps : (P : A → Type 0) (Q : S → Type 0) (f : A → S → S) → ((x : A) (s : S) → P x → Q s → Q (f x s))
+      → (xs : List A) (s : S) → All P xs → Q s → Q (run f xs s)
+  unfolding run
+  run-keeps P Q f h [] s a q = q
+  run-keeps P Q f h (x ∷ xs) s a q = run-keeps P Q f h xs (f x s) (a .1) (h x s (a .0) q)
+
+pub cond-both : {A : Type 0} (P : A → Type 0) (t : Bool) (x y : A) → P x → P y → P (cond t x y)
+cond-both P true x y a b = a
+cond-both P false x y a b = b
+
+module _ {A : Type 0} where
+  consIf-append : (t : Bool) (x : A) (xs ys : List A) → consIf t x xs ++ ys ≡ consIf t x (xs ++ ys)
+  consIf-append true x xs ys = refl
+  consIf-append false x xs ys = refl
+
+  pub keep-append : (p : A → Bool) (xs ys : List A) → keep p (xs ++ ys) ≡ keep p xs ++ keep p ys
+  unfolding keep
+  keep-append p [] ys = refl
+  keep-append p (x ∷ xs) ys = ap (consIf (p x) x) (keep-append p xs ys) ∙ sym (consIf-append (p x) x (keep p xs) (keep p ys))
+
+  pub map-like : {B : Type 0} (f g : A → B) (xs : List A) → All (λ x. f x ≡ g x) xs → map f xs ≡ map g xs
+  map-like f g [] h = refl
+  map-like f g (x ∷ xs) h = λ i. h .0 i ∷ map-like f g xs (h .1) i
+
+-- what holds of every element holds of what a search finds
+abbrev pub Found : (ℕ → Type 0) → Spot → Type 0
+Found P (At k) = P k
+Found P Nowhere = Unit {0}
+
+atOr-found : (P : ℕ → Type 0) (t : Bool) (x : ℕ) (o : Spot) → P x → Found P o → Found P (atOr t x o)
+atOr-found P true x o a f = a
+atOr-found P false x o a f = f
+
+pub first-found : (P : ℕ → Type 0) (p : ℕ → Bool) (xs : List ℕ) → All P xs → Found P (first p xs)
+unfolding first
+first-found P p [] h = tt
+first-found P p (x ∷ xs) h = atOr-found P (p x) x (first p xs) (h .0) (first-found P p xs (h .1))
+
+-- a store at one place of two lists that agree somewhere
+pub set-like : {A : Type 0} (w v : List A) (k j : ℕ) (x d : A) → length w ≡ length v → getD w j d ≡ getD v j d → getD (set w k x) j d ≡ getD (set v k x) j d
+set-like [] [] k j x d l e = e
+set-like [] (y ∷ ys) k j x d l e = absurd (suc-ne-zero (length ys) (sym l))
+set-like (y ∷ ys) [] k j x d l e = absurd (suc-ne-zero (length ys) l)
+set-like (y ∷ ys) (u ∷ us) zero zero x d l e = refl
+set-like (y ∷ ys) (u ∷ us) zero (suc j) x d l e = e
+set-like (y ∷ ys) (u ∷ us) (suc k) zero x d l e = e
+set-like (y ∷ ys) (u ∷ us) (suc k) (suc j) x d l e = set-like ys us k j x d (suc-inj l) e
+
+pub all-of : (ts : List Bool) → T (allOf ts) → All T ts
+unfolding allOf
+all-of [] h = tt
+all-of (t ∷ ts) h = (and-left t (allOf ts) h, all-of ts (and-right t (allOf ts) h))
+
+-- a loop over the numbers from i up to e: one turn, and the end
+module _ {S : Type 0} (f : ℕ → S → S) where
+  pub run-up : (i e : ℕ) (s : S) → i < e → run f (upFrom i (e - i)) s ≡ run f (upFrom (i + 1) (e - (i + 1))) (f i s)
+  unfolding run upFrom
+  run-up i e s h =
+      let k : e - i ≡ suc (e - (i + 1)) = omega arith in
+      ap (λ (n : ℕ). run f (upFrom i n) s) k ∙ ap (λ (j : ℕ). run f (upFrom j (e - (i + 1))) (f i s)) (sym (add-one i))
+
+  pub run-up-end : (i e : ℕ) (s : S) → e ≤ i → run f (upFrom i (e - i)) s ≡ s
+  unfolding run upFrom
+  run-up-end i e s h = let k : e - i ≡ 0 = omega arith in ap (λ (n : ℕ). run f (upFrom i n) s) k
+
+-- a loop that has come to rest stays there
+pub times-still : {S : Type 0} (f : S → S) (n : ℕ) (s : S) → f s ≡ s → times f n s ≡ s
+unfolding times
+times-still f zero s e = refl
+times-still f (suc n) s e = ap (times f n) e ∙ times-still f n s e
+
+-- what a search finds passes the test
+pub first-passes : (P : ℕ → Type 0) (p : ℕ → Bool) (xs : List ℕ) → ((x : ℕ) → T (p x) → P x) → Found P (first p xs)
+unfolding first
+first-passes P p [] h = tt
+first-passes P p (x ∷ xs) h = go (p x) (h x) (first-passes P p xs h)
+  where
+    go : (t : Bool) → (T t → P x) → Found P (first p xs) → Found P (atOr t x (first p xs))
+    go true k r = k tt
+    go false k r = r
+
+-- a loop over what is kept tests as it goes
+pub run-keep : {A S : Type 0} (p : A → Bool) (f : A → S → S) (xs : List A) (s : S) → run f (keep p xs) s ≡ run (λ x t. cond (p x) (f x t) t) xs s
+unfolding run keep
+run-keep p f [] s = refl
+run-keep p f (x ∷ xs) s = go (p x) (λ t. run-keep p f xs t)
+  where
+    go : (c : Bool) → ((t : _) → run f (keep p xs) t ≡ run (λ y u. cond (p y) (f y u) u) xs t) → run f (consIf c x (keep p xs)) s ≡ run (λ y u. cond (p y) (f y u) u) xs (cond c (f x s) s)
+    go true ih = ih (f x s)
+    go false ih = ih s
+
+-- a search up from i to e: found here, or on from the next; nothing at the end
+pub first-here : (p : ℕ → Bool) (i e : ℕ) → i < e → p i ≡ true → first p (upFrom i (e - i)) ≡ At i
+unfolding first upFrom
+first-here p i e h t = let k : e - i ≡ suc (e - (i + 1)) = omega arith in ap (λ (n : ℕ). first p (upFrom i n)) k ∙ rw t
+
+pub first-on : (p : ℕ → Bool) (i e : ℕ) → i < e → p i ≡ false → first p (upFrom (i + 1) (e - (i + 1))) ≡ first p (upFrom i (e - i))
+unfolding first upFrom
+first-on p i e h t =
+    let k : e - i ≡ suc (e - (i + 1)) = omega arith in
+    sym (ap (λ (n : ℕ). first p (upFrom i n)) k ∙ rw t (ap (λ (j : ℕ). first p (upFrom j (e - (i + 1)))) (sym (add-one i))))
+
+pub first-end : (p : ℕ → Bool) (i e : ℕ) → e ≤ i → first p (upFrom i (e - i)) ≡ Nowhere
+unfolding first upFrom
+first-end p i e h = let k : e - i ≡ 0 = omega arith in ap (λ (n : ℕ). first p (upFrom i n)) k

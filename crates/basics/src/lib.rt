@@ -1,0 +1,24 @@
+// What every other crate leans on: the answer of a search, and the work area that a caller lends, one list of words that holds several
+// arrays side by side. The loops of the definitions and their laws stand in specs/ and proofs/.
+ghost use mathlib.Core.Path.{_≡_};
+ghost use mathlib.Core.List.{_++_};
+ghost use Prim.Native.Nat.{_≤_};
+ghost use lib.ListN.{length, drop, replicate};
+
+// What a search answers: definitions and code share it.
+pub enum Spot {
+    At(usize),
+    Nowhere,
+}
+
+// Sets the first k words to zero and leaves the rest.
+pub fn clear(words: &mut [u32], k: usize)
+    requires { ⌜ k ≤ length (now words) ⌝ }
+    ensures { λ _. ⌜ now (words .exit) ≡ replicate k 0 ++ drop k (now (words .entry)) ⌝ }
+{
+    let mut i = 0;
+    while i < k {
+        words[i] = 0;
+        i += 1;
+    }
+}
