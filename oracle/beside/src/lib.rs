@@ -1,0 +1,197 @@
+//! Runs beside the Rust: the text with the FILLED mixture, the text with the published one, and the document's model.
+
+use boards::families::{FAMILIES, case, with_turns};
+use boards::paper::{ask_a, board};
+use boards::refusal::refusal;
+use boards::{Board, Call, Case, Equalize, Walk, model};
+
+/// What a comparison of the text with the model came to.
+#[derive(Default)]
+pub struct Agreement {
+    pub boards: u64,
+    /// by refusal number from 1
+    pub refused: [u64; 7],
+    pub first: Option<String>,
+}
+
+impl Agreement {
+    /// Compares one case; the first disagreement is kept.
+    pub fn test(&mut self, label: impl FnOnce() -> String, case: &Case) {
+        self.boards += 1;
+        match refusal(case) {
+            0 => {
+                let (text, paper) = (filled::play::play(case), model::play(case));
+                if self.first.is_none() && (text != paper || case.done(&text) != case.done(&paper)) {
+                    self.first = Some(format!("{}: {case:?}\ntext: {text:?}\npaper: {paper:?}", label()));
+                }
+            }
+            number => self.refused[number as usize - 1] += 1,
+        }
+    }
+}
+
+/// Boards of every family and call, so many each, equalize with and without turns; large boards are a fiftieth.
+pub fn agree(each: u64, seed: u64) -> Agreement {
+    let mut agreement = Agreement::default();
+    for (family, name) in FAMILIES.into_iter().enumerate() {
+        let count = if name == "large" { each.div_ceil(50) } else { each };
+        for (call, seed) in (1..=3).flat_map(|call| (seed..seed + count).map(move |seed| (call, seed))) {
+            let label = |turns| format!("{name} call {call} seed {seed}{turns}");
+            let plain = case(family, call, seed);
+            agreement.test(|| label(""), &plain);
+            if call == 1 {
+                agreement.test(|| label(" with turns"), &with_turns(plain, seed));
+            }
+        }
+    }
+    agreement
+}
+
+/// The cases of every family and call, so many each, with the text's answers, as a file of vectors; of large boards none.
+pub fn vectors(each: u64, seed: u64) -> String {
+    let mut file = format!("# {each} boards a family and call from seed {seed}, answered by the Rust text with the FILLED mixture.\n");
+    file += "# Each with no turns, and equalize with turns too. The format: oracle/boards/src/vectors.rs.\n";
+    for (family, name) in FAMILIES.into_iter().enumerate().filter(|family| family.1 != "large") {
+        for (call, seed) in (1..=3).flat_map(|call| (seed..seed + each).map(move |seed| (call, seed))) {
+            let plain = case(family, call, seed);
+            let turned = (call == 1).then(|| with_turns(plain.clone(), seed));
+            for case in [plain].into_iter().chain(turned) {
+                file += &format!("# {name} {call} {seed}\n");
+                file += &boards::vectors::write(&case, &filled::play::outcome(&case));
+            }
+        }
+    }
+    file
+}
+
+/// Every board of two turfs over a set of values: amounts, who is immutable, planetary, enabled, which links and firelocks there are, one
+/// mixture or two, and what is asked.
+pub fn two_turfs(test: &mut impl FnMut(&Case)) {
+    let amounts = [0.0, 1.0e-4, 1.0, 2.5, 9.5, 10.0, 10.5, 16.0, 24.0, 32.0, 1.0e6, 1_099_511_627_776.0];
+    let flags = |bits: u32| [(bits & 1) as u8, (bits >> 1 & 1) as u8];
+    for (first, second) in amounts.iter().flat_map(|&first| amounts.map(|second| (first, second))) {
+        for tables in 0..4 * 4 * 4 * 4 * 2 * 2 {
+            let links: [&[u32]; 2] = [&[1][..tables as usize & 1], &[0][..tables as usize >> 1 & 1]];
+            let mut board = board(&links, &[first, second]);
+            board.immutable = flags(tables >> 2).to_vec();
+            board.planetary = flags(tables >> 4).to_vec();
+            board.flags = flags(tables >> 6).map(|bit| 2 * (1 - bit)).to_vec();
+            board.link_flags.fill(if tables >> 8 & 1 == 1 { 2 } else { 0 });
+            if tables >> 9 & 1 == 1 {
+                board.mixtures = vec![0, 0];
+            }
+            asked_of_two(board, test);
+        }
+    }
+}
+
+fn asked_of_two(board: Board, test: &mut impl FnMut(&Case)) {
+    for limit in 0..3 {
+        for hot in [vec![10], vec![20], vec![10, 20]] {
+            for (threshold, allowance) in [(0.0, 100), (0.5, 100), (0.5, 1), (0.5, 2), (0.5, 3), (0.5, 4), (0.5, 5)] {
+                let ask = Equalize { hot: hot.clone(), turns: vec![], threshold, limit, allowance };
+                test(&Case::new(board.clone(), Call::Equalize(ask), 0));
+            }
+        }
+        for id in [10, 20] {
+            test(&Case::new(board.clone(), Call::Depressurize(Walk { id, limit }), 0));
+            test(&Case::new(board.clone(), Call::PlanetWalk(Walk { id, limit }), 0));
+        }
+    }
+}
+
+/// The FILLED mixture with the published rule on small amounts, or without it.
+pub fn drop_small(drops: bool) {
+    filled::gas::mixture::DROPS_SMALL.store(drops, std::sync::atomic::Ordering::Relaxed);
+}
+
+/// How the text with the published mixture.rs differs from the text with the FILLED one.
+#[derive(Debug, Default)]
+pub struct Published {
+    pub boards: u64,
+    pub counts: u64,
+    pub event_bytes: u64,
+    /// of these, where zeros of either sign count as equal
+    pub event_values: u64,
+    pub gas: u64,
+    /// the largest difference of an amount
+    pub gas_gap: f32,
+}
+
+impl Published {
+    pub fn test(&mut self, case: &Case) {
+        let (filled, published) = (filled::play::play(case), published::play::play(case));
+        let (ours, theirs) = (case.done(&filled), case.done(&published));
+        self.boards += 1;
+        self.counts += u64::from(ours.answer != theirs.answer);
+        self.event_bytes += u64::from(ours.events != theirs.events);
+        self.event_values += u64::from(filled.events != published.events);
+        let gaps = ours.amounts.iter().zip(&theirs.amounts).filter(|(a, b)| a.to_bits() != b.to_bits()).map(|(a, b)| (a - b).abs());
+        let gap = gaps.fold(None, |most: Option<f32>, gap| Some(most.map_or(gap, |most| most.max(gap))));
+        self.gas += u64::from(gap.is_some());
+        self.gas_gap = self.gas_gap.max(gap.unwrap_or(0.0));
+    }
+}
+
+/// What is seen of numbers on boards that are accepted: the largest weight, and how often one is NaN, infinite or -0.0, or gas negative.
+#[derive(Debug, Default)]
+pub struct Numbers {
+    pub boards: u64,
+    pub largest_weight: f32,
+    pub odd_weights: u64,
+    pub odd_amounts: u64,
+    pub zones: u64,
+    pub empty_zones: u64,
+    pub now_refused: u64,
+}
+
+impl Numbers {
+    pub fn test(&mut self, case: &Case) {
+        let played = filled::play::play(case);
+        self.boards += 1;
+        for weight in played.planned.iter().flatten().map(|edge| edge.weight) {
+            self.odd_weights += u64::from(!weight.is_finite() || weight.to_bits() == (-0.0_f32).to_bits());
+            self.largest_weight = self.largest_weight.max(weight);
+        }
+        self.odd_amounts += u64::from(played.amounts.iter().any(|amount| !amount.is_finite() || amount.is_sign_negative()));
+        self.zones += played.zones.len() as u64;
+        self.empty_zones += played.zones.iter().filter(|zone| zone.nodes.is_empty()).count() as u64;
+        let mut again = case.clone();
+        again.board.amounts = played.amounts;
+        self.now_refused += u64::from(refusal(&again) == 5);
+    }
+}
+
+/// Accepted boards of every family and call, so many each, without turns; of large ones a fiftieth.
+pub fn accepted(each: u64, seed: u64, mut test: impl FnMut(&Case)) {
+    for (family, name) in FAMILIES.into_iter().enumerate() {
+        let count = if name == "large" { each.div_ceil(50) } else { each };
+        for (call, seed) in (1..=3).flat_map(|call| (seed..seed + count).map(move |seed| (call, seed))) {
+            let case = case(family, call, seed);
+            if refusal(&case) == 0 {
+                test(&case);
+            }
+        }
+    }
+}
+
+/// The board with the largest weight that we could think of: a chain, the first half of it as full as is accepted, the rest empty.
+pub fn heaviest() -> Case {
+    let mut case = deepest(4_096);
+    case.board.gases = 64;
+    case.board.amounts = [vec![1_099_511_627_776.0; 2_048 * 64], vec![0.0; 2_048 * 64]].concat();
+    if let Call::Equalize(ask) = &mut case.call {
+        ask.hot = vec![20_480];
+    }
+    case
+}
+
+/// The board on which finishing calls itself as deep as there are turfs: a chain whose last turf has all.
+pub fn deepest(turfs: usize) -> Case {
+    let links: Vec<Vec<u32>> =
+        (0..turfs as u32).map(|row| [row.wrapping_sub(1), row + 1].into_iter().filter(|&end| end < turfs as u32).collect()).collect();
+    let mut amounts = vec![0.0; turfs];
+    (amounts[0], amounts[turfs - 1]) = (10.0, 1.0e6);
+    let board = board(&links.iter().map(Vec::as_slice).collect::<Vec<_>>(), &amounts);
+    Case::new(board, Call::Equalize(Equalize { threshold: 0.0, allowance: u32::MAX, ..ask_a() }), 0)
+}

@@ -1,0 +1,72 @@
+//! The commands of the runs beside the Rust. With no word it says which there are.
+
+use beside::{Agreement, Numbers, Published, accepted, agree, deepest, drop_small, heaviest, two_turfs, vectors};
+use boards::refusal::refusal;
+use std::process::Command;
+use std::time::Instant;
+
+const HELP: &str = "beside agree EACH SEED       the text against the document's model: EACH boards a family and call
+beside two-turfs             the same, every board of two turfs over a set of values
+beside published EACH SEED   the text with the FILLED mixture against the text with the published mixture.rs
+beside numbers EACH SEED     weights and amounts on accepted boards: the largest, and the odd ones
+beside vectors EACH SEED     cases with the text's answers, to standard output
+beside stack                 how much stack the text needs on the deepest board";
+
+fn say(what: &str, agreement: &Agreement) {
+    println!(
+        "{what}: {} boards, refusals 1 to 7 {:?}, {}",
+        agreement.boards,
+        agreement.refused,
+        agreement.first.as_deref().unwrap_or("no disagreement")
+    );
+}
+
+/// Plays the deepest board in a thread with so many KiB of stack: it ends, or the process dies.
+fn stack_of(kib: usize) {
+    let case = deepest(4_096);
+    assert_eq!(refusal(&case), 0);
+    let run = std::thread::Builder::new().stack_size(kib * 1024).spawn(move || filled::play::play(&case).events.len());
+    println!("{} records", run.expect("a thread").join().expect("an end"));
+}
+
+fn stack() {
+    let own = std::env::current_exe().expect("this program");
+    for kib in [256, 384, 512, 640, 768, 1024, 1536, 2048] {
+        let ended = Command::new(&own).args(["stack-of", &kib.to_string()]).output().expect("a run").status.success();
+        println!("a chain of 4096 in {kib} KiB: {}", if ended { "ends" } else { "overflows" });
+    }
+}
+
+fn main() {
+    let words: Vec<String> = std::env::args().skip(1).collect();
+    let number = |at: usize| words.get(at).and_then(|word| word.parse::<u64>().ok());
+    let begun = Instant::now();
+    match (words.first().map_or("", String::as_str), number(1), number(2)) {
+        ("agree", Some(each), Some(seed)) => say("agree", &agree(each, seed)),
+        ("two-turfs", None, None) => {
+            let mut agreement = Agreement::default();
+            two_turfs(&mut |case| agreement.test(|| "two turfs".to_string(), case));
+            say("two-turfs", &agreement);
+        }
+        ("published", Some(each), Some(seed)) => {
+            for drops in [false, true] {
+                println!("small amounts {} by the FILLED mixture:", if drops { "dropped" } else { "kept" });
+                drop_small(drops);
+                let mut by_call = [Published::default(), Published::default(), Published::default()];
+                accepted(each, seed, |case| by_call[case.call.number() as usize - 1].test(case));
+                ["equalize", "depressurize", "planet walk"].iter().zip(by_call).for_each(|(name, seen)| println!("{name}: {seen:?}"));
+            }
+        }
+        ("numbers", Some(each), Some(seed)) => {
+            let mut numbers = Numbers::default();
+            accepted(each, seed, |case| numbers.test(case));
+            numbers.test(&heaviest());
+            println!("{numbers:?}, the largest weight 2^{:.2}", numbers.largest_weight.log2());
+        }
+        ("vectors", Some(each), Some(seed)) => print!("{}", vectors(each, seed)),
+        ("stack-of", Some(kib), None) => stack_of(kib as usize),
+        ("stack", None, None) => stack(),
+        _ => println!("{HELP}"),
+    }
+    eprintln!("{} s", begun.elapsed().as_secs());
+}

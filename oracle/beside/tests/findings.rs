@@ -1,0 +1,70 @@
+//! What the runs beside the Rust showed, one smallest board each; docs/DIFFERENCES.md names them.
+
+use beside::{Numbers, accepted, vectors};
+use boards::paper::{ask_a, board_a};
+use boards::refusal::refusal;
+use boards::{Board, Call, Case, Equalize};
+use filled::play::{outcome, play};
+
+fn equalize(board: Board, ask: Equalize) -> Case {
+    Case::new(board, Call::Equalize(ask), 0)
+}
+
+/// The files that are compiled are the published ones.
+#[test]
+fn the_text_is_unchanged() {
+    let text = concat!(env!("CARGO_MANIFEST_DIR"), "/../text");
+    let sums = std::process::Command::new("sha256sum").args(["-c", "--quiet", "SHA256SUMS"]).current_dir(text).status();
+    assert!(sums.expect("sha256sum").success());
+    let file = |name: String| std::fs::read(format!("{text}/../{name}")).expect("a file of the text");
+    for name in ["turfs.rs", "turfs/katmos.rs", "gas.rs", "gas/constants.rs"] {
+        assert_eq!(file(format!("filled/src/{name}")), file(format!("text/src/{name}")), "{name}");
+        assert_eq!(file(format!("published/src/{name}")), file(format!("text/src/{name}")), "{name}");
+    }
+    assert_eq!(file("published/src/gas/mixture.rs".to_string()), file("text/src/gas/mixture.rs".to_string()));
+}
+
+/// A hot turf whose neighbours are all disabled gives a zone of one node: no zone is without nodes.
+#[test]
+fn a_zone_has_a_node() {
+    let zones = play(&equalize(Board { flags: vec![2, 0], ..board_a() }, ask_a())).zones;
+    assert_eq!(zones.iter().map(|zone| zone.nodes.clone()).collect::<Vec<_>>(), [[0]]);
+    let mut numbers = Numbers::default();
+    accepted(100, 7, |case| numbers.test(case));
+    assert!(numbers.zones > 1_000 && numbers.empty_zones == 0, "{numbers:?}");
+    assert!(numbers.odd_weights == 0 && numbers.odd_amounts == 0, "{numbers:?}");
+}
+
+/// The planet break lets two zones share turfs though every link has its reverse.
+#[test]
+fn zones_share_turfs() {
+    let case = equalize(Board { planetary: vec![1, 0], ..board_a() }, Equalize { hot: vec![10, 20], limit: 0, ..ask_a() });
+    let answer = outcome(&case).answer;
+    assert_eq!((answer[2], answer[4], answer[5]), (3, 2, 0), "{answer:?}");
+}
+
+/// An accepted call can leave amounts that the next call refuses.
+#[test]
+fn the_domain_is_not_closed() {
+    let most = 1_099_511_627_776.0_f32;
+    let mut case = equalize(Board { gases: 2, amounts: vec![most, most, most, 0.0], ..board_a() }, ask_a());
+    let after = outcome(&case).amounts;
+    assert_eq!(after.iter().fold(0.0, |a: f32, &b| a.max(b)), 1.25 * most);
+    case.board.amounts = after;
+    assert_eq!(refusal(&case), 5);
+}
+
+/// floor(log2 n), as the text takes it from an f32, is what the leading zeros say.
+#[test]
+fn log2_by_leading_zeros() {
+    assert!((1..=8_192_u32).all(|n| (n as f32).log2().floor() as u32 == 31 - n.leading_zeros()));
+}
+
+/// The vectors' file reads back as what was written.
+#[test]
+fn vectors_read_back() {
+    let file = vectors(2, 5);
+    let cases = boards::vectors::read(&file);
+    assert_eq!(cases.len(), file.lines().filter(|line| line.starts_with('#')).count() - 2);
+    assert!(cases.iter().all(|(case, due)| &outcome(case) == due));
+}

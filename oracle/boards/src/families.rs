@@ -1,0 +1,366 @@
+//! Random boards by family. A family, a call and a seed decide a case, the same on every machine.
+
+use crate::paper::board;
+use crate::random::Random;
+use crate::{Board, Call, Case, Equalize, Walk};
+
+/// The families; `refusals` and `pairs` are ill-formed by one rule and by two.
+pub const FAMILIES: [&str; 19] = [
+    "tiny",
+    "grids",
+    "chains",
+    "hubs",
+    "one-way",
+    "shared",
+    "space",
+    "planets",
+    "firelocks",
+    "disabled",
+    "gases",
+    "extremes",
+    "hot",
+    "allowances",
+    "thresholds",
+    "fast",
+    "large",
+    "refusals",
+    "pairs",
+];
+
+type Links = Vec<Vec<u32>>;
+
+fn none(turfs: usize) -> Links {
+    vec![Vec::new(); turfs]
+}
+
+fn join(links: &mut Links, a: usize, b: usize) {
+    one_way(links, a, b);
+    one_way(links, b, a);
+}
+
+fn one_way(links: &mut Links, a: usize, b: usize) {
+    if a != b && !links[a].contains(&(b as u32)) {
+        links[a].push(b as u32);
+    }
+}
+
+fn grid(width: usize, height: usize) -> Links {
+    let mut links = none(width * height);
+    for row in 0..width * height {
+        if row + width < width * height {
+            join(&mut links, row, row + width);
+        }
+        if row % width + 1 < width {
+            join(&mut links, row, row + 1);
+        }
+    }
+    links
+}
+
+fn chain(turfs: usize) -> Links {
+    let mut links = none(turfs);
+    (1..turfs).for_each(|row| join(&mut links, row - 1, row));
+    links
+}
+
+fn hub(random: &mut Random, turfs: usize) -> Links {
+    let mut links = none(turfs);
+    (1..turfs).for_each(|row| join(&mut links, 0, row));
+    scatter(random, &mut links, turfs / 4, false);
+    links
+}
+
+/// So many random links, both ways or one.
+fn scatter(random: &mut Random, links: &mut Links, count: usize, ways: bool) {
+    for _ in 0..count {
+        let (a, b) = (random.within(0, links.len() - 1), random.within(0, links.len() - 1));
+        if ways && random.once_in(2) {
+            one_way(links, a, b);
+        } else {
+            join(links, a, b);
+        }
+    }
+}
+
+fn any_links(random: &mut Random, most: usize, ways: bool) -> Links {
+    let turfs = random.within(1, most);
+    let mut links = match random.below(4) {
+        0 => grid(random.within(1, 4), random.within(1, most.div_ceil(4))),
+        1 => chain(turfs),
+        2 => hub(random, turfs),
+        _ => none(turfs),
+    };
+    let (turfs, few) = (links.len(), random.within(0, 2));
+    scatter(random, &mut links, turfs * few, ways);
+    links
+}
+
+/// An amount as a game has it, or a plain one that makes ties.
+fn amount(random: &mut Random) -> f32 {
+    match random.below(8) {
+        0 => 0.0,
+        1..=3 => random.below(128) as f32,
+        4 => random.below(4) as f32 * 16.0,
+        5 => random.below(100_000) as f32 / 7.0,
+        6 => 103.934_71,
+        _ => random.below(1 << 24) as f32 / 65_536.0,
+    }
+}
+
+/// An amount from the ends of what is accepted.
+fn extreme(random: &mut Random) -> f32 {
+    let most = 0x5380_0000;
+    match random.below(8) {
+        0 => 0.0,
+        1 => f32::from_bits(1 + random.below(3) as u32),
+        2 => f32::from_bits(0x007f_fffe + random.below(4) as u32),
+        3 => f32::from_bits(most),
+        4 => f32::from_bits(most - random.below(9) as u32),
+        5 => f32::from_bits(random.below(u64::from(most) + 1) as u32),
+        6 => 0.0001,
+        _ => amount(random),
+    }
+}
+
+fn fill_amounts(random: &mut Random, board: &mut Board, one: fn(&mut Random) -> f32) {
+    board.amounts = (0..board.immutable.len() * board.gases as usize).map(|_| one(random)).collect();
+}
+
+/// Ids that ascend with gaps, sometimes up to the last one that there is.
+fn fresh_ids(random: &mut Random, turfs: usize) -> Vec<u32> {
+    let step = random.within(1, 12) as u64;
+    let mut ids: Vec<u32> = Vec::with_capacity(turfs);
+    let mut id = random.below(20) as u32;
+    for _ in 0..turfs {
+        ids.push(id);
+        id += 1 + random.below(step) as u32;
+    }
+    if random.once_in(16) {
+        let up = u32::MAX - ids[turfs - 1];
+        ids.iter_mut().for_each(|id| *id += up);
+    }
+    ids
+}
+
+fn sprinkle(random: &mut Random, bytes: &mut [u8], from: &[u8]) {
+    bytes.iter_mut().for_each(|byte| *byte = random.pick(from));
+}
+
+/// Mixtures fewer or more than turfs, shared at random.
+fn share(random: &mut Random, board: &mut Board) {
+    let mixtures = random.within(1, board.ids.len() + 2);
+    board.mixtures.iter_mut().for_each(|row| *row = random.below(mixtures as u64) as u32);
+    board.immutable = vec![0; mixtures];
+    fill_amounts(random, board, amount);
+}
+
+/// The board of a family, with the amounts that go with it.
+fn family_board(random: &mut Random, family: &str) -> Board {
+    let links = match family {
+        "tiny" => any_links(random, 4, true),
+        "grids" => grid(random.within(1, 9), random.within(1, 9)),
+        "chains" => chain(random.within(1, 60)),
+        "hubs" => {
+            let turfs = random.within(2, 60);
+            hub(random, turfs)
+        }
+        "fast" => grid(random.within(2, 7), random.within(2, 7)),
+        "large" => match random.below(4) {
+            0 => grid(64, random.within(32, 64)),
+            1 => chain(random.within(1_000, 4_096)),
+            2 => {
+                let turfs = random.within(1_000, 4_096);
+                hub(random, turfs)
+            }
+            _ => any_links(random, 3_000, true),
+        },
+        _ => any_links(random, 20, !matches!(family, "hot" | "allowances")),
+    };
+    let mut made = board(&links.iter().map(Vec::as_slice).collect::<Vec<_>>(), &[]);
+    made.ids = fresh_ids(random, links.len());
+    if random.once_in(2) {
+        for row in 0..links.len() {
+            let part = made.links(row);
+            random.shuffle(&mut made.neighbours[part]);
+        }
+    }
+    made.gases = match family {
+        "gases" => random.within(2, 64) as u32,
+        "extremes" => random.within(1, 4) as u32,
+        _ => random.pick(&[1, 1, 1, 2, 3]),
+    };
+    fill_amounts(random, &mut made, if family == "extremes" { extreme } else { amount });
+    let mixed = random.once_in(3);
+    if family == "shared" || mixed && random.once_in(4) {
+        share(random, &mut made);
+    }
+    let mut byte = |name: &str, bytes: &mut [u8], often: &[u8], seldom: &[u8]| {
+        if family == name {
+            sprinkle(random, bytes, often);
+        } else if mixed {
+            sprinkle(random, bytes, seldom);
+        }
+    };
+    byte("space", &mut made.immutable, &[0, 0, 0, 0, 1, 255], &[0, 0, 0, 0, 0, 0, 0, 0, 0, 1]);
+    byte("planets", &mut made.planetary, &[0, 0, 0, 1, 128], &[0, 0, 0, 0, 0, 0, 0, 0, 0, 1]);
+    byte("firelocks", &mut made.link_flags, &[0, 2, 2, 3, 253, 255], &[0, 0, 0, 2, 5]);
+    byte("disabled", &mut made.flags, &[0, 1, 2, 3, 4, 252], &[2, 2, 2, 2, 2, 1, 3, 6, 0]);
+    if family == "firelocks" {
+        sprinkle(random, &mut made.planetary, &[0, 0, 1]);
+    }
+    made
+}
+
+fn hot(random: &mut Random, board: &Board, all: bool) -> Vec<u32> {
+    let mut ids: Vec<u32> = board.ids.iter().copied().filter(|_| all || random.once_in(3)).collect();
+    if random.once_in(3) {
+        (0..random.within(1, 4)).for_each(|_| ids.push(random.next() as u32 % 200));
+    }
+    if ids.is_empty() {
+        ids.push(random.pick(&board.ids));
+    }
+    ids.sort_unstable();
+    ids.dedup();
+    ids.truncate(4_096);
+    ids
+}
+
+fn equalize(random: &mut Random, family: &str, board: &Board) -> Equalize {
+    let turfs = board.ids.len() as u64;
+    let all = random.once_in(4) || matches!(family, "hot" | "large");
+    let hot = hot(random, board, all);
+    let gap = (board.amounts[0] - board.amounts[board.amounts.len() - 1]).abs();
+    let limit = match family {
+        "planets" => random.below(6) as u32,
+        _ => random.pick(&[0, 3, 10, 100, 2_000, u32::MAX]),
+    };
+    let threshold = match family {
+        "thresholds" => random.pick(&[0.0, gap, f32::from_bits(gap.to_bits() + 1), f32::from_bits(1), f32::MAX, 1.0, 16.0]),
+        _ => random.pick(&[0.0, 0.5, 0.103_934_71, 4.0]),
+    };
+    let allowance = match family {
+        "allowances" => random.below(turfs + 4) as u32,
+        _ => random.pick(&[u32::MAX, u32::MAX, 1_000_000, turfs as u32 + 2]),
+    };
+    Equalize { hot, turns: Vec::new(), threshold, limit, allowance }
+}
+
+fn walk(random: &mut Random, family: &str, board: &Board) -> Walk {
+    let id = if random.once_in(10) { random.next() as u32 } else { random.pick(&board.ids) };
+    let limit = match family {
+        "planets" | "allowances" => random.below(6) as u32,
+        _ => random.pick(&[0, 1, 2, 5, 20, 2_000, u32::MAX]),
+    };
+    Walk { id, limit }
+}
+
+fn put<T>(list: &mut [T], at: usize, value: T) {
+    if let Some(cell) = list.get_mut(at) {
+        *cell = value;
+    }
+}
+
+/// The next element becomes the same.
+fn repeat(list: &mut [u32], at: usize) {
+    if at + 1 < list.len() {
+        list[at + 1] = list[at];
+    }
+}
+
+/// One way or another to break a rule of the table: what it breaks is for the refusal function to say.
+fn spoil(random: &mut Random, case: &mut Case) {
+    let room = case.room();
+    let board = &mut case.board;
+    let (turfs, links, mixtures) = (board.ids.len(), board.neighbours.len(), board.immutable.len());
+    let (row, link) = (random.below(turfs.max(1) as u64) as usize, random.below(links.max(1) as u64) as usize);
+    match random.below(34) {
+        0 => *board = Board { gases: board.gases, starts: vec![0], ..Board::default() },
+        1 => {
+            board.ids = (0..4_097).collect();
+            board.flags.resize(4_097, 0);
+            board.planetary.resize(4_097, 0);
+            board.mixtures.resize(4_097, 0);
+            board.starts.resize(4_098, links as u32);
+        }
+        2 => {
+            board.immutable.clear();
+            board.amounts.clear();
+        }
+        3 => {
+            board.immutable.resize(4_097, 0);
+            board.amounts.resize(4_097 * board.gases.min(65) as usize, 1.0);
+        }
+        4 => {
+            board.neighbours.resize(24_577, 0);
+            board.link_flags.resize(24_577, 0);
+        }
+        5 => board.gases = random.pick(&[0, 65, u32::MAX]),
+        6 => drop(board.flags.pop()),
+        7 => board.planetary.push(0),
+        8 => drop(board.mixtures.pop()),
+        9 => board.starts.push(links as u32),
+        10 => drop(board.starts.pop()),
+        11 => board.link_flags.push(0),
+        12 => board.amounts.push(1.0),
+        13 => drop(board.amounts.pop()),
+        14 => board.ids.reverse(),
+        15 => repeat(&mut board.ids, row),
+        16 => put(&mut board.starts, row, links as u32 + 1),
+        17 => put(&mut board.starts, turfs, links as u32 + 1),
+        18 => put(&mut board.starts, 0, 1),
+        19 => put(&mut board.neighbours, link, turfs as u32),
+        20 => put(&mut board.neighbours, link, u32::MAX),
+        21 => put(&mut board.mixtures, row, mixtures as u32),
+        22 => put(&mut board.neighbours, link, row as u32),
+        23 => repeat(&mut board.neighbours, link),
+        24..=26 => {
+            let bits = random.pick(&[0x8000_0000, 0xbf80_0000, 0x7f80_0000, 0xff80_0000, 0x7fc0_0000, 0x5380_0001, 0x7f7f_ffff]);
+            let at = random.below(board.amounts.len().max(1) as u64) as usize;
+            put(&mut board.amounts, at, f32::from_bits(bits));
+        }
+        27 => case.events.truncate(room.events.saturating_sub(1)),
+        28 => case.words.truncate(room.words.saturating_sub(1)),
+        29 => case.floats.truncate(room.floats.saturating_sub(1)),
+        _ => spoil_ask(random, case),
+    }
+}
+
+fn spoil_ask(random: &mut Random, case: &mut Case) {
+    let Call::Equalize(ask) = &mut case.call else { return };
+    match random.below(5) {
+        0 => ask.threshold = random.pick(&[-0.0, -1.0, f32::INFINITY, f32::NAN]),
+        1 => ask.hot.push(ask.hot[ask.hot.len() - 1]),
+        2 => ask.hot = vec![5, 4],
+        3 => ask.hot = (0..4_097).collect(),
+        _ => ask.turns = vec![0; 65_537],
+    }
+}
+
+/// The case of a family (its place in `FAMILIES`), a call (1 to 3) and a seed.
+pub fn case(family: usize, call: u32, seed: u64) -> Case {
+    let mut random = Random::new(seed.wrapping_mul(1_000_003).wrapping_add(family as u64 * 31 + u64::from(call)));
+    let (random, name) = (&mut random, FAMILIES[family]);
+    let broken = matches!(name, "refusals" | "pairs");
+    let name = if broken { FAMILIES[random.within(0, 15)] } else { name };
+    let board = family_board(random, name);
+    let asked = match call {
+        1 => Call::Equalize(equalize(random, name, &board)),
+        2 => Call::Depressurize(walk(random, name, &board)),
+        _ => Call::PlanetWalk(walk(random, name, &board)),
+    };
+    let mut case = Case::new(board, asked, random.pick(&[0, 0, 1, 40]));
+    if broken {
+        (0..if FAMILIES[family] == "pairs" { 2 } else { 1 }).for_each(|_| spoil(random, &mut case));
+    }
+    case
+}
+
+/// The same case with a list of turns, if it is equalize's.
+pub fn with_turns(mut case: Case, seed: u64) -> Case {
+    let mut random = Random::new(seed ^ 0x7475_726e);
+    if let Call::Equalize(ask) = &mut case.call {
+        let most = random.pick(&[3, 10, case.board.ids.len() + 3]);
+        ask.turns = (0..random.within(1, most)).map(|_| random.pick(&[0, 1, 2, 7, u32::MAX, 12_345])).collect();
+    }
+    case
+}

@@ -1,0 +1,134 @@
+//! The vectors' file: cases with what a call answers and leaves, for a program that has no Rust at hand.
+//!
+//! Plain text: lines of lower-case hexadecimal numbers below 2^32 with one space between; a line that begins with `#` is a remark. A list
+//! is its length, then its elements. An amount is the bits of its f32. A case is 25 lines:
+//!
+//! | line | what stands on it |
+//! |---|---|
+//! | 1 | the call: 1 equalize, 2 depressurize, 3 planet walk |
+//! | 2 to 9 | the lists ids, flags, planetary, mixtures, starts, neighbours, link flags, immutable |
+//! | 10 | gases |
+//! | 11 | the list of amounts |
+//! | 12, 13 | the lists of hot ids and turns (empty for the walks) |
+//! | 14 to 17 | threshold, limit, allowance, id (0 where the call isn't lent it) |
+//! | 18 to 20 | how long the event area, the scratch words and the scratch floats are; `Case::lend` says what they hold |
+//! | 21 | the list of numbers answered |
+//! | 22 | the list of amounts afterwards |
+//! | 23 | the list of event bytes written; the area's other bytes are unchanged |
+//! | 24, 25 | how many scratch words, and floats, from the first are 0 afterwards; the others are unchanged |
+
+use crate::{Board, Call, Case, Equalize, Outcome, Room, Walk};
+use std::fmt::Write;
+
+fn list(out: &mut String, items: impl ExactSizeIterator<Item = u32>) {
+    write!(out, "{:x}", items.len()).unwrap();
+    items.for_each(|item| write!(out, " {item:x}").unwrap());
+    out.push('\n');
+}
+
+fn bytes(out: &mut String, items: &[u8]) {
+    list(out, items.iter().map(|&byte| u32::from(byte)));
+}
+
+fn words(out: &mut String, items: &[u32]) {
+    list(out, items.iter().copied());
+}
+
+fn floats(out: &mut String, items: &[f32]) {
+    list(out, items.iter().map(|x| x.to_bits()));
+}
+
+/// One case and its outcome.
+pub fn write(case: &Case, outcome: &Outcome) -> String {
+    let mut out = String::new();
+    let (board, o) = (&case.board, &mut out);
+    let number = |o: &mut String, n: u32| writeln!(o, "{n:x}").unwrap();
+    number(o, case.call.number());
+    words(o, &board.ids);
+    bytes(o, &board.flags);
+    bytes(o, &board.planetary);
+    words(o, &board.mixtures);
+    words(o, &board.starts);
+    words(o, &board.neighbours);
+    bytes(o, &board.link_flags);
+    bytes(o, &board.immutable);
+    number(o, board.gases);
+    floats(o, &board.amounts);
+    let (hot, turns, asked) = match &case.call {
+        Call::Equalize(ask) => (&ask.hot[..], &ask.turns[..], [ask.threshold.to_bits(), ask.limit, ask.allowance, 0]),
+        Call::Depressurize(walk) | Call::PlanetWalk(walk) => (&[][..], &[][..], [0, walk.limit, 0, walk.id]),
+    };
+    words(o, hot);
+    words(o, turns);
+    asked.into_iter().for_each(|n| number(o, n));
+    [case.events.len(), case.words.len(), case.floats.len()].into_iter().for_each(|n| number(o, n as u32));
+    words(o, &outcome.answer);
+    floats(o, &outcome.amounts);
+    let done = outcome.answer[0] == 0;
+    let (room, written) = (case.room(), outcome.answer[outcome.answer.len() - 1] as usize);
+    bytes(o, if done { &outcome.events[..written] } else { &[] });
+    [room.words, room.floats].into_iter().for_each(|n| number(o, if done { n as u32 } else { 0 }));
+    out
+}
+
+/// Takes the numbers of a file one after the other.
+struct Numbers<'a>(Box<dyn Iterator<Item = u32> + 'a>);
+
+impl Numbers<'_> {
+    fn list<T>(&mut self, from: impl Fn(u32) -> T) -> Option<Vec<T>> {
+        let count = self.0.next()?;
+        let items: Vec<T> = self.0.by_ref().take(count as usize).map(from).collect();
+        (items.len() == count as usize).then_some(items)
+    }
+    fn words(&mut self) -> Option<Vec<u32>> {
+        self.list(|n| n)
+    }
+    fn bytes(&mut self) -> Option<Vec<u8>> {
+        self.list(|n| n as u8)
+    }
+    fn floats(&mut self) -> Option<Vec<f32>> {
+        self.list(f32::from_bits)
+    }
+
+    /// The next case and its outcome.
+    fn case(&mut self) -> Option<(Case, Outcome)> {
+        let call = self.0.next()?;
+        let board = Board {
+            ids: self.words()?,
+            flags: self.bytes()?,
+            planetary: self.bytes()?,
+            mixtures: self.words()?,
+            starts: self.words()?,
+            neighbours: self.words()?,
+            link_flags: self.bytes()?,
+            immutable: self.bytes()?,
+            gases: self.0.next()?,
+            amounts: self.floats()?,
+        };
+        let (hot, turns) = (self.words()?, self.words()?);
+        let (threshold, limit, allowance, id) = (f32::from_bits(self.0.next()?), self.0.next()?, self.0.next()?, self.0.next()?);
+        let call = match call {
+            1 => Call::Equalize(Equalize { hot, turns, threshold, limit, allowance }),
+            2 => Call::Depressurize(Walk { id, limit }),
+            _ => Call::PlanetWalk(Walk { id, limit }),
+        };
+        let mut case = Case { board, call, events: Vec::new(), words: Vec::new(), floats: Vec::new() };
+        let mut next = || self.0.next().map(|n| n as usize);
+        case.lend(Room { events: next()?, words: next()?, floats: next()? });
+        let mut outcome = case.refused(0);
+        (outcome.answer, outcome.amounts) = (self.words()?, self.floats()?);
+        let written = self.bytes()?;
+        outcome.events[..written.len()].copy_from_slice(&written);
+        outcome.words[..self.0.next()? as usize].fill(0);
+        outcome.floats[..self.0.next()? as usize].fill(0.0);
+        Some((case, outcome))
+    }
+}
+
+/// The cases of a file, with their outcomes.
+pub fn read(text: &str) -> Vec<(Case, Outcome)> {
+    let lines = text.lines().filter(|line| !line.starts_with('#'));
+    let numbers = lines.flat_map(str::split_whitespace).map(|word| u32::from_str_radix(word, 16).expect("a hexadecimal number"));
+    let mut numbers = Numbers(Box::new(numbers));
+    std::iter::from_fn(|| numbers.case()).collect()
+}

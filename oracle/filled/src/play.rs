@@ -1,0 +1,1 @@
+../../game/play.rs

@@ -1,0 +1,1 @@
+../../game/reaction.rs

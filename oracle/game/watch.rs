@@ -1,0 +1,121 @@
+//! What the runs see of the text at work: requests asked of the game, zones as filled, planned and finished. Told by the shim `tracing`.
+
+use boards::outcome::{Edge, Zone};
+use petgraph::{graph::NodeIndex, graphmap::DiGraphMap};
+use std::cell::{Cell, RefCell};
+use std::cmp::Ordering;
+
+pub type Graph = DiGraphMap<NodeIndex, Cell<f32>>;
+
+#[derive(Default)]
+struct Watch {
+    threshold: f32,
+    asking: bool,
+    deferring: bool,
+    requests: Vec<(u16, u32)>,
+    zones: Vec<Zone>,
+    planned: Vec<Vec<Edge>>,
+    records: Vec<usize>,
+    deferred: Vec<Graph>,
+}
+
+thread_local!(static WATCH: RefCell<Watch> = RefCell::default());
+
+fn with<T>(f: impl FnOnce(&mut Watch) -> T) -> T {
+    WATCH.with(|w| f(&mut w.borrow_mut()))
+}
+
+/// `MINIMUM_MOLES_DELTA_TO_MOVE`, as a call is lent it.
+#[derive(Clone, Copy)]
+pub struct Threshold;
+
+impl PartialEq<Threshold> for f32 {
+    fn eq(&self, _: &Threshold) -> bool {
+        *self == with(|w| w.threshold)
+    }
+}
+
+impl PartialOrd<Threshold> for f32 {
+    fn partial_cmp(&self, _: &Threshold) -> Option<Ordering> {
+        self.partial_cmp(&with(|w| w.threshold))
+    }
+}
+
+/// A new run: the lent threshold; whether a walk that is called is only noted as a request; whether zones wait for their turns.
+pub fn begin(threshold: f32, asking: bool, deferring: bool) {
+    with(|w| *w = Watch { threshold, asking, deferring, ..Watch::default() });
+}
+
+/// A walk is called, and only noted: true.
+pub fn requested(kind: u16, id: u32) -> bool {
+    with(|w| {
+        if w.asking {
+            w.requests.push((kind, id));
+        }
+        w.asking
+    })
+}
+
+/// A zone was filled; `None`: ignored, or past the clock.
+pub fn filled(zone: Option<(&Graph, f32)>) {
+    if let Some((graph, moles)) = zone {
+        with(|w| w.zones.push(Zone { nodes: nodes(graph), edges: edges(graph), moles }));
+    }
+}
+
+/// A zone was planned, in the order in which zones were filled.
+pub fn planned(graph: &Graph) {
+    with(|w| w.planned.push(edges(graph)));
+}
+
+/// A zone is to be finished: it is handed back, or it waits for its turns.
+pub fn finishing(graph: Graph) -> Option<Graph> {
+    with(|w| {
+        if !w.deferring {
+            return Some(graph);
+        }
+        w.deferred.push(graph);
+        None
+    })
+}
+
+/// A zone was finished, with so many records.
+pub fn finished(records: usize) {
+    with(|w| w.records.push(records));
+}
+
+pub fn take_requests() -> Vec<(u16, u32)> {
+    with(|w| std::mem::take(&mut w.requests))
+}
+
+pub fn take_zones() -> Vec<Zone> {
+    with(|w| std::mem::take(&mut w.zones))
+}
+
+pub fn take_planned() -> Vec<Vec<Edge>> {
+    with(|w| std::mem::take(&mut w.planned))
+}
+
+pub fn take_records() -> Vec<usize> {
+    with(|w| std::mem::take(&mut w.records))
+}
+
+pub fn take_deferred() -> Vec<Graph> {
+    with(|w| std::mem::take(&mut w.deferred))
+}
+
+fn nodes(graph: &Graph) -> Vec<u32> {
+    graph.nodes().map(|node| node.index() as u32).collect()
+}
+
+fn edges(graph: &Graph) -> Vec<Edge> {
+    let of = |node: NodeIndex| {
+        let edge = move |(from, to, weight): (NodeIndex, NodeIndex, &Cell<f32>)| Edge {
+            from: from.index() as u32,
+            to: to.index() as u32,
+            weight: weight.get(),
+        };
+        graph.edges(node).map(edge).collect::<Vec<_>>()
+    };
+    graph.nodes().flat_map(of).collect()
+}

@@ -1,0 +1,1 @@
+../../../game/gas/types.rs

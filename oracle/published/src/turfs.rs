@@ -1,0 +1,1 @@
+../../text/src/turfs.rs

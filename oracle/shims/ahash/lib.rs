@@ -1,0 +1,3 @@
+//! The hasher of the published mixture.rs's visuals, which no run here calls.
+
+pub type AHasher = std::collections::hash_map::DefaultHasher;

@@ -1,0 +1,43 @@
+//! `#[tracing::instrument(skip_all)]`, which katmos.rs puts on its functions under the feature "tracy", is where the runs look in: the
+//! function becomes public, and `crate::watch` is told what it was asked and what it answered. The text itself stays as it is.
+
+use proc_macro::{Delimiter, TokenStream, TokenTree};
+
+/// What stands before the body, and after it, with the answer in `answer`; and a function more beside it.
+fn looks(name: &str) -> (&'static str, &'static str, &'static str) {
+    match name {
+        "explosively_depressurize" => ("if crate::watch::requested(1, initial_index) { return Ok(()); }", "", ""),
+        "planet_equalize" => ("if crate::watch::requested(2, initial_index) { return Ok(()); }", "", ""),
+        "flood_fill_zones" => (
+            "",
+            "crate::watch::filled(match &answer { FloodFillResult::Complete(graph, moles) => Some((graph, *moles)), _ => None });",
+            "",
+        ),
+        "process_zone" => ("", "crate::watch::planned(&answer);", ""),
+        "finalize_eq_zone" => (
+            "let Some(graph) = crate::watch::finishing(graph) else { return None; };",
+            "crate::watch::finished(answer.as_ref().map_or(0, Vec::len));",
+            "pub fn finish_turf(index: NodeIndex, arena: &TurfGases, graph: &DiGraphMap<NodeIndex, Cell<f32>>, pressures: &mut Vec<(f32, u32, u32)>) {
+                finalize_eq(index, arena, graph, pressures)
+            }",
+        ),
+        _ => ("", "", ""),
+    }
+}
+
+#[proc_macro_attribute]
+pub fn instrument(_words: TokenStream, item: TokenStream) -> TokenStream {
+    let mut head: Vec<TokenTree> = item.into_iter().collect();
+    let Some(TokenTree::Group(body)) = head.pop() else { panic!("a function ends in its body") };
+    assert_eq!(body.delimiter(), Delimiter::Brace);
+    let words: Vec<String> = head.iter().map(ToString::to_string).collect();
+    let at = words.iter().position(|w| w == "fn").expect("a function");
+    let result = words.iter().zip(&words[1..]).rposition(|(a, b)| a == "-" && b == ">").expect("an answer");
+    let signature: TokenStream = head[at..].iter().cloned().collect();
+    let answers: TokenStream = head[result + 2..].iter().cloned().collect();
+    let (before, after, beside) = looks(&words[at + 1]);
+    let attributes: TokenStream = head[..at].iter().cloned().collect();
+    format!("{attributes} pub {signature} {{ {before} let answer = (move || -> {answers} {body})(); {after} answer }} {beside}")
+        .parse()
+        .expect("what was parsed before")
+}
