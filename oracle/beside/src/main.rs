@@ -10,6 +10,7 @@ beside two-turfs             the same, every board of two turfs over a set of va
 beside published EACH SEED   the text with the FILLED mixture against the text with the published mixture.rs
 beside numbers EACH SEED     weights and amounts on accepted boards: the largest, and the odd ones
 beside vectors EACH SEED     cases with the text's answers, to standard output
+beside paper                 document 01's boards, played by the text: amounts before and after, the answer, the events as lines
 beside stack                 how much stack the text needs on the deepest board";
 
 fn say(what: &str, agreement: &Agreement) {
@@ -27,6 +28,16 @@ fn stack_of(kib: usize) {
     assert_eq!(refusal(&case), 0);
     let run = std::thread::Builder::new().stack_size(kib * 1024).spawn(move || filled::play::play(&case).events.len());
     println!("{} records", run.expect("a thread").join().expect("an end"));
+}
+
+/// Each board of the paper: its name, amounts before and after, the answer's numbers, the events as the lister prints them.
+fn paper() {
+    for row in boards::paper::rows() {
+        let outcome = filled::play::outcome(&row.case);
+        let bytes = outcome.answer[outcome.answer.len() - 1] as usize;
+        println!("{}: {:?} -> {:?}, answer {:?}", row.name, row.case.board.amounts, outcome.amounts, outcome.answer);
+        boards::events::list(&outcome.events[..bytes]).lines().for_each(|line| println!("    {line}"));
+    }
 }
 
 fn stack() {
@@ -66,6 +77,7 @@ fn main() {
         ("vectors", Some(each), Some(seed)) => print!("{}", vectors(each, seed)),
         ("stack-of", Some(kib), None) => stack_of(kib as usize),
         ("stack", None, None) => stack(),
+        ("paper", None, None) => paper(),
         _ => println!("{HELP}"),
     }
     eprintln!("{} s", begun.elapsed().as_secs());
