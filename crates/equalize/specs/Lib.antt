@@ -1,0 +1,2 @@
+pub mod Equalize
+pub mod Result
