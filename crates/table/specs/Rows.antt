@@ -184,6 +184,22 @@ ruleRows =
     -- two turfs, one mixture: recorded, not moved
     ∷ equalizes (sharing (0 ∷ 1 ∷ 1 ∷ []) 2 chain) (ask (10 ∷ [])) [] (whole (64 ∷ 16 ∷ [])) (done 3 5 1 1 40) (whole (32 ∷ 48 ∷ []))
     (Pressure 0 (ofCount 32) 10 20 ∷ Pressure 0 (ofCount 16) 20 30 ∷ [])
+    -- the same, with sums that round
+    ∷ equalizes (sharing (0 ∷ 1 ∷ 1 ∷ []) 2 chain) (ask (10 ∷ [])) [] (whole (95 ∷ 13 ∷ [])) (done 3 5 1 1 40) (exact (0x4221_5556 ∷ 0x4287_5555 ∷ []))
+    (Pressure 0 (ofWord 0x425a_aaaa) 10 20 ∷ Pressure 0 (ofWord 0x41da_aaaa) 20 30 ∷ [])
+    -- an ignored zone's links are owned as before: 30 and 35 have no edge in the zone of 40
+    ∷ equalizes
+    (draw (
+    turf 10 (to 1 ∷ to 2 ∷ [])
+    ∷ space (turf 20 [])
+    ∷ turf 30 (to 0 ∷ to 3 ∷ [])
+    ∷ turf 35 (to 2 ∷ [])
+    ∷ turf 40 (to 2 ∷ to 3 ∷ [])
+    ∷ []))
+    (ask (10 ∷ 40 ∷ [])) [] (whole (64 ∷ 0 ∷ 100 ∷ 0 ∷ 12 ∷ [])) (done 3 7 1 1 8) (whole (64 ∷ 0 ∷ 100 ∷ 0 ∷ 12 ∷ []))
+    (DepressurizeWanted 10 ∷ [])
+    -- a break at the planet limit leaves a turf in two zones: not apart
+    ∷ equalizes (draw (planet (turf 10 (to 1 ∷ [])) ∷ twenty ∷ [])) (limited 0 (ask (10 ∷ 20 ∷ []))) [] (whole (32 ∷ 16 ∷ [])) (done 3 4 2 0 0) (whole (32 ∷ 16 ∷ [])) []
     -- kind 4; the limit counts from 1 on both walks
     ∷ depressurizes (lockedChain asIs space) 2 10 (whole (32 ∷ 16 ∷ 4 ∷ [])) 2 160 (whole (0 ∷ 0 ∷ 4 ∷ []))
     (Firelock 10 20 ∷ Firelock 20 30 ∷ Target 30 30 ∷ Target 20 30 ∷ Target 10 30
