@@ -60,3 +60,11 @@ ofCount n = ofInt binary32 (pos n)
 -- results compare by bits
 unfoldable pub bits : List Float → List ℕ
 bits xs = map bitsOf xs
+
+-- whole amounts
+unfoldable pub whole : List ℕ → List Float
+whole ns = map ofCount ns
+
+-- amounts by their bits
+unfoldable pub exact : List ℕ → List Float
+exact ns = map ofWord ns

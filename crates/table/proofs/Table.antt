@@ -1,14 +1,12 @@
 -- The table: antt computes every row. Assumes nothing.
-use mathlib.Core.List.{_++_}
 use lib.Dec.{T}
-use lib.Bits.{bitAnd}
 use lib.Count.{leadingZeros, trailingZeros}
 use lib.Ieee.{add, sub, sum as isum, mul, div, neg, round, size, span, climb, units, odd, ofInt, ofBits, ofFields, toBits, lt, le, eq, ne}
 use Rattle.basics.specs.Loops.{run, times, keep, every, allOf, upFrom, member, first, same}
-use Rattle.basics.specs.Floats.{finite, finiteSignClear, bits}
+use Rattle.basics.specs.Floats.{finite, finiteSignClear, bits, whole, exact}
 use Rattle.turfs.specs.Board.{enabled, planetary, immutable, firelock, linksOf, rowOf}
 use Rattle.turfs.specs.Refuse.{pairwise, distinct, sizesFit, tablesFit, rowFits, linksFit}
-use Rattle.turfs.specs.Draw.{startsFrom, allWays, draw, sharing}
+use Rattle.turfs.specs.Draw.{startsFrom, allWays, draw, sharing, withGases}
 use Rattle.mixture.specs.Mixture.{sum, scale, plus, ratio, remove, amounts, change, totalMix, total, moveAir, clearAir, amountFits}
 use Rattle.events.specs.Events.{kindOf, fieldsOf, sound, wordsBytes, encode, encodeAll, sizeOf, decode, whole as wholeRecord, readAt, readNumbers}
 use Rattle.events.specs.Lister.{digits, hex, line, badLine, listReading, listNext, listAll, listing}
@@ -23,13 +21,13 @@ use Rattle.equalize.specs.Result.{equalizeNumber, equalizeDone, equalizeResult}
 use Rattle.walks.specs.Walk.{walkLink, spread, walkNext, walk}
 use Rattle.planet_walk.specs.Planet.{visitPlanet, planetFrom, planetWalk, planetNumber, planetDone, planetResult}
 use Rattle.depressurize.specs.Depressurize.{atSpace, visitSpace, outLink, outRow, outNext, outward, backTo, back, wayBack, fromWalk, fromRow, depressurize, depressurizeNumber, depressurizeDone, depressurizeResult}
-use Rattle.table.specs.Row.{whole, exact, lend, left, unchanged, numbers, numbersD, numbersP, holds}
-use Rattle.table.specs.Rows.{documentRows, misreadRows, ruleRows, refusalRows, eventRows}
+use Rattle.table.specs.Row.{lend, left, unchanged, numbers, numbersD, numbersP, holds}
+use Rattle.table.specs.Rows.{documentRows, misreadRows, ruleRows, refusalRows, eventRows, rows}
 
-pub table : T (every holds (documentRows ++ (misreadRows ++ (ruleRows ++ (refusalRows ++ eventRows)))))
-unfolding documentRows misreadRows ruleRows refusalRows eventRows whole exact lend left unchanged numbers numbersD numbersP holds
+pub table : T (every holds rows)
+unfolding rows documentRows misreadRows ruleRows refusalRows eventRows whole exact lend left unchanged numbers numbersD numbersP holds
     run times keep every allOf upFrom member first same finite finiteSignClear bits
-    enabled planetary immutable firelock linksOf rowOf pairwise distinct sizesFit tablesFit rowFits linksFit startsFrom allWays draw sharing
+    enabled planetary immutable firelock linksOf rowOf pairwise distinct sizesFit tablesFit rowFits linksFit startsFrom allWays draw sharing withGases
     sum scale plus ratio remove amounts change totalMix total moveAir clearAir amountFits
     kindOf fieldsOf sound wordsBytes encode encodeAll sizeOf decode wholeRecord readAt readNumbers
     digits hex line badLine listReading listNext listAll listing

@@ -5,7 +5,7 @@ use Prim.Native.Nat.{ℕ, _-_}
 use lib.ListN.{length, drop, replicate}
 use lib.Ieee.{Float}
 use Rattle.basics.specs.Loops.{allOf, same}
-use Rattle.basics.specs.Floats.{bits, ofCount, ofWord}
+use Rattle.basics.specs.Floats.{bits, ofCount, ofWord, whole}
 use Rattle.turfs.specs.Board.{Board}
 use Rattle.events.specs.Events.{encodeAll, readAt, readNumbers}
 use Rattle.events.specs.Lister.{listing}
@@ -18,16 +18,6 @@ use Rattle.planet_walk.specs.Planet.{planetRoom, planetResult}
 use Rattle.planet_walk.specs.declared.PlanetAnswer.{PlanetAnswer}
 use Rattle.depressurize.specs.Depressurize.{depressurizeRoom, depressurizeResult}
 use Rattle.depressurize.specs.declared.DepressurizeAnswer.{DepressurizeAnswer}
-
--- ---- amounts
-
--- whole amounts
-unfoldable pub whole : List ℕ → List Float
-whole ns = map ofCount ns
-
--- amounts by their bits
-unfoldable pub exact : List ℕ → List Float
-exact ns = map ofWord ns
 
 -- ---- what equalize is asked
 

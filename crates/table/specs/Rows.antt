@@ -3,15 +3,15 @@ use mathlib.Core.List.{List, [], _∷_, _++_}
 use Prim.Native.Nat.{ℕ}
 use lib.ListN.{replicate}
 use lib.Ieee.{Float}
-use Rattle.basics.specs.Floats.{0f, ofCount, ofWord}
+use Rattle.basics.specs.Floats.{0f, ofCount, ofWord, whole, exact}
 use Rattle.turfs.specs.Board.{Board}
-use Rattle.turfs.specs.Draw.{Turf, to, lock, turf, disabled, planet, space, draw, sharing, pairWith, twenty, boardA, chain}
+use Rattle.turfs.specs.Draw.{Turf, to, lock, turf, disabled, planet, space, draw, sharing, withGases, pairWith, twenty, boardA, chain, lockedPair, lockedChain, asIs, star, four, ring, six, breached}
 use Rattle.events.specs.declared.Event.{Event}
 use Rattle.events.specs.declared.Event.the-variants.{DepressurizeWanted, PlanetWanted, Pressure, Firelock, Target, HighPressure, Difference, FloorRip}
 use Rattle.lent.specs.Lent.{Lent}
 use Rattle.equalize.specs.Equalize.{Ask}
 use Rattle.equalize.specs.Result.{equalizeRoom}
-use Rattle.table.specs.Row.{Row, equalizes, refused, depressurizes, walksPlanet, marks, rooms, writes, reads, lists, whole, exact, ask, limited, allowed, threshold, done, cancelled, lend, lessArea, lessWords, lessFloats}
+use Rattle.table.specs.Row.{Row, equalizes, refused, depressurizes, walksPlanet, marks, rooms, writes, reads, lists, ask, limited, allowed, threshold, done, cancelled, lend, lessArea, lessWords, lessFloats}
 
 -- P1's event
 abbrev pub p1 : List Event
@@ -24,17 +24,6 @@ p1Bytes = 0x14 ∷ 0 ∷ 3 ∷ 0 ∷ 0 ∷ 0 ∷ 0 ∷ 0 ∷ 0 ∷ 0 ∷ 0 ∷ 0
 -- A and a twin, 30 and 40
 abbrev pub twins : Board
 twins = draw (turf 10 (to 1 ∷ []) ∷ turf 20 (to 0 ∷ []) ∷ turf 30 (to 3 ∷ []) ∷ turf 40 (to 2 ∷ []) ∷ [])
-
--- six turfs in a row
-abbrev pub six : Board
-six = draw (
-    turf 1 (to 1 ∷ [])
-    ∷ turf 2 (to 0 ∷ to 2 ∷ [])
-    ∷ turf 3 (to 1 ∷ to 3 ∷ [])
-    ∷ turf 4 (to 2 ∷ to 4 ∷ [])
-    ∷ turf 5 (to 3 ∷ to 5 ∷ [])
-    ∷ turf 6 (to 4 ∷ [])
-    ∷ [])
 
 -- P1 to P12, and the six-node boards
 unfoldable pub documentRows : List Row
@@ -80,24 +69,6 @@ documentRows =
 abbrev pub askAll : List ℕ → Ask
 askAll hot = limited 100 (allowed 1000 (ask hot))
 
--- each turf linked to each other one
-abbrev pub four : Board
-four = draw (
-    turf 10 (to 1 ∷ to 3 ∷ to 2 ∷ [])
-    ∷ turf 20 (to 2 ∷ to 3 ∷ to 0 ∷ [])
-    ∷ turf 30 (to 0 ∷ to 3 ∷ to 1 ∷ [])
-    ∷ turf 40 (to 0 ∷ to 1 ∷ to 2 ∷ [])
-    ∷ [])
-
--- a ring of four
-abbrev pub ring : Board
-ring = draw (
-    turf 10 (to 2 ∷ to 3 ∷ [])
-    ∷ turf 20 (to 3 ∷ to 2 ∷ [])
-    ∷ turf 30 (to 1 ∷ to 0 ∷ [])
-    ∷ turf 40 (to 0 ∷ to 1 ∷ [])
-    ∷ [])
-
 -- 20 and 30 have one mixture, and 30 a link of one way
 abbrev pub oneWay : Board
 oneWay = sharing (0 ∷ 1 ∷ 1 ∷ []) 2 (draw (turf 10 (to 1 ∷ []) ∷ turf 20 (to 2 ∷ to 0 ∷ []) ∷ turf 30 (to 0 ∷ to 1 ∷ []) ∷ []))
@@ -140,8 +111,7 @@ misreadRows =
     ∷ depressurizes (draw (space (turf 10 (to 1 ∷ [])) ∷ disabled (turf 20 (to 0 ∷ [])) ∷ [])) 100 10 (whole (0 ∷ 8 ∷ [])) 2 84 (whole (0 ∷ 0 ∷ []))
     (Target 10 10 ∷ Target 20 10 ∷ HighPressure 20 ∷ Difference 20 0f 20 20 ∷ Difference 20 0f 20 20 ∷ FloorRip 20 0f ∷ [])
     -- the planet turf's total is not added
-    ∷ equalizes (draw (turf 10 (to 1 ∷ to 2 ∷ to 3 ∷ []) ∷ turf 20 (to 0 ∷ []) ∷ turf 30 (to 0 ∷ []) ∷ planet (turf 40 (to 0 ∷ [])) ∷ []))
-    (limited 3 (ask (10 ∷ []))) [] (whole (32 ∷ 16 ∷ 16 ∷ 8 ∷ [])) (done 4 6 1 1 20) (whole (24 ∷ 16 ∷ 16 ∷ 16 ∷ []))
+    ∷ equalizes star (limited 3 (ask (10 ∷ []))) [] (whole (32 ∷ 16 ∷ 16 ∷ 8 ∷ [])) (done 4 6 1 1 20) (whole (24 ∷ 16 ∷ 16 ∷ 16 ∷ []))
     (Pressure 0 (ofCount 8) 10 40 ∷ [])
     ∷ []
 
@@ -156,24 +126,17 @@ chains = draw (
     ∷ turf 60 (to 4 ∷ [])
     ∷ [])
 
--- 10 - 20 - 30 with firelocks on the way there
-abbrev pub lockedChain : (Turf → Turf) → (Turf → Turf) → Board
-lockedChain f g = draw (turf 10 (lock 1 ∷ []) ∷ f (turf 20 (to 0 ∷ lock 2 ∷ [])) ∷ g (turf 30 (to 1 ∷ [])) ∷ [])
-
--- 10 and 20, with a firelock on the way there
-abbrev pub lockedPair : Turf → Board
-lockedPair t = draw (turf 10 (lock 1 ∷ []) ∷ t ∷ [])
-
--- a turf as it is
-abbrev pub asIs : Turf → Turf
-asIs t = t
-
 -- each rule that a cheat could drop
 unfoldable pub ruleRows : List Row
 ruleRows =
     -- a turn is one node, c mod the unfinished zones; a used-up list goes on with the lowest zone
     equalizes chains (ask (10 ∷ 40 ∷ [])) (3 ∷ 0 ∷ []) (whole (32 ∷ 8 ∷ 32 ∷ 32 ∷ 8 ∷ 32 ∷ [])) (done 6 8 2 1 80) (replicate 6 (ofCount 24))
     (Pressure 1 (ofCount 8) 40 50 ∷ Pressure 0 (ofCount 8) 10 20 ∷ Pressure 0 (ofCount 8) 30 20 ∷ Pressure 1 (ofCount 8) 60 50 ∷ [])
+    -- every entry counts, the later ones too; entries left over are ignored
+    ∷ equalizes chains (ask (10 ∷ 40 ∷ [])) (1 ∷ 1 ∷ 1 ∷ 1 ∷ 1 ∷ 1 ∷ 1 ∷ []) (whole (32 ∷ 8 ∷ 32 ∷ 32 ∷ 8 ∷ 32 ∷ [])) (done 6 8 2 1 80) (replicate 6 (ofCount 24))
+    (Pressure 1 (ofCount 8) 40 50 ∷ Pressure 1 (ofCount 8) 60 50 ∷ Pressure 0 (ofCount 8) 10 20 ∷ Pressure 0 (ofCount 8) 30 20 ∷ [])
+    -- two gases
+    ∷ equalizes (withGases 2 boardA) (ask (10 ∷ [])) [] (whole (24 ∷ 8 ∷ 12 ∷ 4 ∷ [])) (done 2 4 1 1 20) (whole (18 ∷ 6 ∷ 18 ∷ 6 ∷ [])) p1
     -- kind 2
     ∷ equalizes (lockedPair (planet twenty)) (ask (10 ∷ [])) [] (whole (32 ∷ 16 ∷ [])) (done 2 4 1 1 28) (whole (24 ∷ 24 ∷ [])) (PlanetWanted 10 ∷ p1)
     -- kind 1, then kind 2, of one neighbour
@@ -188,15 +151,7 @@ ruleRows =
     ∷ equalizes (sharing (0 ∷ 1 ∷ 1 ∷ []) 2 chain) (ask (10 ∷ [])) [] (whole (95 ∷ 13 ∷ [])) (done 3 5 1 1 40) (exact (0x4221_5556 ∷ 0x4287_5555 ∷ []))
     (Pressure 0 (ofWord 0x425a_aaaa) 10 20 ∷ Pressure 0 (ofWord 0x41da_aaaa) 20 30 ∷ [])
     -- an ignored zone's links are owned as before: 30 and 35 have no edge in the zone of 40
-    ∷ equalizes
-    (draw (
-    turf 10 (to 1 ∷ to 2 ∷ [])
-    ∷ space (turf 20 [])
-    ∷ turf 30 (to 0 ∷ to 3 ∷ [])
-    ∷ turf 35 (to 2 ∷ [])
-    ∷ turf 40 (to 2 ∷ to 3 ∷ [])
-    ∷ []))
-    (ask (10 ∷ 40 ∷ [])) [] (whole (64 ∷ 0 ∷ 100 ∷ 0 ∷ 12 ∷ [])) (done 3 7 1 1 8) (whole (64 ∷ 0 ∷ 100 ∷ 0 ∷ 12 ∷ []))
+    ∷ equalizes breached (ask (10 ∷ 40 ∷ [])) [] (whole (64 ∷ 0 ∷ 100 ∷ 0 ∷ 12 ∷ [])) (done 3 7 1 1 8) (whole (64 ∷ 0 ∷ 100 ∷ 0 ∷ 12 ∷ []))
     (DepressurizeWanted 10 ∷ [])
     -- a break at the planet limit leaves a turf in two zones: not apart
     ∷ equalizes (draw (planet (turf 10 (to 1 ∷ [])) ∷ twenty ∷ [])) (limited 0 (ask (10 ∷ 20 ∷ []))) [] (whole (32 ∷ 16 ∷ [])) (done 3 4 2 0 0) (whole (32 ∷ 16 ∷ [])) []
@@ -304,3 +259,7 @@ eventRows =
     ∷ lists (8 ∷ 0 ∷ 1 ∷ 0 ∷ 10 ∷ 0 ∷ 0 ∷ 0 ∷ 1 ∷ []) (49 ∷ 32 ∷ 49 ∷ 48 ∷ 10 ∷ 98 ∷ 97 ∷ 100 ∷ 32 ∷ 56 ∷ 10 ∷ [])
     ∷ lists [] []
     ∷ []
+
+-- all of them
+unfoldable pub rows : List Row
+rows = documentRows ++ (misreadRows ++ (ruleRows ++ (refusalRows ++ eventRows)))

@@ -81,6 +81,20 @@ sharing mixtures m b = record {
   gases = b .gases;
 }
 
+-- the same board with g gases
+unfoldable pub withGases : ℕ → Board → Board
+withGases g b = record {
+  ids = b .ids;
+  flags = b .flags;
+  planetary = b .planetary;
+  mixtures = b .mixtures;
+  starts = b .starts;
+  neighbours = b .neighbours;
+  linkFlags = b .linkFlags;
+  immutable = b .immutable;
+  gases = g;
+}
+
 -- two turfs, linked both ways: 10 and the other one
 abbrev pub pairWith : Turf → Board
 pairWith t = draw (turf 10 (to 1 ∷ []) ∷ t ∷ [])
@@ -96,3 +110,58 @@ boardA = pairWith twenty
 -- three turfs in a row: 10 - 20 - 30
 abbrev pub chain : Board
 chain = draw (turf 10 (to 1 ∷ []) ∷ turf 20 (to 0 ∷ to 2 ∷ []) ∷ turf 30 (to 1 ∷ []) ∷ [])
+
+-- 10 and another turf, with a firelock on the way there
+abbrev pub lockedPair : Turf → Board
+lockedPair t = draw (turf 10 (lock 1 ∷ []) ∷ t ∷ [])
+
+-- 10 - 20 - 30 with firelocks on the way there
+abbrev pub lockedChain : (Turf → Turf) → (Turf → Turf) → Board
+lockedChain f g = draw (turf 10 (lock 1 ∷ []) ∷ f (turf 20 (to 0 ∷ lock 2 ∷ [])) ∷ g (turf 30 (to 1 ∷ [])) ∷ [])
+
+-- a turf as it is
+abbrev pub asIs : Turf → Turf
+asIs t = t
+
+-- 10 in the middle of 20, 30 and the planetary 40
+abbrev pub star : Board
+star = draw (turf 10 (to 1 ∷ to 2 ∷ to 3 ∷ []) ∷ turf 20 (to 0 ∷ []) ∷ turf 30 (to 0 ∷ []) ∷ planet (turf 40 (to 0 ∷ [])) ∷ [])
+
+-- four turfs, each linked to each other one
+abbrev pub four : Board
+four = draw (
+    turf 10 (to 1 ∷ to 3 ∷ to 2 ∷ [])
+    ∷ turf 20 (to 2 ∷ to 3 ∷ to 0 ∷ [])
+    ∷ turf 30 (to 0 ∷ to 3 ∷ to 1 ∷ [])
+    ∷ turf 40 (to 0 ∷ to 1 ∷ to 2 ∷ [])
+    ∷ [])
+
+-- a ring of four
+abbrev pub ring : Board
+ring = draw (
+    turf 10 (to 2 ∷ to 3 ∷ [])
+    ∷ turf 20 (to 3 ∷ to 2 ∷ [])
+    ∷ turf 30 (to 1 ∷ to 0 ∷ [])
+    ∷ turf 40 (to 0 ∷ to 1 ∷ [])
+    ∷ [])
+
+-- six turfs in a row
+abbrev pub six : Board
+six = draw (
+    turf 1 (to 1 ∷ [])
+    ∷ turf 2 (to 0 ∷ to 2 ∷ [])
+    ∷ turf 3 (to 1 ∷ to 3 ∷ [])
+    ∷ turf 4 (to 2 ∷ to 4 ∷ [])
+    ∷ turf 5 (to 3 ∷ to 5 ∷ [])
+    ∷ turf 6 (to 4 ∷ [])
+    ∷ [])
+
+-- 10 is linked to space; 30 and 35 belong to its zone, and 40 leads to them one way
+abbrev pub breached : Board
+breached = draw (
+    turf 10 (to 1 ∷ to 2 ∷ [])
+    ∷ space (turf 20 [])
+    ∷ turf 30 (to 0 ∷ to 3 ∷ [])
+    ∷ turf 35 (to 2 ∷ [])
+    ∷ turf 40 (to 2 ∷ to 3 ∷ [])
+    ∷ [])
