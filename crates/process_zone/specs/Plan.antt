@@ -58,10 +58,14 @@ log2 n = 31 - leadingZeros 32 n
 
 -- ---- what the two sides ask: one search serves `give_to_takers` and `take_from_givers`
 
--- the turfs that give, or that take: delta 0 takes
+-- delta above 0 is a giver, else a taker
+abbrev pub gives : Float → Bool
+gives x = lt 0f x
+
+-- the turfs that give, or that take
 abbrev pub picks : Side → Float → Bool
-picks Giving x = lt 0f x
-picks Taking x = not (lt 0f x)
+picks Giving x = gives x
+picks Taking x = not (gives x)
 
 -- the turf in hand has nothing more to give, or to take
 abbrev pub settled : Side → Float → Bool
@@ -143,7 +147,7 @@ module _ (b : Board) (owner : List ℕ) (z : ℕ) where
   fastTurf r s =
       let i = load s r in
       let p = store s r (record { delta = i .delta; amount = i .amount; direction = i .direction; fast = 1 }) in
-      let ks = if lt 0f (i .delta) then eligible p r else [] in
+      let ks = if gives (i .delta) then eligible p r else [] in
       let x = i .delta /f countOf ks in
       run (λ k t. fastMove r x (end b k) t) ks p
 
