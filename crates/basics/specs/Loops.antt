@@ -39,6 +39,11 @@ module _ {A : Type 0} where
   abbrev pub snoc : List A → A → List A
   snoc xs x = xs ++ (x ∷ [])
 
+-- `cond` in the order in which the Rust has it. Both branches are computed, so no branch holds a call of the function itself.
+abbrev pub if_then_else_ : {A : Type 0} → Bool → A → A → A
+if_then_else_ c x y = cond c x y
+
+infixr 20 if_then_else_
 -- every test of the list passes
 unfoldable pub allOf : List Bool → Bool
 allOf [] = true
@@ -63,3 +68,10 @@ atOr false x o = o
 unfoldable pub first : (ℕ → Bool) → List ℕ → Spot
 first p [] = Nowhere
 first p (x ∷ xs) = atOr (p x) x (first p xs)
+
+-- the two lists are equal, number by number
+unfoldable pub same : List ℕ → List ℕ → Bool
+same [] [] = true
+same [] (y ∷ ys) = false
+same (x ∷ xs) [] = false
+same (x ∷ xs) (y ∷ ys) = eqb x y && same xs ys

@@ -1,0 +1,1 @@
+// What every call is lent, and when it is refused. The definitions stand in specs/.

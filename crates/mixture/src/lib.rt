@@ -1,0 +1,1 @@
+// Mixtures: totals, removal, merge, clearing. Their definitions stand in specs/.

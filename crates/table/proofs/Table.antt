@@ -1,0 +1,46 @@
+-- The table: antt computes every row. Assumes nothing.
+use lib.Dec.{T}
+use lib.Count.{leadingZeros, trailingZeros}
+use lib.Ieee.{add, sub, sum as isum, mul, div, neg, round, size, span, climb, units, odd, ofInt, ofBits, ofFields, toBits, lt, le, eq, ne}
+use Rattle.basics.specs.Loops.{run, times, keep, every, allOf, upFrom, member, first, same}
+use Rattle.basics.specs.Floats.{finite, finiteSignClear, bits, whole, exact}
+use Rattle.turfs.specs.Board.{enabled, planetary, immutable, firelock, linksOf, rowOf}
+use Rattle.turfs.specs.Refuse.{pairwise, distinct, sizesFit, tablesFit, rowFits, linksFit}
+use Rattle.turfs.specs.Draw.{startsFrom, allWays, draw, sharing, withGases}
+use Rattle.mixture.specs.Mixture.{sum, scale, plus, ratio, remove, amounts, change, totalMix, total, moveAir, clearAir, amountFits}
+use Rattle.events.specs.Events.{kindOf, fieldsOf, sound, wordsBytes, encode, encodeAll, sizeOf, decode, whole as wholeRecord, readAt, readNumbers}
+use Rattle.events.specs.Lister.{digits, hex, line, badLine, listReading, listNext, listAll, listing}
+use Rattle.lent.specs.Lent.{wordsRoom, floatsRoom, firstFailed, refusal, after}
+use Rattle.lent.specs.Worked.{lend, left, unchanged}
+use Rattle.flood_fill.specs.Fill.{insert, endFill, reachLink, expand, pop, popNext, fill}
+use Rattle.process_zone.specs.Edges.{edgesOf, edge, adjust}
+use Rattle.process_zone.specs.Plan.{chosen, trade, meet, seekTo, fastMove, eligible, fastTurf, seekLink, seekRow, seekNext, drainTo, drain, serve, fastPass, shareOut, deltas, planZone}
+use Rattle.finalize_eq.specs.Finish.{zeroLifted, pairs, finishGivers, send, finishPair, finish}
+use Rattle.finalize_eq.specs.Turns.{nodeCount, unfinished, jobsLeft, inOrder, order, turnOrder, work, finishAll}
+use Rattle.equalize.specs.Equalize.{afterFill, near, passedOver, fillFrom, hotRow, hotId, fillAll, planAll, hasMix, apart, cancel, planned, played, equalize}
+use Rattle.equalize.specs.Result.{equalizeNumber, equalizeDone, equalizeResult}
+use Rattle.equalize.specs.Worked.{numbers, equalizes, refused}
+use Rattle.walks.specs.Walk.{walkLink, spread, walkNext, walk}
+use Rattle.planet_walk.specs.Planet.{visitPlanet, planetFrom, planetWalk, planetNumber, planetDone, planetResult}
+use Rattle.planet_walk.specs.Worked.{walksPlanet}
+use Rattle.depressurize.specs.Depressurize.{atSpace, visitSpace, outLink, outRow, outNext, outward, backTo, back, wayBack, fromWalk, fromRow, depressurize, depressurizeNumber, depressurizeDone, depressurizeResult}
+use Rattle.depressurize.specs.Worked.{depressurizes}
+use Rattle.table.specs.Rows.{marks, rooms, writes, documentRows, misreadRows, ruleRows, refusalRows, rows}
+
+pub table : T (allOf rows)
+unfolding rows documentRows misreadRows ruleRows refusalRows marks rooms writes whole exact lend left unchanged equalizes refused numbers depressurizes walksPlanet
+    run times keep every allOf upFrom member first same finite finiteSignClear bits
+    enabled planetary immutable firelock linksOf rowOf pairwise distinct sizesFit tablesFit rowFits linksFit startsFrom allWays draw sharing withGases
+    sum scale plus ratio remove amounts change totalMix total moveAir clearAir amountFits
+    kindOf fieldsOf sound wordsBytes encode encodeAll sizeOf decode wholeRecord readAt readNumbers
+    digits hex line badLine listReading listNext listAll listing
+    wordsRoom floatsRoom firstFailed refusal after
+    insert endFill reachLink expand pop popNext fill
+    edgesOf edge adjust chosen trade meet seekTo fastMove eligible fastTurf seekLink seekRow seekNext drainTo drain serve fastPass shareOut deltas planZone
+    zeroLifted pairs finishGivers send finishPair finish nodeCount unfinished jobsLeft inOrder order turnOrder work finishAll
+    afterFill near passedOver fillFrom hotRow hotId fillAll planAll hasMix apart cancel planned played equalize
+    equalizeNumber equalizeDone equalizeResult
+    walkLink spread walkNext walk visitPlanet planetFrom planetWalk planetNumber planetDone planetResult
+    atSpace visitSpace outLink outRow outNext outward backTo back wayBack fromWalk fromRow depressurize depressurizeNumber depressurizeDone depressurizeResult
+    add sub isum mul div neg round size span climb units odd ofInt ofBits ofFields toBits lt le eq ne leadingZeros trailingZeros
+table = tt
