@@ -1,5 +1,7 @@
 //! Runs beside the Rust: the text with the FILLED mixture, the text with the published one, and the document's model.
 
+pub mod judged;
+
 use boards::families::{FAMILIES, case, with_turns};
 use boards::paper::{ask_a, board};
 use boards::refusal::refusal;
@@ -194,4 +196,17 @@ pub fn deepest(turfs: usize) -> Case {
     (amounts[0], amounts[turfs - 1]) = (10.0, 1.0e6);
     let board = board(&links.iter().map(Vec::as_slice).collect::<Vec<_>>(), &amounts);
     Case::new(board, Call::Equalize(Equalize { threshold: 0.0, allowance: u32::MAX, ..ask_a() }), 0)
+}
+
+/// The first so many boards of every family and call that are small enough for the checker to compute: at most 8 turfs, 24 links and 24
+/// amounts. The families that have none so small, of large boards, are left out.
+pub fn small(each: u64, seed: u64, mut test: impl FnMut(&Case)) {
+    for (family, name) in FAMILIES.into_iter().enumerate().filter(|family| family.1 != "large") {
+        for call in 1..=3 {
+            let fits = |case: &Case| case.board.ids.len() <= 8 && case.board.neighbours.len() <= 24 && case.board.amounts.len() <= 24;
+            let cases: Vec<Case> = (seed..seed + 10_000).map(|seed| case(family, call, seed)).filter(fits).take(each as usize).collect();
+            assert_eq!(cases.len(), each as usize, "{name}");
+            cases.iter().for_each(&mut test);
+        }
+    }
 }

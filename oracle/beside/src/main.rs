@@ -1,6 +1,6 @@
 //! The commands of the runs beside the Rust. With no word it says which there are.
 
-use beside::{Agreement, Numbers, Published, accepted, agree, deepest, drop_small, heaviest, two_turfs, vectors};
+use beside::{Agreement, Numbers, Published, accepted, agree, deepest, drop_small, heaviest, judged, two_turfs, vectors};
 use boards::refusal::refusal;
 use std::process::Command;
 use std::time::Instant;
@@ -10,6 +10,7 @@ beside two-turfs             the same, every board of two turfs over a set of va
 beside published EACH SEED   the text with the FILLED mixture against the text with the published mixture.rs
 beside numbers EACH SEED     weights and amounts on accepted boards: the largest, and the odd ones
 beside vectors EACH SEED     cases with the text's answers, to standard output
+beside judged EACH SEED      small cases with the text's answers as rows that the checker computes, to standard output
 beside paper                 document 01's boards, played by the text: amounts before and after, the answer, the events as lines
 beside stack                 how much stack the text needs on the deepest board";
 
@@ -75,6 +76,7 @@ fn main() {
             println!("{numbers:?}, the largest weight 2^{:.2}", numbers.largest_weight.log2());
         }
         ("vectors", Some(each), Some(seed)) => print!("{}", vectors(each, seed)),
+        ("judged", Some(each), Some(seed)) => print!("{}", judged::rows(each, seed)),
         ("stack-of", Some(kib), None) => stack_of(kib as usize),
         ("stack", None, None) => stack(),
         ("paper", None, None) => paper(),

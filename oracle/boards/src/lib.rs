@@ -115,11 +115,11 @@ impl Case {
         case
     }
 
-    /// Lends areas of these lengths. Byte i of the events is i * 31 + 7 mod 256; word i is i * 2654435761 + 1 mod 2^32; float i is the
-    /// number i + 0.5.
+    /// Lends areas of these lengths. Byte i of the events is i * 31 + 7 mod 256; word i is i * 2654435761 + 1 mod 2^32; float i has
+    /// the bits 0x3f000000 + i.
     pub fn lend(&mut self, room: Room) {
         self.events = (0..room.events).map(|i| (i * 31 + 7) as u8).collect();
         self.words = (0..room.words as u32).map(|i| i.wrapping_mul(2_654_435_761).wrapping_add(1)).collect();
-        self.floats = (0..room.floats).map(|i| i as f32 + 0.5).collect();
+        self.floats = (0..room.floats as u32).map(|i| f32::from_bits(0x3f00_0000 + i)).collect();
     }
 }

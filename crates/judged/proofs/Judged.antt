@@ -1,0 +1,41 @@
+-- The Rust's answers: antt computes every row by the definitions. Assumes nothing.
+use lib.Dec.{T}
+use lib.Count.{leadingZeros, trailingZeros}
+use lib.Ieee.{add, sub, sum as isum, mul, div, neg, round, size, span, climb, units, odd, ofInt, ofBits, ofFields, toBits, lt, le, eq, ne}
+use Rattle.basics.specs.Loops.{run, times, keep, every, allOf, upFrom, member, first, same}
+use Rattle.basics.specs.Floats.{finiteSignClear, bits, exact}
+use Rattle.turfs.specs.Board.{enabled, planetary, immutable, firelock, linksOf, rowOf}
+use Rattle.turfs.specs.Refuse.{pairwise, distinct, sizesFit, tablesFit, rowFits, linksFit}
+use Rattle.mixture.specs.Mixture.{sum, scale, plus, ratio, remove, amounts, change, totalMix, total, moveAir, clearAir, amountFits}
+use Rattle.events.specs.Events.{kindOf, fieldsOf, wordsBytes, encode, encodeAll}
+use Rattle.lent.specs.Lent.{wordsRoom, floatsRoom, firstFailed, refusal, after}
+use Rattle.flood_fill.specs.Fill.{insert, endFill, reachLink, expand, pop, popNext, fill}
+use Rattle.process_zone.specs.Edges.{edgesOf, edge, adjust}
+use Rattle.process_zone.specs.Plan.{chosen, trade, meet, seekTo, fastMove, eligible, fastTurf, seekLink, seekRow, seekNext, drainTo, drain, serve, fastPass, shareOut, deltas, planZone}
+use Rattle.finalize_eq.specs.Finish.{zeroLifted, pairs, finishGivers, send, finishPair, finish}
+use Rattle.finalize_eq.specs.Turns.{nodeCount, unfinished, jobsLeft, inOrder, order, turnOrder, work, finishAll}
+use Rattle.equalize.specs.Equalize.{afterFill, near, passedOver, fillFrom, hotRow, hotId, fillAll, planAll, hasMix, apart, cancel, planned, played, equalize}
+use Rattle.equalize.specs.Result.{equalizeNumber, equalizeDone, equalizeResult}
+use Rattle.equalize.specs.Worked.{numbers}
+use Rattle.walks.specs.Walk.{walkLink, spread, walkNext, walk}
+use Rattle.planet_walk.specs.Planet.{visitPlanet, planetFrom, planetWalk, planetNumber, planetDone, planetResult}
+use Rattle.depressurize.specs.Depressurize.{atSpace, visitSpace, outLink, outRow, outNext, outward, backTo, back, wayBack, fromWalk, fromRow, depressurize, depressurizeNumber, depressurizeDone, depressurizeResult}
+use Rattle.judged.specs.Judge.{lends, meets, equalizes, depressurizes, walksPlanet}
+use Rattle.judged.specs.Rows.{rows}
+
+pub judged : T (allOf rows)
+unfolding rows lends meets exact equalizes numbers depressurizes walksPlanet
+    run times keep every allOf upFrom member first same finiteSignClear bits
+    enabled planetary immutable firelock linksOf rowOf pairwise distinct sizesFit tablesFit rowFits linksFit
+    sum scale plus ratio remove amounts change totalMix total moveAir clearAir amountFits
+    kindOf fieldsOf wordsBytes encode encodeAll
+    wordsRoom floatsRoom firstFailed refusal after
+    insert endFill reachLink expand pop popNext fill
+    edgesOf edge adjust chosen trade meet seekTo fastMove eligible fastTurf seekLink seekRow seekNext drainTo drain serve fastPass shareOut deltas planZone
+    zeroLifted pairs finishGivers send finishPair finish nodeCount unfinished jobsLeft inOrder order turnOrder work finishAll
+    afterFill near passedOver fillFrom hotRow hotId fillAll planAll hasMix apart cancel planned played equalize
+    equalizeNumber equalizeDone equalizeResult
+    walkLink spread walkNext walk visitPlanet planetFrom planetWalk planetNumber planetDone planetResult
+    atSpace visitSpace outLink outRow outNext outward backTo back wayBack fromWalk fromRow depressurize depressurizeNumber depressurizeDone depressurizeResult
+    add sub isum mul div neg round size span climb units odd ofInt ofBits ofFields toBits lt le eq ne leadingZeros trailingZeros
+judged = tt
