@@ -47,8 +47,8 @@ pub worked : T (allOf (
     -- enough is there: the givers wait
     ∷ finishes chain (up 39 ∷ down 39 ∷ up 8 ∷ down 8 ∷ []) (64 ∷ 32 ∷ 0 ∷ []) 1 (64 ∷ 24 ∷ 8 ∷ []) (up 39 ∷ up 0 ∷ up 0 ∷ up 0 ∷ [])
     (Pressure 0 (ofCount 8) 20 30 ∷ [])
-    -- one mixture: recorded, not moved
-    ∷ finishes (sharing (0 ∷ 0 ∷ []) 1 boardA) (up 8 ∷ down 8 ∷ []) (32 ∷ []) 0 (32 ∷ []) (up 0 ∷ up 0 ∷ []) (Pressure 0 (ofCount 8) 10 20 ∷ [])
+    -- one mixture: recorded, not moved; a third of 15, removed and merged again, would round
+    ∷ finishes (sharing (0 ∷ 0 ∷ []) 1 boardA) (up 5 ∷ down 5 ∷ []) (15 ∷ []) 0 (15 ∷ []) (up 0 ∷ up 0 ∷ []) (Pressure 0 (ofCount 5) 10 20 ∷ [])
     -- the givers of 10 finish 10 once more: what it lifted is still in use
     ∷ finishes loop (up 8 ∷ up 4 ∷ down 12 ∷ down 8 ∷ up 12 ∷ down 8 ∷ up 8 ∷ down 4 ∷ []) (4 ∷ 8 ∷ 4 ∷ 4 ∷ []) 0 (4 ∷ 0 ∷ 8 ∷ 8 ∷ []) (whole (replicate 8 0))
     (Pressure 0 (ofCount 8) 30 20 ∷ Pressure 0 (ofCount 12) 20 10 ∷ Pressure 0 (ofCount 8) 10 30 ∷ Pressure 0 (ofCount 4) 10 40 ∷ [])

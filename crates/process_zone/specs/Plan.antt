@@ -41,10 +41,11 @@ store s r i = record {
 abbrev pub reweigh : (List Float → List Float) → Plan → Plan
 reweigh f s = record { weight = f (s .weight); delta = s .delta; amount = s .amount; direction = s .direction; fast = s .fast }
 
--- a planning state with one field set anew
+-- a planning state with another delta
 abbrev pub withDelta : Float → MonstermosInfo → MonstermosInfo
 withDelta x i = record { delta = x; amount = i .amount; direction = i .direction; fast = i .fast }
 
+-- a planning state with another amount
 abbrev pub withAmount : Float → MonstermosInfo → MonstermosInfo
 withAmount x i = record { delta = i .delta; amount = x; direction = i .direction; fast = i .fast }
 
@@ -86,8 +87,9 @@ more Taking x y = lt (neg x) y
 unfoldable pub chosen : Side → List ℕ → Plan → List ℕ
 chosen side nodes s = keep (λ r. picks side (getD (s .delta) r nan)) nodes
 
--- ---- one search; its queue is an `IndexSet`, the rows in order of insertion
+-- ---- one search
 
+-- what it has come to; the queue is an `IndexSet`, the rows in order of insertion
 pub record Seek : Type 0 where
   pub queue : List ℕ
   pub looked : ℕ  -- `queue_idx`
@@ -109,12 +111,12 @@ trade side g a s =
     let can = wants side (i .delta) in
     let all = more side x (i .delta) in
     let met : MonstermosInfo = record {
-      delta = if can then if all then i .delta +f x else 0f else i .delta;
-      amount = if can then if all then i .amount -f x else i .amount +f i .delta else i .amount;
+      delta = if can then (if all then i .delta +f x else 0f) else i .delta;
+      amount = if can then (if all then i .amount -f x else i .amount +f i .delta) else i .amount;
       direction = i .direction;
       fast = i .fast;
     } in
-    store (store s a met) g (withDelta (if can then if all then 0f else x +f i .delta else x) (load s g))
+    store (store s a met) g (withDelta (if can then (if all then 0f else x +f i .delta) else x) (load s g))
 
 -- a turf met for the first time, from r
 unfoldable pub meet : Side → ℕ → ℕ → ℕ → Plan → Plan
