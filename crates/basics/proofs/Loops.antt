@@ -180,3 +180,22 @@ first-on p i e h t =
 pub first-end : (p : ℕ → Bool) (i e : ℕ) → e ≤ i → first p (upFrom i (e - i)) ≡ Nowhere
 unfolding first upFrom
 first-end p i e h = let k : e - i ≡ 0 = omega arith in ap (λ (n : ℕ). first p (upFrom i n)) k
+
+-- an invariant of a step that is made n times
+pub times-keeps : {S : Type 0} (Q : S → Type 0) (f : S → S) → ((s : S) → Q s → Q (f s)) → (n : ℕ) (s : S) → Q s → Q (times f n s)
+unfolding times
+times-keeps Q f h zero s q = q
+times-keeps Q f h (suc n) s q = times-keeps Q f h n (f s) (h s q)
+
+-- two loops that do the same wherever Q holds
+pub run-same : {A S : Type 0} (Q : S → Type 0) (f g : A → S → S) → ((x : A) (s : S) → Q s → f x s ≡ g x s) → ((x : A) (s : S) → Q s → Q (f x s))
+    → (xs : List A) (s : S) → Q s → run f xs s ≡ run g xs s
+unfolding run
+run-same Q f g h k [] s q = refl
+run-same Q f g h k (x ∷ xs) s q = run-same Q f g h k xs (f x s) (k x s q) ∙ ap (run g xs) (h x s q)
+
+-- a loop over what a map makes
+pub run-map : {A B S : Type 0} (g : A → B) (f : B → S → S) (xs : List A) (s : S) → run f (map g xs) s ≡ run (λ x t. f (g x) t) xs s
+unfolding run
+run-map g f [] s = refl
+run-map g f (x ∷ xs) s = run-map g f xs (f (g x) s)

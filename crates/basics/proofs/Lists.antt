@@ -1,0 +1,185 @@
+-- Laws of lists: what all have, members, numbers none of which stands twice, how many pass a test. Assumes nothing.
+use mathlib.Core.Path.{_≡_, refl, sym, ap, ap₂, _∙_, subst}
+use mathlib.Core.Logic.{_≢_, _⊎_, inl, inr}
+use mathlib.Core.List.{List, [], _∷_, _++_, map}
+use mathlib.Core.Bool.{Bool, true, false, not, _&&_, _||_, cond}
+use Prim.Native.Nat.{ℕ, zero, suc, _+_, _≤_, _<_}
+use native.Mathlib.Nat.{le-refl}
+use native.Mathlib.Omega.{arith}
+use lib.Dec.{T, eqb, eqb→eq, eqb-refl}
+use lib.ListN.{length, getD, drop}
+use Rattle.basics.specs.Loops.{run, keep, every, consIf, upFrom, member, snoc}
+use Rattle.basics.proofs.Loops.{All, All-imp, keep-all}
+
+-- ---- what all have
+
+module _ {A : Type 0} (P : A → Type 0) where
+  pub All-append : (xs ys : List A) → All P xs → All P ys → All P (xs ++ ys)
+  All-append [] ys a c = c
+  All-append (x ∷ xs) ys a c = (a .0, All-append xs ys (a .1) c)
+
+  pub All-snoc : (xs : List A) (x : A) → All P xs → P x → All P (snoc xs x)
+  All-snoc xs x a p = All-append xs (x ∷ []) a (p, tt)
+
+  pub All-drop : (n : ℕ) (xs : List A) → All P xs → All P (drop n xs)
+  All-drop zero xs a = a
+  All-drop (suc n) [] a = tt
+  All-drop (suc n) (x ∷ xs) a = All-drop n xs (a .1)
+
+  pub All-keep : (p : A → Bool) (xs : List A) → All P xs → All P (keep p xs)
+  All-keep p xs h = All-imp _ P (keep p xs) (λ x i. i .1) (keep-all p P xs h)
+
+pub All-unmap : {A B : Type 0} (P : B → Type 0) (f : A → B) (xs : List A) → All P (map f xs) → All (λ x. P (f x)) xs
+All-unmap P f [] h = tt
+All-unmap P f (x ∷ xs) h = (h .0, All-unmap P f xs (h .1))
+
+pub all-every : {A : Type 0} (p : A → Bool) (xs : List A) → All (λ x. T (p x)) xs → T (every p xs)
+unfolding every
+all-every p [] h = tt
+all-every p (x ∷ xs) h = both (p x) (every p xs) (h .0) (all-every p xs (h .1))
+  where
+    both : (a c : Bool) → T a → T c → T (a && c)
+    both true c s t = t
+    both false c s t = s
+
+pub map-append : {A B : Type 0} (f : A → B) (xs ys : List A) → map f (xs ++ ys) ≡ map f xs ++ map f ys
+map-append f [] ys = refl
+map-append f (x ∷ xs) ys = λ i. f x ∷ map-append f xs ys i
+
+pub keep-none : {A : Type 0} (p : A → Bool) (xs : List A) → All (λ x. p x ≡ false) xs → keep p xs ≡ []
+unfolding keep
+keep-none p [] h = refl
+keep-none p (x ∷ xs) h = rw (h .0) (keep-none p xs (h .1))
+
+-- ---- members
+
+pub or-left : (a b : Bool) → T a → T (a || b)
+or-left true b t = tt
+or-left false b t = absurd t
+
+pub or-right : (a b : Bool) → T b → T (a || b)
+or-right true b t = tt
+or-right false b t = t
+
+pub or-cases : (a b : Bool) → T (a || b) → T a ⊎ T b
+or-cases true b t = inl t
+or-cases false b t = inr t
+
+pub members : (xs : List ℕ) → All (λ x. T (member x xs)) xs
+unfolding member
+members [] = tt
+members (x ∷ xs) = (
+  or-left (eqb x x) (member x xs) (eqb-refl x),
+  All-imp (λ y. T (member y xs)) (λ y. T (member y (x ∷ xs))) xs (λ y h. or-right (eqb y x) (member y xs) h) (members xs),
+)
+
+pub member-has : (P : ℕ → Type 0) (x : ℕ) (xs : List ℕ) → All P xs → T (member x xs) → P x
+unfolding member
+member-has P x [] a t = absurd t
+member-has P x (y ∷ ys) a t = go (or-cases (eqb x y) (member x ys) t) (λ u. member-has P x ys (a .1) u)
+  where
+    go : T (eqb x y) ⊎ T (member x ys) → (T (member x ys) → P x) → P x
+    go (inl e) ih = subst P (sym (eqb→eq x y e)) (a .0)
+    go (inr u) ih = ih u
+
+-- a member keeps its place in any list that has all that the first has
+pub member-sub : (x : ℕ) (xs ys : List ℕ) → All (λ y. T (member y ys)) xs → T (member x xs) → T (member x ys)
+member-sub x xs ys a t = member-has (λ y. T (member y ys)) x xs a t
+
+pub member-front : (x : ℕ) (xs ys : List ℕ) → T (member x xs) → T (member x (xs ++ ys))
+unfolding member
+member-front x [] ys h = absurd h
+member-front x (y ∷ xs) ys h = go (or-cases (eqb x y) (member x xs) h) (λ k. member-front x xs ys k)
+  where
+    go : T (eqb x y) ⊎ T (member x xs) → (T (member x xs) → T (member x (xs ++ ys))) → T (eqb x y || member x (xs ++ ys))
+    go (inl e) ih = or-left (eqb x y) (member x (xs ++ ys)) e
+    go (inr k) ih = or-right (eqb x y) (member x (xs ++ ys)) (ih k)
+
+pub member-last : (x : ℕ) (xs : List ℕ) → T (member x (snoc xs x))
+unfolding member
+member-last x [] = or-left (eqb x x) false (eqb-refl x)
+member-last x (y ∷ xs) = or-right (eqb x y) (member x (snoc xs x)) (member-last x xs)
+
+-- a member's image is among the images
+pub member-map : (f : ℕ → ℕ) (x : ℕ) (xs : List ℕ) → T (member x xs) → T (member (f x) (map f xs))
+unfolding member
+member-map f x [] h = absurd h
+member-map f x (y ∷ xs) h = go (or-cases (eqb x y) (member x xs) h) (λ k. member-map f x xs k)
+  where
+    go : T (eqb x y) ⊎ T (member x xs) → (T (member x xs) → T (member (f x) (map f xs))) → T (eqb (f x) (f y) || member (f x) (map f xs))
+    go (inl e) ih = or-left (eqb (f x) (f y)) (member (f x) (map f xs)) (subst (λ (v : ℕ). T (eqb (f x) (f v))) (eqb→eq x y e) (eqb-refl (f x)))
+    go (inr k) ih = or-right (eqb (f x) (f y)) (member (f x) (map f xs)) (ih k)
+
+-- ---- the numbers a, a + 1, ..
+
+pub upFrom-below : (a n : ℕ) → All (λ k. k < a + n) (upFrom a n)
+unfolding upFrom
+upFrom-below a zero = tt
+upFrom-below a (suc n) =
+    (omega arith, All-imp (λ k. k < suc a + n) (λ k. k < a + suc n) (upFrom (suc a) n) (λ k h. omega arith) (upFrom-below (suc a) n))
+
+pub upFrom-above : (a n : ℕ) → All (λ k. a ≤ k) (upFrom a n)
+unfolding upFrom
+upFrom-above a zero = tt
+upFrom-above a (suc n) = (omega arith, All-imp (λ k. suc a ≤ k) (λ k. a ≤ k) (upFrom (suc a) n) (λ k h. omega arith) (upFrom-above (suc a) n))
+
+pub upFrom-at : (a n i : ℕ) → i < n → getD (upFrom a n) i 0 ≡ a + i
+unfolding upFrom
+upFrom-at a zero i h = absurd (omega arith)
+upFrom-at a (suc n) zero h = omega arith
+upFrom-at a (suc n) (suc i) h = upFrom-at (suc a) n i (omega arith) ∙ omega arith
+
+pub upFrom-length : (a n : ℕ) → length (upFrom a n) ≡ n
+unfolding upFrom
+upFrom-length a zero = refl
+upFrom-length a (suc n) = ap suc (upFrom-length (suc a) n)
+
+-- ---- none twice
+
+abbrev pub Apart : List ℕ → Type 0
+Apart [] = Unit {0}
+Apart (k ∷ ks) = All (λ j. j ≢ k) ks × Apart ks
+
+pub keep-apart : (q : ℕ → Bool) (ks : List ℕ) → Apart ks → Apart (keep q ks)
+unfolding keep
+keep-apart q [] h = tt
+keep-apart q (k ∷ ks) h = go (q k) (keep-apart q ks (h .1))
+  where
+    go : (t : Bool) → Apart (keep q ks) → Apart (consIf t k (keep q ks))
+    go true r = (All-keep (λ j. j ≢ k) q ks (h .0), r)
+    go false r = r
+
+pub upFrom-apart : (a n : ℕ) → Apart (upFrom a n)
+unfolding upFrom
+upFrom-apart a zero = tt
+upFrom-apart a (suc n) = (All-imp (λ k. suc a ≤ k) (λ k. k ≢ a) (upFrom (suc a) n) (λ k l e. omega arith) (upFrom-above (suc a) n), upFrom-apart (suc a) n)
+
+-- ---- how many pass a test
+
+-- a test that passes counts one
+abbrev pub one : Bool → ℕ
+one true = 1
+one false = 0
+
+pub one-at-most : (t : Bool) → one t ≤ 1
+one-at-most true = le-refl 1
+one-at-most false = omega arith
+
+unfoldable pub count : {A : Type 0} → (A → Bool) → List A → ℕ
+count p [] = 0
+count p (x ∷ xs) = one (p x) + count p xs
+
+module _ {A : Type 0} (p : A → Bool) where
+  pub count-length : (xs : List A) → count p xs ≤ length xs
+  unfolding count
+  count-length [] = le-refl 0
+  count-length (x ∷ xs) = omega (arith, count-length xs, one-at-most (p x))
+
+  pub count-keep : (xs : List A) → length (keep p xs) ≡ count p xs
+  unfolding keep count
+  count-keep [] = refl
+  count-keep (x ∷ xs) = go (p x) (count-keep xs)
+    where
+      go : (t : Bool) → length (keep p xs) ≡ count p xs → length (consIf t x (keep p xs)) ≡ one t + count p xs
+      go true h = let z = h in omega arith
+      go false h = let z = h in omega arith

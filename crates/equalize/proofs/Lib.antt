@@ -1,0 +1,4 @@
+pub mod Apart
+pub mod Hot
+pub mod Ends
+pub mod Demand3

@@ -1,0 +1,4 @@
+pub mod Weights
+pub mod Alone
+pub mod Jobs
+pub mod Order
