@@ -9,6 +9,7 @@ use boards::{Board, Call, Case, Equalize, Event, Outcome, Played, Walk};
 use byondapi::{ByondValue, Seen, take_seen};
 use parking_lot::Mutex;
 use std::collections::HashMap;
+use std::time::{Duration, Instant};
 
 fn load(board: &Board) {
     types::load(board.gases as usize, &board.immutable, &board.amounts);
@@ -38,6 +39,21 @@ fn equalize(board: &Board, ask: &Equalize) -> Played {
         events.extend(pressures.into_iter().map(|(amount, from, to)| Event::Pressure { zone: zone as u32, amount, from, to }));
     }
     Played { amounts: types::amounts(), events, cancelled, processed: processed as u32, tests, zones, planned, vented: false }
+}
+
+/// How long the text's `equalize` takes, the board loaded and what it sends to the game not run: the least of so many runs.
+pub fn time_equalize(board: &Board, ask: &Equalize, runs: u32) -> Duration {
+    let hot = ask.hot.iter().copied().collect();
+    let one = |_| {
+        load(board);
+        watch::begin_quiet(ask.threshold);
+        let begun = Instant::now();
+        processing::equalize(ask.limit, &hot, ask.allowance);
+        let taken = begun.elapsed();
+        run_all().expect("what was sent can be called");
+        taken
+    };
+    (0..runs).map(one).min().unwrap_or_default()
 }
 
 /// What a walk shows the game, in order.

@@ -12,6 +12,7 @@ struct Watch {
     threshold: f32,
     asking: bool,
     deferring: bool,
+    quiet: bool,
     requests: Vec<(u16, u32)>,
     zones: Vec<Zone>,
     planned: Vec<Vec<Edge>>,
@@ -46,6 +47,11 @@ pub fn begin(threshold: f32, asking: bool, deferring: bool) {
     with(|w| *w = Watch { threshold, asking, deferring, ..Watch::default() });
 }
 
+/// A new run whose zones are not noted, to be timed.
+pub fn begin_quiet(threshold: f32) {
+    with(|w| *w = Watch { threshold, asking: true, quiet: true, ..Watch::default() });
+}
+
 /// A walk is called, and only noted: true.
 pub fn requested(kind: u16, id: u32) -> bool {
     with(|w| {
@@ -58,14 +64,16 @@ pub fn requested(kind: u16, id: u32) -> bool {
 
 /// A zone was filled; `None`: ignored, or past the clock.
 pub fn filled(zone: Option<(&Graph, f32)>) {
-    if let Some((graph, moles)) = zone {
+    if let Some((graph, moles)) = zone.filter(|_| !with(|w| w.quiet)) {
         with(|w| w.zones.push(Zone { nodes: nodes(graph), edges: edges(graph), moles }));
     }
 }
 
 /// A zone was planned, in the order in which zones were filled.
 pub fn planned(graph: &Graph) {
-    with(|w| w.planned.push(edges(graph)));
+    if !with(|w| w.quiet) {
+        with(|w| w.planned.push(edges(graph)));
+    }
 }
 
 /// A zone is to be finished: it is handed back, or it waits for its turns.

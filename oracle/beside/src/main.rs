@@ -11,6 +11,7 @@ beside published EACH SEED   the text with the FILLED mixture against the text w
 beside numbers EACH SEED     weights and amounts on accepted boards: the largest, and the odd ones
 beside vectors EACH SEED     cases with the text's answers, to standard output
 beside judged EACH SEED      small cases with the text's answers as rows that the checker computes, to standard output
+beside bench                 how long the text's equalize takes on the boards that speed is measured on
 beside paper                 document 01's boards, played by the text: amounts before and after, the answer, the events as lines
 beside stack                 how much stack the text needs on the deepest board";
 
@@ -38,6 +39,15 @@ fn paper() {
         let bytes = outcome.answer[outcome.answer.len() - 1] as usize;
         println!("{}: {:?} -> {:?}, answer {:?}", row.name, row.case.board.amounts, outcome.amounts, outcome.answer);
         boards::events::list(&outcome.events[..bytes]).lines().for_each(|line| println!("    {line}"));
+    }
+}
+
+fn bench() {
+    for (name, case) in boards::bench::boards() {
+        assert_eq!(refusal(&case), 0, "{name}");
+        let boards::Call::Equalize(ask) = &case.call else { continue };
+        let runs = if case.board.ids.len() > 1_000 { 10 } else { 2_000 };
+        println!("{name}: {} ns", filled::play::time_equalize(&case.board, ask, runs).as_nanos());
     }
 }
 
@@ -80,6 +90,7 @@ fn main() {
         ("stack-of", Some(kib), None) => stack_of(kib as usize),
         ("stack", None, None) => stack(),
         ("paper", None, None) => paper(),
+        ("bench", None, None) => bench(),
         _ => println!("{HELP}"),
     }
     eprintln!("{} s", begun.elapsed().as_secs());

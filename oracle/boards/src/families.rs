@@ -44,7 +44,7 @@ fn one_way(links: &mut Links, a: usize, b: usize) {
     }
 }
 
-fn grid(width: usize, height: usize) -> Links {
+pub fn grid(width: usize, height: usize) -> Links {
     let mut links = none(width * height);
     for row in 0..width * height {
         if row + width < width * height {
@@ -57,7 +57,7 @@ fn grid(width: usize, height: usize) -> Links {
     links
 }
 
-fn chain(turfs: usize) -> Links {
+pub fn chain(turfs: usize) -> Links {
     let mut links = none(turfs);
     (1..turfs).for_each(|row| join(&mut links, row - 1, row));
     links

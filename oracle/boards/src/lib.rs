@@ -1,6 +1,7 @@
 //! Boards as document 01 lends them to a call, and what a call leaves in them. Written from the document alone: nothing here calls the
 //! Rust text or the port.
 
+pub mod bench;
 pub mod events;
 pub mod families;
 pub mod model;
