@@ -2,3 +2,5 @@ pub mod Apart
 pub mod Hot
 pub mod Ends
 pub mod Demand3
+pub mod Zones
+pub mod Room
