@@ -1,7 +1,7 @@
 -- Laws of lists: what all have, members, numbers none of which stands twice, how many pass a test. Assumes nothing.
 use mathlib.Core.Path.{_≡_, refl, sym, ap, ap₂, _∙_, subst}
 use mathlib.Core.Logic.{_≢_, _⊎_, inl, inr}
-use mathlib.Core.List.{List, [], _∷_, _++_, map}
+use mathlib.Core.List.{List, [], _∷_, _++_, map, reverse, reverseAux}
 use mathlib.Core.Bool.{Bool, true, false, not, _&&_, _||_, cond}
 use Prim.Native.Nat.{ℕ, zero, suc, _+_, _≤_, _<_}
 use native.Mathlib.Nat.{le-refl}
@@ -255,3 +255,27 @@ pigeonhole (suc n) xs a h =
     smaller : (y : ℕ) (t : Bool) → eqb y n ≡ t → T (not t) → y < suc n → y < n
     smaller y true e u v = absurd u
     smaller y false e u v = let ne : y ≡ n → ⊥ = eqb-false y n e in omega arith
+
+-- ---- counts and parts
+
+module _ {A : Type 0} (p : A → Bool) where
+  pub count-append : (xs ys : List A) → count p (xs ++ ys) ≡ count p xs + count p ys
+  unfolding count
+  count-append [] ys = omega arith
+  count-append (x ∷ xs) ys = omega (arith, count-append xs ys)
+
+  pub count-reverse : (xs : List A) → count p (reverse xs) ≡ count p xs
+  count-reverse xs = go xs [] ∙ unfold count in omega arith
+    where
+      go : (xs ys : List A) → count p (reverseAux xs ys) ≡ count p xs + count p ys
+      go [] ys = unfold count in omega arith
+      go (x ∷ xs) ys = go xs (x ∷ ys) ∙ unfold count in omega arith
+
+  pub count-none : (xs : List A) → All (λ x. p x ≡ false) xs → count p xs ≡ 0
+  unfolding count
+  count-none [] h = refl
+  count-none (x ∷ xs) h = let z : one (p x) ≡ 0 = ap one (h .0) in omega (arith, z, count-none xs (h .1))
+
+pub All-front : {A : Type 0} (P : A → Type 0) (xs ys : List A) → All P (xs ++ ys) → All P xs
+All-front P [] ys h = tt
+All-front P (x ∷ xs) ys h = (h .0, All-front P xs ys (h .1))
