@@ -4,3 +4,4 @@ pub mod Ends
 pub mod Demand3
 pub mod Zones
 pub mod Room
+pub mod Tests
