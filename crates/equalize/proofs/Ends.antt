@@ -1,7 +1,7 @@
 -- Every edge of a kept zone joins two nodes of that zone: a fill adds only such edges, and an ignored zone's are taken back. Assumes nothing.
-use mathlib.Core.Path.{_≡_, refl, sym, ap, _∙_, subst}
+use mathlib.Core.Path.{_≡_, refl, sym, _∙_, subst}
 use mathlib.Core.Logic.{_⊎_, inl, inr}
-use mathlib.Core.List.{List, [], _∷_, _++_}
+use mathlib.Core.List.{List, [], _∷_}
 use mathlib.Core.Bool.{Bool, true, false, cond}
 use Prim.Native.Nat.{ℕ, zero, suc, _+_, _≤_, _<_}
 use native.Mathlib.Decide.{decLt}
@@ -13,11 +13,11 @@ use lib.Ieee.{Float}
 use Rattle.basics.specs.Loops.{member, snoc}
 use Rattle.basics.specs.Floats.{0f}
 use Rattle.turfs.specs.Board.{Board, linkCount, end}
-use Rattle.flood_fill.specs.Fill.{Reach, Fill, fill}
+use Rattle.flood_fill.specs.Fill.{Reach, Fill}
 use Rattle.flood_fill.proofs.Joins.{Has, Joins, fill-joins}
 use Rattle.finalize_eq.specs.Turns.{Zone, nodesAt}
 use Rattle.equalize.specs.Equalize.{Ask, Filled, afterFill, fillFrom, fillAll}
-use Rattle.equalize.proofs.Hot.{Starts, startFilled, fill-all-keeps}
+use Rattle.equalize.proofs.Hot.{Starts, fill-all-keeps}
 
 -- nothing is owned at the start
 pub unowned : (n k : ℕ) → _≡_ {A = ℕ} (getD (replicate n 0) k 0) 0

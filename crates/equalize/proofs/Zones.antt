@@ -1,28 +1,26 @@
 -- What filling comes to on an accepted board: at most N zones, each with a node, N+E nodes in all, 2N requests; no fill runs past the clock unnoticed. Each fill
 -- marks its first turf, owns only links that no zone owned, and asks only where it marks. Assumes nothing.
-use mathlib.Core.Path.{_≡_, refl, sym, ap, _∙_, subst}
-use mathlib.Core.List.{List, [], _∷_, _++_}
+use mathlib.Core.Path.{_≡_, sym, subst}
+use mathlib.Core.List.{List, [], _∷_}
 use mathlib.Core.Bool.{Bool, true, false, cond}
-use Prim.Native.Nat.{ℕ, zero, suc, _+_, _*_, _≤_, _<_}
-use native.Mathlib.Nat.{le-refl, le-trans}
+use Prim.Native.Nat.{ℕ, _+_, _*_, _≤_, _<_}
 use native.Mathlib.Omega.{arith}
 use lib.Dec.{T}
-use lib.ListN.{length, getD, set, replicate, length-append, length-replicate}
+use lib.ListN.{length, getD, set, length-append, length-replicate}
 use lib.Ieee.{Float}
 use Rattle.basics.specs.Loops.{run, snoc}
 use Rattle.basics.proofs.Loops.{All, run-append}
-use Rattle.basics.proofs.Lists.{All-snoc, count}
+use Rattle.basics.proofs.Lists.{All-snoc}
 use Rattle.turfs.specs.Board.{Board, turfCount, linkCount}
 use Rattle.turfs.proofs.Accepted.{Accepted, source}
-use Rattle.events.specs.declared.Event.{Event}
 use Rattle.events.proofs.Compared.{isRequest}
-use Rattle.flood_fill.specs.Fill.{Reach, Fill, isOver, fill}
-use Rattle.flood_fill.proofs.Counts.{isMark, marked, marked-length, mark-new, was-new, Counted, fill-counts}
+use Rattle.flood_fill.specs.Fill.{Fill, fill}
+use Rattle.flood_fill.proofs.Counts.{marked, marked-length, mark-new, was-new, Counted, fill-counts}
 use Rattle.flood_fill.proofs.Owned.{Fresh, fill-fresh}
 use Rattle.flood_fill.proofs.Rest.{Clocked, fill-clocked}
 use Rattle.finalize_eq.specs.Turns.{Zone, nodeCount}
 use Rattle.equalize.specs.Equalize.{Ask, Filled, afterFill, fillFrom, fillAll}
-use Rattle.equalize.proofs.Hot.{Starts, startFilled, fill-all-keeps}
+use Rattle.equalize.proofs.Hot.{Starts, fill-all-keeps}
 use Rattle.equalize.proofs.Ends.{unowned}
 
 pub count-snoc : (zs : List Zone) (z : Zone) → nodeCount (snoc zs z) ≡ nodeCount zs + length (z .nodes)

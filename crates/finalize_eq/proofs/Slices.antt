@@ -4,7 +4,7 @@ use mathlib.Core.Path.{_≡_, refl, sym, ap, _∙_, subst}
 use mathlib.Core.Logic.{_⊎_, inl, inr}
 use mathlib.Core.List.{List, [], _∷_, map}
 use mathlib.Core.Bool.{Bool, true, false, not, cond}
-use Prim.Native.Nat.{ℕ, zero, suc, _+_, _≤_, _<_}
+use Prim.Native.Nat.{ℕ, zero, suc, _<_}
 use native.Mathlib.Decide.{ℕ-discrete, decLt}
 use native.Mathlib.Omega.{arith}
 use lib.Dec.{T, eqb, eqb→eq, eqb-refl}
@@ -17,7 +17,7 @@ use Rattle.basics.proofs.Loops.{All, All-any, All-imp, All-map, run-keeps, run-
 use Rattle.basics.proofs.Lists.{members, member-has, or-left, or-right, or-cases, all-every, keep-none}
 use Rattle.turfs.specs.Board.{Board, end}
 use Rattle.mixture.specs.Mixture.{total}
-use Rattle.process_zone.specs.Edges.{edgesOf, edge, alter}
+use Rattle.process_zone.specs.Edges.{edgesOf, edge}
 use Rattle.process_zone.proofs.Sizes.{alter-size}
 use Rattle.finalize_eq.specs.Finish.{Done, Pair, zeroLifted, positive, negative, pairs, finishGivers, send, finishPair, finish}
 use Rattle.finalize_eq.proofs.Weights.{above, lift-size, Below, lift-below, alter-below, lift-zero}

@@ -1,9 +1,9 @@
 -- A fill gives its zone only edges that join two of the zone's nodes, and leaves every other link as it was owned. Assumes nothing.
 use mathlib.Core.Path.{_≡_, refl, sym, ap, _∙_, subst}
 use mathlib.Core.Logic.{_⊎_, inl, inr}
-use mathlib.Core.List.{List, [], _∷_, _++_}
-use mathlib.Core.Bool.{Bool, true, false, not, _&&_, _||_, cond}
-use Prim.Native.Nat.{ℕ, zero, suc, _+_, _<_}
+use mathlib.Core.List.{List, [], _∷_}
+use mathlib.Core.Bool.{Bool, true, false, _&&_, cond}
+use Prim.Native.Nat.{ℕ, _+_, _<_}
 use native.Mathlib.Decide.{ℕ-discrete, decLt}
 use native.Mathlib.Omega.{arith}
 use lib.Dec.{T, eqb, eqb-refl}
@@ -11,12 +11,12 @@ use lib.ListN.{length, getD, set}
 use lib.Seq.{getD-set-same, getD-set-other, set-out}
 use lib.Ieee.{Float}
 use Rattle.basics.specs.Loops.{member, snoc}
-use Rattle.basics.proofs.Loops.{All, All-imp, All-getD, cond-both}
+use Rattle.basics.proofs.Loops.{All, All-imp, cond-both}
 use Rattle.basics.proofs.Lists.{All-snoc, or-left, member-has, member-front, member-last}
-use Rattle.turfs.specs.Board.{Board, idOf, end, enabled, planetary, immutable, firelock, linksOf}
+use Rattle.turfs.specs.Board.{Board, end, enabled, linksOf}
 use Rattle.events.specs.declared.Event.{Event}
-use Rattle.flood_fill.specs.Fill.{Reach, Fill, insert, reachLink, fill}
-use Rattle.flood_fill.proofs.Steps.{startReach, Keeps, fill-keeps}
+use Rattle.flood_fill.specs.Fill.{Reach, insert, reachLink, fill}
+use Rattle.flood_fill.proofs.Steps.{Keeps, fill-keeps}
 
 pub inserted : (x : ℕ) (xs : List ℕ) → T (member x (insert x xs))
 unfolding insert
