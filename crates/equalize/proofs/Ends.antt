@@ -73,3 +73,11 @@ module _ (b : Board) where
         from : (r : ℕ) (s : Filled) → Starts b gas q r s → Good s → Good (fillFrom b gas q r s)
         from r s _ g = unfold fillFrom in
             kept-good _ s g (fill-joins b (length (s .zones)) (s .owner) gas (q .limit) (q .allowance) r (s .found) (s .events) (s .tests))
+
+    -- an owned link is one of a kept zone
+    pub owner-kept : (z k : ℕ) → getD (fillAll b gas q .owner) k 0 ≡ z + 1 → z < length (fillAll b gas q .zones)
+    owner-kept z k e = go (decLt z (length (fillAll b gas q .zones)))
+      where
+        go : Dec (z < length (fillAll b gas q .zones)) → z < length (fillAll b gas q .zones)
+        go (yes l) = l
+        go (no l) = absurd (no-node (fillAll b gas q .zones) z (end b k) (omega arith) (fill-ends z k e .0))

@@ -1,4 +1,5 @@
--- Any two lists of jobs that give each zone the same turfs in the same order come to the same gas, weights, others, and records of each zone. Assumes nothing.
+-- Any two lists of jobs that give each zone the same turfs in the same order come to the same gas, records of each zone and other
+-- records: seen by a zone, the run of all the jobs is the run of its own. Assumes nothing.
 use mathlib.Core.Path.{_≡_, refl, sym, ap, _∙_, subst}
 use mathlib.Core.Logic.{_≢_, _⊎_, inl, inr}
 use mathlib.Core.List.{List, [], _∷_, map}

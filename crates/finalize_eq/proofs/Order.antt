@@ -1,4 +1,4 @@
--- The jobs that a list of turns makes: each zone has its nodes, in order, once, whatever the turns. Assumes nothing.
+-- The jobs that a list of turns makes: each zone has its nodes, in order, once, whatever the turns, since a turn takes the next node of one zone. Assumes nothing.
 use mathlib.Core.Path.{_≡_, refl, sym, ap, ap₂, _∙_}
 use mathlib.Core.Logic.{_≢_, _⊎_, inl, inr}
 use mathlib.Core.List.{List, [], _∷_, _++_, map, append-nil}
