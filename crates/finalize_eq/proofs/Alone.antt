@@ -1,4 +1,5 @@
--- Finishing in one zone: it changes nothing outside the zone, and what it does turns on nothing outside it. Assumes nothing.
+-- Finishing in one zone changes nothing outside the zone, and what it does turns on nothing outside it: it reads and stores only weights of the zone's edges, and
+-- amounts of mixtures at their ends. Assumes nothing.
 use mathlib.Core.Path.{_≡_, refl, sym, ap, _∙_, subst}
 use mathlib.Core.Logic.{_≢_}
 use mathlib.Core.List.{List, []}

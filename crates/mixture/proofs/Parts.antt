@@ -1,4 +1,4 @@
--- Mixtures in the flat list: what a store of one mixture's amounts leaves, and what a move of air reads and changes. Assumes nothing.
+-- What a move of air reads and changes: mixtures lie side by side in one list, so a store of one leaves the others. Assumes nothing.
 use mathlib.Core.Path.{_≡_, refl, sym, ap, ap₂, _∙_, subst}
 use mathlib.Core.Logic.{_≢_}
 use mathlib.Core.List.{List, [], _∷_, _++_, append-assoc}
