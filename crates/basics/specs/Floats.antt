@@ -5,12 +5,14 @@ use Prim.Native.Nat.{ℕ}
 use lib.IntN.{pos}
 use lib.Ieee.{Float, nan, inf, fin, binary32, add, sub, mul, div, ofInt, ofBits, toBits}
 
+-- 0.0, 1.0
 abbrev pub 0f : Float
 0f = ofBits binary32 0
 
 abbrev pub 1f : Float
 1f = ofBits binary32 0x3f80_0000
 
+-- `x + y` and so on
 abbrev pub _+f_ : Float → Float → Float
 x +f y = add binary32 x y
 

@@ -33,6 +33,7 @@ pub record Back : Type 0 where
   pub events : List Event
   pub rips : List Event  -- `floor_rip_turfs`
 
+-- what the operation comes to
 pub record Depressurized : Type 0 where
   pub outcome : ℕ
   pub gas : List Float

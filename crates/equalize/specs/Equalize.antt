@@ -109,6 +109,7 @@ module _ (b : Board) where
 
 -- ---- the whole
 
+-- what the operation comes to
 pub record Equalized : Type 0 where
   pub cancelled : ℕ
   pub processed : ℕ

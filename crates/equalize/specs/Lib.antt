@@ -1,2 +1,3 @@
 pub mod Equalize
 pub mod Result
+pub mod Worked

@@ -1,2 +1,3 @@
 pub mod Edges
 pub mod Plan
+pub mod Worked

@@ -41,10 +41,11 @@ store s r i = record {
 abbrev pub reweigh : (List Float → List Float) → Plan → Plan
 reweigh f s = record { weight = f (s .weight); delta = s .delta; amount = s .amount; direction = s .direction; fast = s .fast }
 
--- a planning state with one field set anew
+-- a planning state with another delta
 abbrev pub withDelta : Float → MonstermosInfo → MonstermosInfo
 withDelta x i = record { delta = x; amount = i .amount; direction = i .direction; fast = i .fast }
 
+-- a planning state with another amount
 abbrev pub withAmount : Float → MonstermosInfo → MonstermosInfo
 withAmount x i = record { delta = i .delta; amount = x; direction = i .direction; fast = i .fast }
 
@@ -58,10 +59,14 @@ log2 n = 31 - leadingZeros 32 n
 
 -- ---- what the two sides ask: one search serves `give_to_takers` and `take_from_givers`
 
--- the turfs that give, or that take: delta 0 takes
+-- delta above 0 is a giver, else a taker
+abbrev pub gives : Float → Bool
+gives x = lt 0f x
+
+-- the turfs that give, or that take
 abbrev pub picks : Side → Float → Bool
-picks Giving x = lt 0f x
-picks Taking x = not (lt 0f x)
+picks Giving x = gives x
+picks Taking x = not (gives x)
 
 -- the turf in hand has nothing more to give, or to take
 abbrev pub settled : Side → Float → Bool
@@ -82,8 +87,9 @@ more Taking x y = lt (neg x) y
 unfoldable pub chosen : Side → List ℕ → Plan → List ℕ
 chosen side nodes s = keep (λ r. picks side (getD (s .delta) r nan)) nodes
 
--- ---- one search; its queue is an `IndexSet`, the rows in order of insertion
+-- ---- one search
 
+-- what it has come to; the queue is an `IndexSet`, the rows in order of insertion
 pub record Seek : Type 0 where
   pub queue : List ℕ
   pub looked : ℕ  -- `queue_idx`
@@ -105,12 +111,12 @@ trade side g a s =
     let can = wants side (i .delta) in
     let all = more side x (i .delta) in
     let met : MonstermosInfo = record {
-      delta = if can then if all then i .delta +f x else 0f else i .delta;
-      amount = if can then if all then i .amount -f x else i .amount +f i .delta else i .amount;
+      delta = if can then (if all then i .delta +f x else 0f) else i .delta;
+      amount = if can then (if all then i .amount -f x else i .amount +f i .delta) else i .amount;
       direction = i .direction;
       fast = i .fast;
     } in
-    store (store s a met) g (withDelta (if can then if all then 0f else x +f i .delta else x) (load s g))
+    store (store s a met) g (withDelta (if can then (if all then 0f else x +f i .delta) else x) (load s g))
 
 -- a turf met for the first time, from r
 unfoldable pub meet : Side → ℕ → ℕ → ℕ → Plan → Plan
@@ -143,7 +149,7 @@ module _ (b : Board) (owner : List ℕ) (z : ℕ) where
   fastTurf r s =
       let i = load s r in
       let p = store s r (record { delta = i .delta; amount = i .amount; direction = i .direction; fast = 1 }) in
-      let ks = if lt 0f (i .delta) then eligible p r else [] in
+      let ks = if gives (i .delta) then eligible p r else [] in
       let x = i .delta /f countOf ks in
       run (λ k t. fastMove r x (end b k) t) ks p
 

@@ -11,6 +11,7 @@ use Rattle.mixture.specs.Mixture.{sum, scale, plus, ratio, remove, amounts, cha
 use Rattle.events.specs.Events.{kindOf, fieldsOf, sound, wordsBytes, encode, encodeAll, sizeOf, decode, whole as wholeRecord, readAt, readNumbers}
 use Rattle.events.specs.Lister.{digits, hex, line, badLine, listReading, listNext, listAll, listing}
 use Rattle.lent.specs.Lent.{wordsRoom, floatsRoom, firstFailed, refusal, after}
+use Rattle.lent.specs.Worked.{lend, left, unchanged}
 use Rattle.flood_fill.specs.Fill.{insert, endFill, reachLink, expand, pop, popNext, fill}
 use Rattle.process_zone.specs.Edges.{edgesOf, edge, adjust}
 use Rattle.process_zone.specs.Plan.{chosen, trade, meet, seekTo, fastMove, eligible, fastTurf, seekLink, seekRow, seekNext, drainTo, drain, serve, fastPass, shareOut, deltas, planZone}
@@ -18,14 +19,16 @@ use Rattle.finalize_eq.specs.Finish.{zeroLifted, pairs, finishGivers, send, fin
 use Rattle.finalize_eq.specs.Turns.{nodeCount, unfinished, jobsLeft, inOrder, order, turnOrder, work, finishAll}
 use Rattle.equalize.specs.Equalize.{afterFill, near, passedOver, fillFrom, hotRow, hotId, fillAll, planAll, hasMix, apart, cancel, planned, played, equalize}
 use Rattle.equalize.specs.Result.{equalizeNumber, equalizeDone, equalizeResult}
+use Rattle.equalize.specs.Worked.{numbers, equalizes, refused}
 use Rattle.walks.specs.Walk.{walkLink, spread, walkNext, walk}
 use Rattle.planet_walk.specs.Planet.{visitPlanet, planetFrom, planetWalk, planetNumber, planetDone, planetResult}
+use Rattle.planet_walk.specs.Worked.{walksPlanet}
 use Rattle.depressurize.specs.Depressurize.{atSpace, visitSpace, outLink, outRow, outNext, outward, backTo, back, wayBack, fromWalk, fromRow, depressurize, depressurizeNumber, depressurizeDone, depressurizeResult}
-use Rattle.table.specs.Row.{lend, left, unchanged, numbers, numbersD, numbersP, holds}
-use Rattle.table.specs.Rows.{documentRows, misreadRows, ruleRows, refusalRows, eventRows, rows}
+use Rattle.depressurize.specs.Worked.{depressurizes}
+use Rattle.table.specs.Rows.{marks, rooms, writes, documentRows, misreadRows, ruleRows, refusalRows, rows}
 
-pub table : T (every holds rows)
-unfolding rows documentRows misreadRows ruleRows refusalRows eventRows whole exact lend left unchanged numbers numbersD numbersP holds
+pub table : T (allOf rows)
+unfolding rows documentRows misreadRows ruleRows refusalRows marks rooms writes whole exact lend left unchanged equalizes refused numbers depressurizes walksPlanet
     run times keep every allOf upFrom member first same finite finiteSignClear bits
     enabled planetary immutable firelock linksOf rowOf pairwise distinct sizesFit tablesFit rowFits linksFit startsFrom allWays draw sharing withGases
     sum scale plus ratio remove amounts change totalMix total moveAir clearAir amountFits

@@ -1,36 +1,56 @@
 -- The rows: document 01's P1 to P12 and six-node boards, and for each misreading and each way to cheat a board that shows it.
 use mathlib.Core.List.{List, [], _∷_, _++_}
+use mathlib.Core.Bool.{Bool}
 use Prim.Native.Nat.{ℕ}
 use lib.ListN.{replicate}
 use lib.Ieee.{Float}
+use Rattle.basics.specs.Loops.{same}
 use Rattle.basics.specs.Floats.{0f, ofCount, ofWord, whole, exact}
 use Rattle.turfs.specs.Board.{Board}
 use Rattle.turfs.specs.Draw.{Turf, to, lock, turf, disabled, planet, space, draw, sharing, withGases, pairWith, twenty, boardA, chain, lockedPair, lockedChain, asIs, star, four, ring, six, breached}
+use Rattle.events.specs.Events.{encodeAll}
+use Rattle.events.specs.Lister.{listing}
+use Rattle.events.specs.Worked.{p1Bytes}
 use Rattle.events.specs.declared.Event.{Event}
-use Rattle.events.specs.declared.Event.the-variants.{DepressurizeWanted, PlanetWanted, Pressure, Firelock, Target, HighPressure, Difference, FloorRip}
-use Rattle.lent.specs.Lent.{Lent}
-use Rattle.equalize.specs.Equalize.{Ask}
+use Rattle.events.specs.declared.Event.the-variants.{DepressurizeWanted, PlanetWanted, Pressure, Firelock, Target, HighPressure, FloorRip}
+use Rattle.lent.specs.Lent.{Lent, wordsRoom, floatsRoom}
+use Rattle.lent.specs.Worked.{lend, lessArea, lessWords, lessFloats}
+use Rattle.equalize.specs.Equalize.{Ask, fillAll, planAll}
 use Rattle.equalize.specs.Result.{equalizeRoom}
-use Rattle.table.specs.Row.{Row, equalizes, refused, depressurizes, walksPlanet, marks, rooms, writes, reads, lists, ask, limited, allowed, threshold, done, cancelled, lend, lessArea, lessWords, lessFloats}
+use Rattle.equalize.specs.Worked.{ask, limited, allowed, threshold, done, cancelled, equalizes, refused}
+use Rattle.planet_walk.specs.Planet.{planetRoom}
+use Rattle.planet_walk.specs.Worked.{walksPlanet}
+use Rattle.depressurize.specs.Depressurize.{depressurizeRoom}
+use Rattle.depressurize.specs.Worked.{depressurizes, difference}
+
+-- which turfs have the fast mark after planning
+unfoldable pub marks : Board → Ask → List Float → List ℕ → Bool
+marks b q gas ms = same (planAll b gas (fillAll b gas q) .fast) ms
+
+-- the words, floats and event bytes of the three calls that a board needs
+unfoldable pub rooms : Board → List ℕ → Bool
+rooms b ns = same (wordsRoom b ∷ floatsRoom b ∷ equalizeRoom b ∷ depressurizeRoom b ∷ planetRoom b ∷ []) ns
+
+-- bytes that events are written as
+unfoldable pub writes : List Event → List ℕ → Bool
+writes es bs = same (encodeAll es) bs
 
 -- P1's event
 abbrev pub p1 : List Event
 p1 = Pressure 0 (ofCount 8) 10 20 ∷ []
-
--- its bytes
-abbrev pub p1Bytes : List ℕ
-p1Bytes = 0x14 ∷ 0 ∷ 3 ∷ 0 ∷ 0 ∷ 0 ∷ 0 ∷ 0 ∷ 0 ∷ 0 ∷ 0 ∷ 0x41 ∷ 0x0a ∷ 0 ∷ 0 ∷ 0 ∷ 0x14 ∷ 0 ∷ 0 ∷ 0 ∷ []
 
 -- A and a twin, 30 and 40
 abbrev pub twins : Board
 twins = draw (turf 10 (to 1 ∷ []) ∷ turf 20 (to 0 ∷ []) ∷ turf 30 (to 3 ∷ []) ∷ turf 40 (to 2 ∷ []) ∷ [])
 
 -- P1 to P12, and the six-node boards
-unfoldable pub documentRows : List Row
+unfoldable pub documentRows : List Bool
 documentRows =
     -- P1
     equalizes boardA (ask (10 ∷ [])) [] (whole (32 ∷ 16 ∷ [])) (done 2 4 1 1 20) (whole (24 ∷ 24 ∷ [])) p1
     ∷ writes p1 p1Bytes
+    -- "3 0 41000000 10 20"
+    ∷ same (listing p1Bytes) (51 ∷ 32 ∷ 48 ∷ 32 ∷ 52 ∷ 49 ∷ 48 ∷ 48 ∷ 48 ∷ 48 ∷ 48 ∷ 48 ∷ 32 ∷ 49 ∷ 48 ∷ 32 ∷ 50 ∷ 48 ∷ 10 ∷ [])
     -- P2, P3, P4
     ∷ equalizes boardA (allowed 4 (ask (10 ∷ []))) [] (whole (32 ∷ 16 ∷ [])) (done 2 4 1 1 20) (whole (24 ∷ 24 ∷ [])) p1
     ∷ equalizes boardA (allowed 3 (ask (10 ∷ []))) [] (whole (32 ∷ 16 ∷ [])) (cancelled 2 4 0) (whole (32 ∷ 16 ∷ [])) []
@@ -57,9 +77,9 @@ documentRows =
     ∷ equalizes twins (ask (10 ∷ 30 ∷ [])) [] (whole (32 ∷ 16 ∷ 32 ∷ 16 ∷ [])) (done 4 6 2 1 40) (whole (24 ∷ 24 ∷ 24 ∷ 24 ∷ []))
     (Pressure 0 (ofCount 8) 10 20 ∷ Pressure 1 (ofCount 8) 30 40 ∷ [])
     -- P12: limit 10, then limit 0
-    ∷ depressurizes (pairWith (space twenty)) 10 10 (whole (32 ∷ 0 ∷ [])) 2 84 (whole (0 ∷ 0 ∷ []))
-    (Target 20 20 ∷ Target 10 20 ∷ HighPressure 10 ∷ Difference 10 0f 10 10 ∷ Difference 10 0f 10 10 ∷ FloorRip 10 0f ∷ [])
-    ∷ depressurizes (pairWith (space twenty)) 0 10 (whole (32 ∷ 0 ∷ [])) 0 0 (whole (32 ∷ 0 ∷ [])) []
+    ∷ depressurizes (pairWith (space twenty)) 10 10 (32 ∷ 0 ∷ []) 2 84 (0 ∷ 0 ∷ [])
+    (Target 20 20 ∷ Target 10 20 ∷ HighPressure 10 ∷ difference 10 0 ∷ difference 10 0 ∷ FloorRip 10 0f ∷ [])
+    ∷ depressurizes (pairWith (space twenty)) 0 10 (32 ∷ 0 ∷ []) 0 0 (32 ∷ 0 ∷ []) []
     -- six nodes, three givers: fast pass; two givers: none
     ∷ marks six (ask (1 ∷ [])) (whole (20 ∷ 0 ∷ 20 ∷ 0 ∷ 20 ∷ 0 ∷ [])) (replicate 6 1)
     ∷ marks six (ask (1 ∷ [])) (whole (30 ∷ 30 ∷ 0 ∷ 0 ∷ 0 ∷ 0 ∷ [])) (replicate 6 0)
@@ -85,7 +105,7 @@ tangle = sharing (3 ∷ 5 ∷ 4 ∷ 0 ∷ 3 ∷ 3 ∷ []) 6 (draw (
     ∷ []))
 
 -- the misreadings that P1 to P12 let pass
-unfoldable pub misreadRows : List Row
+unfoldable pub misreadRows : List Bool
 misreadRows =
     -- as many givers as takers: takers take
     equalizes four (askAll (10 ∷ 20 ∷ 30 ∷ 40 ∷ [])) [] (whole (32 ∷ 0 ∷ 0 ∷ 16 ∷ [])) (done 4 6 1 1 60) (whole (12 ∷ 12 ∷ 12 ∷ 12 ∷ []))
@@ -108,8 +128,8 @@ misreadRows =
     ∷ Pressure 0 (ofWord 0x3f63_8e40) 30 40
     ∷ [])
     -- a disabled turf is reached from space
-    ∷ depressurizes (draw (space (turf 10 (to 1 ∷ [])) ∷ disabled (turf 20 (to 0 ∷ [])) ∷ [])) 100 10 (whole (0 ∷ 8 ∷ [])) 2 84 (whole (0 ∷ 0 ∷ []))
-    (Target 10 10 ∷ Target 20 10 ∷ HighPressure 20 ∷ Difference 20 0f 20 20 ∷ Difference 20 0f 20 20 ∷ FloorRip 20 0f ∷ [])
+    ∷ depressurizes (draw (space (turf 10 (to 1 ∷ [])) ∷ disabled (turf 20 (to 0 ∷ [])) ∷ [])) 100 10 (0 ∷ 8 ∷ []) 2 84 (0 ∷ 0 ∷ [])
+    (Target 10 10 ∷ Target 20 10 ∷ HighPressure 20 ∷ difference 20 0 ∷ difference 20 0 ∷ FloorRip 20 0f ∷ [])
     -- the planet turf's total is not added
     ∷ equalizes star (limited 3 (ask (10 ∷ []))) [] (whole (32 ∷ 16 ∷ 16 ∷ 8 ∷ [])) (done 4 6 1 1 20) (whole (24 ∷ 16 ∷ 16 ∷ 16 ∷ []))
     (Pressure 0 (ofCount 8) 10 40 ∷ [])
@@ -127,7 +147,7 @@ chains = draw (
     ∷ [])
 
 -- each rule that a cheat could drop
-unfoldable pub ruleRows : List Row
+unfoldable pub ruleRows : List Bool
 ruleRows =
     -- a turn is one node, c mod the unfinished zones; a used-up list goes on with the lowest zone
     equalizes chains (ask (10 ∷ 40 ∷ [])) (3 ∷ 0 ∷ []) (whole (32 ∷ 8 ∷ 32 ∷ 32 ∷ 8 ∷ 32 ∷ [])) (done 6 8 2 1 80) (replicate 6 (ofCount 24))
@@ -156,29 +176,29 @@ ruleRows =
     -- a break at the planet limit leaves a turf in two zones: not apart
     ∷ equalizes (draw (planet (turf 10 (to 1 ∷ [])) ∷ twenty ∷ [])) (limited 0 (ask (10 ∷ 20 ∷ []))) [] (whole (32 ∷ 16 ∷ [])) (done 3 4 2 0 0) (whole (32 ∷ 16 ∷ [])) []
     -- kind 4; the limit counts from 1 on both walks
-    ∷ depressurizes (lockedChain asIs space) 2 10 (whole (32 ∷ 16 ∷ 4 ∷ [])) 2 160 (whole (0 ∷ 0 ∷ 4 ∷ []))
+    ∷ depressurizes (lockedChain asIs space) 2 10 (32 ∷ 16 ∷ 4 ∷ []) 2 160 (0 ∷ 0 ∷ 4 ∷ [])
     (Firelock 10 20 ∷ Firelock 20 30 ∷ Target 30 30 ∷ Target 20 30 ∷ Target 10 30
-    ∷ HighPressure 10 ∷ Difference 10 (ofCount 16) 10 10
-    ∷ HighPressure 20 ∷ Difference 20 (ofCount 20) 20 20 ∷ Difference 20 (ofCount 20) 20 20
+    ∷ HighPressure 10 ∷ difference 10 16
+    ∷ HighPressure 20 ∷ difference 20 20 ∷ difference 20 20
     ∷ FloorRip 10 (ofCount 16) ∷ FloorRip 20 (ofCount 4) ∷ [])
     -- the limit on the way out
-    ∷ depressurizes (draw (turf 10 (to 1 ∷ []) ∷ turf 20 (to 0 ∷ to 2 ∷ []) ∷ space (turf 30 (to 1 ∷ [])) ∷ [])) 1 20 (whole (32 ∷ 16 ∷ 4 ∷ [])) 2 84 (whole (32 ∷ 0 ∷ 4 ∷ []))
-    (Target 30 30 ∷ Target 20 30 ∷ HighPressure 20 ∷ Difference 20 (ofCount 4) 20 20 ∷ Difference 20 (ofCount 4) 20 20 ∷ FloorRip 20 (ofCount 4) ∷ [])
+    ∷ depressurizes (draw (turf 10 (to 1 ∷ []) ∷ turf 20 (to 0 ∷ to 2 ∷ []) ∷ space (turf 30 (to 1 ∷ [])) ∷ [])) 1 20 (32 ∷ 16 ∷ 4 ∷ []) 2 84 (32 ∷ 0 ∷ 4 ∷ [])
+    (Target 30 30 ∷ Target 20 30 ∷ HighPressure 20 ∷ difference 20 4 ∷ difference 20 4 ∷ FloorRip 20 (ofCount 4) ∷ [])
     -- outcome 1, events so far staying
-    ∷ depressurizes (draw (turf 10 (lock 1 ∷ to 2 ∷ []) ∷ space twenty ∷ planet (turf 30 (to 0 ∷ [])) ∷ [])) 10 10 (whole (32 ∷ 0 ∷ 4 ∷ [])) 1 24 (whole (32 ∷ 0 ∷ 4 ∷ []))
+    ∷ depressurizes (draw (turf 10 (lock 1 ∷ to 2 ∷ []) ∷ space twenty ∷ planet (turf 30 (to 0 ∷ [])) ∷ [])) 10 10 (32 ∷ 0 ∷ 4 ∷ []) 1 24 (32 ∷ 0 ∷ 4 ∷ [])
     (Firelock 10 20 ∷ Target 20 20 ∷ [])
     -- a planetary turf expands, within the limit
     ∷ walksPlanet (draw (planet (turf 10 (lock 1 ∷ [])) ∷ turf 20 (to 0 ∷ lock 2 ∷ []) ∷ turf 30 (to 1 ∷ lock 3 ∷ []) ∷ turf 40 (to 2 ∷ []) ∷ []))
-    2 10 (whole (32 ∷ 0 ∷ 4 ∷ 4 ∷ [])) 24 (Firelock 10 20 ∷ Firelock 20 30 ∷ [])
+    2 10 (32 ∷ 0 ∷ 4 ∷ 4 ∷ []) 24 (Firelock 10 20 ∷ Firelock 20 30 ∷ [])
     -- no planetary turf met: it ends after the first
-    ∷ walksPlanet (lockedChain planet asIs) 10 10 (whole (32 ∷ 0 ∷ 4 ∷ [])) 12 (Firelock 10 20 ∷ [])
+    ∷ walksPlanet (lockedChain planet asIs) 10 10 (32 ∷ 0 ∷ 4 ∷ []) 12 (Firelock 10 20 ∷ [])
     -- immutable ends it
     ∷ walksPlanet (draw (planet (turf 10 (lock 1 ∷ lock 2 ∷ [])) ∷ space (turf 20 []) ∷ turf 30 (lock 3 ∷ []) ∷ turf 40 (to 2 ∷ []) ∷ []))
-    10 10 (whole (32 ∷ 0 ∷ 4 ∷ 4 ∷ [])) 24 (Firelock 10 20 ∷ Firelock 10 30 ∷ [])
+    10 10 (32 ∷ 0 ∷ 4 ∷ 4 ∷ []) 24 (Firelock 10 20 ∷ Firelock 10 30 ∷ [])
     -- unknown ids
     ∷ equalizes boardA (ask (11 ∷ [])) [] (whole (32 ∷ 16 ∷ [])) (done 0 2 0 1 0) (whole (32 ∷ 16 ∷ [])) []
-    ∷ depressurizes (pairWith (space twenty)) 10 11 (whole (32 ∷ 0 ∷ [])) 0 0 (whole (32 ∷ 0 ∷ [])) []
-    ∷ walksPlanet (lockedPair (planet twenty)) 10 11 (whole (32 ∷ 0 ∷ [])) 0 []
+    ∷ depressurizes (pairWith (space twenty)) 10 11 (32 ∷ 0 ∷ []) 0 0 (32 ∷ 0 ∷ []) []
+    ∷ walksPlanet (lockedPair (planet twenty)) 10 11 (32 ∷ 0 ∷ []) 0 []
     ∷ []
 
 -- what A is lent
@@ -204,7 +224,7 @@ abbrev pub lentAmounts : List Float → Lent
 lentAmounts gas = lend boardA (equalizeRoom boardA) gas
 
 -- the refusals, each before the next one, and rooms
-unfoldable pub refusalRows : List Row
+unfoldable pub refusalRows : List Bool
 refusalRows =
     refused (tablesA (10 ∷ 20 ∷ []) (2 ∷ 2 ∷ []) (0 ∷ 1 ∷ 2 ∷ []) (1 ∷ 0 ∷ []) 0) (ask (10 ∷ [])) [] lentA 1
     ∷ refused (tablesA (20 ∷ 10 ∷ []) (2 ∷ []) (0 ∷ 1 ∷ 2 ∷ []) (1 ∷ 0 ∷ []) 1) (ask (10 ∷ [])) [] lentA 2
@@ -215,51 +235,13 @@ refusalRows =
     ∷ refused boardA (ask (10 ∷ [])) [] (lentAmounts (exact (0x5380_0001 ∷ 0 ∷ []))) 5
     ∷ refused boardA (ask (10 ∷ [])) [] (lentAmounts (exact (0x8000_0000 ∷ 0 ∷ []))) 5
     ∷ refused boardA (threshold 0xbf00_0000 (ask (10 ∷ []))) [] lentA 5
-    ∷ refused boardA (ask (10 ∷ 10 ∷ [])) [] (lessArea lentA) 6
-    ∷ refused boardA (ask (10 ∷ [])) [] (lessArea lentA) 7
-    ∷ refused boardA (ask (10 ∷ [])) [] (lessWords lentA) 7
-    ∷ refused boardA (ask (10 ∷ [])) [] (lessFloats lentA) 7
+    ∷ refused boardA (ask (10 ∷ 10 ∷ [])) [] (lessArea 4 lentA) 6
+    ∷ refused boardA (ask (10 ∷ [])) [] (lessArea 4 lentA) 7
+    ∷ refused boardA (ask (10 ∷ [])) [] (lessWords 4 lentA) 7
+    ∷ refused boardA (ask (10 ∷ [])) [] (lessFloats 4 lentA) 7
     ∷ rooms boardA (60 ∷ 12 ∷ 72 ∷ 168 ∷ 24 ∷ [])
     ∷ []
 
--- an event of each kind
-abbrev pub kinds : List Event
-kinds =
-    DepressurizeWanted 1 ∷ PlanetWanted 2 ∷ Pressure 3 (ofCount 1) 4 5 ∷ Firelock 6 7 ∷ Target 8 9 ∷ HighPressure 10
-    ∷ Difference 11 (ofCount 2) 12 13 ∷ FloorRip 14 0f ∷ []
-
--- their bytes
-abbrev pub kindsBytes : List ℕ
-kindsBytes =
-    8 ∷ 0 ∷ 1 ∷ 0 ∷ 1 ∷ 0 ∷ 0 ∷ 0
-    ∷ 8 ∷ 0 ∷ 2 ∷ 0 ∷ 2 ∷ 0 ∷ 0 ∷ 0
-    ∷ 20 ∷ 0 ∷ 3 ∷ 0 ∷ 3 ∷ 0 ∷ 0 ∷ 0 ∷ 0 ∷ 0 ∷ 0x80 ∷ 0x3f ∷ 4 ∷ 0 ∷ 0 ∷ 0 ∷ 5 ∷ 0 ∷ 0 ∷ 0
-    ∷ 12 ∷ 0 ∷ 4 ∷ 0 ∷ 6 ∷ 0 ∷ 0 ∷ 0 ∷ 7 ∷ 0 ∷ 0 ∷ 0
-    ∷ 12 ∷ 0 ∷ 5 ∷ 0 ∷ 8 ∷ 0 ∷ 0 ∷ 0 ∷ 9 ∷ 0 ∷ 0 ∷ 0
-    ∷ 8 ∷ 0 ∷ 6 ∷ 0 ∷ 10 ∷ 0 ∷ 0 ∷ 0
-    ∷ 20 ∷ 0 ∷ 7 ∷ 0 ∷ 11 ∷ 0 ∷ 0 ∷ 0 ∷ 0 ∷ 0 ∷ 0 ∷ 0x40 ∷ 12 ∷ 0 ∷ 0 ∷ 0 ∷ 13 ∷ 0 ∷ 0 ∷ 0
-    ∷ 12 ∷ 0 ∷ 8 ∷ 0 ∷ 14 ∷ 0 ∷ 0 ∷ 0 ∷ 0 ∷ 0 ∷ 0 ∷ 0 ∷ []
-
--- the writer's bytes, the reader's numbers, the lister's lines
-unfoldable pub eventRows : List Row
-eventRows =
-    writes kinds kindsBytes
-    ∷ reads p1Bytes 0 (0 ∷ 3 ∷ 20 ∷ 0 ∷ 0x4100_0000 ∷ 10 ∷ 20 ∷ [])
-    ∷ reads p1Bytes 20 (0 ∷ 0 ∷ 0 ∷ 0 ∷ 0 ∷ 0 ∷ 0 ∷ [])
-    ∷ reads p1Bytes 21 (8 ∷ 0 ∷ 0 ∷ 0 ∷ 0 ∷ 0 ∷ 0 ∷ [])
-    ∷ reads kindsBytes 36 (0 ∷ 4 ∷ 48 ∷ 6 ∷ 7 ∷ 0 ∷ 0 ∷ [])
-    -- an unknown kind, a length unfit for its kind, missing bytes, a non-finite amount
-    ∷ reads (8 ∷ 0 ∷ 9 ∷ 0 ∷ 1 ∷ 0 ∷ 0 ∷ 0 ∷ []) 0 (8 ∷ 0 ∷ 0 ∷ 0 ∷ 0 ∷ 0 ∷ 0 ∷ [])
-    ∷ reads (8 ∷ 0 ∷ 4 ∷ 0 ∷ 1 ∷ 0 ∷ 0 ∷ 0 ∷ []) 0 (8 ∷ 0 ∷ 0 ∷ 0 ∷ 0 ∷ 0 ∷ 0 ∷ [])
-    ∷ reads (8 ∷ 0 ∷ 1 ∷ 0 ∷ 1 ∷ 0 ∷ 0 ∷ []) 0 (8 ∷ 0 ∷ 0 ∷ 0 ∷ 0 ∷ 0 ∷ 0 ∷ [])
-    ∷ reads (12 ∷ 0 ∷ 8 ∷ 0 ∷ 1 ∷ 0 ∷ 0 ∷ 0 ∷ 0 ∷ 0 ∷ 0x80 ∷ 0x7f ∷ []) 0 (8 ∷ 0 ∷ 0 ∷ 0 ∷ 0 ∷ 0 ∷ 0 ∷ [])
-    -- "3 0 41000000 10 20"
-    ∷ lists p1Bytes (51 ∷ 32 ∷ 48 ∷ 32 ∷ 52 ∷ 49 ∷ 48 ∷ 48 ∷ 48 ∷ 48 ∷ 48 ∷ 48 ∷ 32 ∷ 49 ∷ 48 ∷ 32 ∷ 50 ∷ 48 ∷ 10 ∷ [])
-    -- "1 10", "bad 8"
-    ∷ lists (8 ∷ 0 ∷ 1 ∷ 0 ∷ 10 ∷ 0 ∷ 0 ∷ 0 ∷ 1 ∷ []) (49 ∷ 32 ∷ 49 ∷ 48 ∷ 10 ∷ 98 ∷ 97 ∷ 100 ∷ 32 ∷ 56 ∷ 10 ∷ [])
-    ∷ lists [] []
-    ∷ []
-
 -- all of them
-unfoldable pub rows : List Row
-rows = documentRows ++ (misreadRows ++ (ruleRows ++ (refusalRows ++ eventRows)))
+unfoldable pub rows : List Bool
+rows = documentRows ++ (misreadRows ++ (ruleRows ++ refusalRows))

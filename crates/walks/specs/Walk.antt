@@ -9,6 +9,7 @@ use Rattle.turfs.specs.Board.{Board, turfCount, idOf, end, enabled, firelock, l
 use Rattle.events.specs.declared.Event.{Event}
 use Rattle.events.specs.declared.Event.the-variants.{Firelock}
 
+-- what a walk has come to
 pub record Walk : Type 0 where
   pub queue : List ℕ  -- `turfs`, in order of insertion
   pub walked : ℕ  -- `cur_queue_idx`

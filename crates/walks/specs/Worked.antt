@@ -1,0 +1,32 @@
+-- Worked walks, which antt computes. Assumes nothing.
+use mathlib.Core.List.{List, [], _∷_}
+use mathlib.Core.Bool.{Bool}
+use Prim.Native.Nat.{ℕ}
+use lib.Dec.{T}
+use Rattle.basics.specs.Loops.{run, times, allOf, member, same, upFrom}
+use Rattle.turfs.specs.Board.{Board, enabled, firelock, linksOf}
+use Rattle.turfs.specs.Draw.{Turf, to, lock, turf, disabled, startsFrom, allWays, draw, lockedChain, asIs}
+use Rattle.events.specs.Events.{kindOf, fieldsOf, wordsBytes, encode, encodeAll}
+use Rattle.events.specs.declared.Event.{Event}
+use Rattle.events.specs.declared.Event.the-variants.{Firelock}
+use Rattle.walks.specs.Walk.{walkLink, spread, walkNext, walk}
+
+-- a walk from row 0 that every turf lets go on: the limit; then the rows met and the events
+unfoldable pub meets : Board → ℕ → List ℕ → List Event → Bool
+meets b limit rows es =
+    let s = walk b (spread b limit) 0 in
+    allOf (same (s .queue) rows ∷ same (encodeAll (s .events)) (encodeAll es) ∷ [])
+
+pub worked : T (allOf (
+    -- places count from 1
+    meets (lockedChain asIs asIs) 2 (0 ∷ 1 ∷ 2 ∷ []) (Firelock 10 20 ∷ Firelock 20 30 ∷ [])
+    ∷ meets (lockedChain asIs asIs) 1 (0 ∷ 1 ∷ []) (Firelock 10 20 ∷ [])
+    ∷ meets (lockedChain asIs asIs) 0 (0 ∷ []) []
+    -- a disabled turf doesn't expand
+    ∷ meets (lockedChain disabled asIs) 10 (0 ∷ 1 ∷ []) (Firelock 10 20 ∷ [])
+    -- a neighbour met before is asked for no more, and an open link writes nothing
+    ∷ meets (draw (turf 10 (to 1 ∷ lock 2 ∷ []) ∷ turf 20 (lock 2 ∷ []) ∷ turf 30 (lock 0 ∷ []) ∷ [])) 10 (0 ∷ 1 ∷ 2 ∷ []) (Firelock 10 30 ∷ [])
+    ∷ []))
+unfolding meets run times allOf member same upFrom enabled firelock linksOf startsFrom allWays draw kindOf fieldsOf wordsBytes encode encodeAll
+    walkLink spread walkNext walk
+worked = tt
