@@ -20,6 +20,7 @@ use Rattle.finalize_eq.specs.Turns.{Zone, zoneAt, nodesAt, turnOrder, finishAll
 use Rattle.finalize_eq.proofs.Jobs.{Agrees, agree}
 use Rattle.finalize_eq.proofs.Order.{order-in, turn-rows}
 use Rattle.equalize.specs.Equalize.{hasMix, apart}
+use Rattle.equalize.specs.Worked as worked  -- checked before the laws
 
 -- ---- how many pass a test
 

@@ -12,6 +12,7 @@ use Rattle.basics.proofs.Loops.{All-any, run-keeps, Found}
 use Rattle.turfs.specs.Board.{Board, turfCount, linkCount, enabled, rowOf}
 use Rattle.turfs.proofs.Accepted.{row-below}
 use Rattle.equalize.specs.Equalize.{Ask, Filled, passedOver, fillFrom, hotRow, hotId, fillAll}
+use Rattle.equalize.specs.Worked as worked  -- checked before the laws
 
 -- where filling starts
 abbrev pub startFilled : Board → Filled

@@ -21,6 +21,7 @@ use Rattle.turfs.specs.Board.{Board, end, linksOf}
 use Rattle.turfs.proofs.Accepted.{links-apart}
 use Rattle.process_zone.specs.Edges.{alter, edgesOf}
 use Rattle.finalize_eq.specs.Finish.{zeroLifted, positive}
+use Rattle.finalize_eq.specs.Worked as worked  -- checked before the laws
 
 -- above 0
 abbrev pub above : Float → Bool

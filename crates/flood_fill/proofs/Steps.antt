@@ -14,6 +14,7 @@ use Rattle.turfs.specs.Board.{Board, turfCount, end, enabled, planetary, linksO
 use Rattle.events.specs.declared.Event.{Event}
 use Rattle.flood_fill.specs.Fill.{Reach, Fill, isOn, reachLink, expand, endFill, pop, popNext, fill}
 use Rattle.flood_fill.specs.declared.Going.the-variants.{On, Broken, Over}
+use Rattle.flood_fill.specs.Worked as worked  -- checked before the laws
 
 -- where a fill from the turf r starts
 abbrev pub startReach : ℕ → List ℕ → List ℕ → List Event → Reach

@@ -15,6 +15,7 @@ use Rattle.mixture.specs.Mixture.{amountFits}
 use Rattle.events.specs.Events.{encodeAll}
 use Rattle.events.specs.declared.Event.{Event}
 use Rattle.lent.specs.Lent.{Lent, Extra, wordsRoom, floatsRoom, firstFailed, refusal, after}
+use Rattle.lent.specs.Worked as worked  -- checked before the laws
 
 held : (t : Bool) (n x : ℕ) → zero < n → cond t x n ≡ 0 → T t × (x ≡ 0)
 held true n x h e = (tt, e)

@@ -13,6 +13,7 @@ use lib.Seq.{length-take-le, take-append-le, drop-append-le, drop-append-add, dr
 use lib.Ieee.{Float}
 use Rattle.turfs.specs.Board.{Board, mixtureCount, immutableMix}
 use Rattle.mixture.specs.Mixture.{part, putPart, scale, plus, remove, amounts, change, moveAir}
+use Rattle.mixture.specs.Worked as worked  -- checked before the laws
 
 -- the end of a mixture that comes before another
 before : (g : ℕ) {m n : ℕ} → m < n → m * g + g ≤ n * g

@@ -18,6 +18,7 @@ use Rattle.lent.proofs.Passed.{passed}
 use Rattle.walks.specs.Walk.{Walk, count, mark, spread, walk}
 use Rattle.walks.proofs.Walks.{going, spreads, spread-walked, walk-keeps, walk-rests}
 use Rattle.planet_walk.specs.Planet.{visitPlanet, planetFrom, planetWalk, planetRoom, planetNumber}
+use Rattle.planet_walk.specs.Worked as worked  -- checked before the laws
 
 module _ (b : Board) {n : ℕ} (h : Accepted b n) (limit : ℕ) where
   -- a firelock a turf, but none for the first

@@ -15,6 +15,7 @@ use Rattle.turfs.proofs.Line.{Line, line-short, line-snoc}
 use Rattle.process_zone.specs.Edges.{edgesOf}
 use Rattle.process_zone.specs.Plan.{Plan, Seek, stopped, meet, seekTo, seekLink, seekRow, seekNext}
 use Rattle.process_zone.specs.declared.Side.{Side}
+use Rattle.process_zone.specs.Worked as worked  -- checked before the laws
 
 module _ (b : Board) (ends : (k : ℕ) → end b k < turfCount b) (owner : List ℕ) (z : ℕ) (side : Side) (g : ℕ) where
   -- a search that goes on has a turf to look at, and the turf in hand isn't settled

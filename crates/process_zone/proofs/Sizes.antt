@@ -16,6 +16,7 @@ use Rattle.process_zone.specs.Edges.{alter, adjust, edge, edgesOf}
 use Rattle.process_zone.specs.Plan.{Plan, load, countOf, log2, chosen, Seek, stopped, trade, meet, seekTo, fastMove, fastTurf, seekLink, seekRow, seekNext, drainTo, drain, serve, fastPass, shareOut, deltas, planZone}
 use Rattle.process_zone.specs.declared.Side.{Side}
 use Rattle.process_zone.specs.declared.Side.the-variants.{Giving, Taking}
+use Rattle.process_zone.specs.Worked as worked  -- checked before the laws
 
 pub alter-size : (o : Spot) (f : Float → Float) (w : List Float) → length (alter o f w) ≡ length w
 alter-size (At k) f w = length-set w k (f (getD w k nan))

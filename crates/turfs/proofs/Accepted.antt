@@ -14,6 +14,7 @@ use Rattle.basics.proofs.Loops.{All, All-imp, All-getD, every-all, and-left, an
 use Rattle.basics.proofs.Lists.{upFrom-above, upFrom-below, upFrom-apart, Apart, one, count}
 use Rattle.turfs.specs.Board.{Board, turfCount, linkCount, mixtureCount, idOf, mixOf, end, linksOf, rowOf}
 use Rattle.turfs.specs.Refuse.{within, pairwise, ascending, rising, rowFits, sizesFit, tablesFit, idsFit, linksFit}
+use Rattle.turfs.specs.Worked as worked  -- checked before the laws
 
 -- the tables that 1 to 4 let pass, with `amounts` amounts
 pub record Accepted (b : Board) (amounts : ℕ) : Type 0 where

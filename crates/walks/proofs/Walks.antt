@@ -19,6 +19,7 @@ use Rattle.events.specs.declared.Event.{Event}
 use Rattle.events.specs.declared.Event.the-variants.{Firelock}
 use Rattle.events.proofs.Sizes.{size, size-snoc}
 use Rattle.walks.specs.Walk.{Walk, count, walkLink, spread, walkNext, walk}
+use Rattle.walks.specs.Worked as worked  -- checked before the laws
 
 -- where a walk from r starts
 abbrev pub startWalk : ℕ → Walk
