@@ -1,7 +1,8 @@
 -- Laws of the loops and searches. Assumes nothing.
-use mathlib.Core.Path.{_≡_, refl, sym, ap, _∙_, subst}
+use mathlib.Core.Path.{_≡_, refl, sym, ap, _∙_}
+use mathlib.Core.Logic.{_⊎_, inl, inr}
 use mathlib.Core.List.{List, [], _∷_, _++_, map}
-use mathlib.Core.Bool.{Bool, true, false, not, _&&_, _||_, cond}
+use mathlib.Core.Bool.{Bool, true, false, _&&_, cond}
 use Prim.Native.Nat.{ℕ, zero, suc, _+_, _-_, _≤_, _<_}
 use native.Mathlib.Numerals.{add-one}
 use native.Mathlib.Omega.{arith}
@@ -49,6 +50,10 @@ and-left false b t = t
 pub and-right : (a b : Bool) → T (a && b) → T b
 and-right true b t = t
 and-right false b t = absurd t
+
+pub both : (a b : Bool) → T a → T b → T (a && b)
+both true b s t = t
+both false b s t = s
 
 module _ {A : Type 0} where
   pub All-any : (P : A → Type 0) → ((x : A) → P x) → (xs : List A) → All P xs
@@ -128,6 +133,11 @@ unfolding allOf
 all-of [] h = tt
 all-of (t ∷ ts) h = (and-left t (allOf ts) h, all-of ts (and-right t (allOf ts) h))
 
+pub of-all : (ts : List Bool) → All T ts → T (allOf ts)
+unfolding allOf
+of-all [] h = tt
+of-all (t ∷ ts) h = both t (allOf ts) (h .0) (of-all ts (h .1))
+
 -- a loop over the numbers from i up to e: one turn, and the end
 module _ {S : Type 0} (f : ℕ → S → S) where
   pub run-up : (i e : ℕ) (s : S) → i < e → run f (upFrom i (e - i)) s ≡ run f (upFrom (i + 1) (e - (i + 1))) (f i s)
@@ -199,3 +209,16 @@ pub run-map : {A B S : Type 0} (g : A → B) (f : B → S → S) (xs : List A) (
 unfolding run
 run-map g f [] s = refl
 run-map g f (x ∷ xs) s = run-map g f xs (f (g x) s)
+
+-- A step that changes nothing once it is told to stop, and else counts one on: n steps come to rest, or count n.
+pub times-rests : {S : Type 0} (f : S → S) (going : S → Bool) (steps : S → ℕ) → ((s : S) → going s ≡ false → f s ≡ s) → ((s : S) → going s ≡ true → steps (f s) ≡ steps s + 1)
+    → (n : ℕ) (s : S) → (going (times f n s) ≡ false) ⊎ (steps (times f n s) ≡ steps s + n)
+unfolding times
+times-rests f going steps still on zero s = inr (omega arith)
+times-rests f going steps still on (suc n) s = go (going s) refl (times-rests f going steps still on n (f s))
+  where
+    go : (t : Bool) → going s ≡ t → (going (times f n (f s)) ≡ false) ⊎ (steps (times f n (f s)) ≡ steps (f s) + n)
+        → (going (times f n (f s)) ≡ false) ⊎ (steps (times f n (f s)) ≡ steps s + suc n)
+    go true e (inl h) = inl h
+    go true e (inr h) = inr (omega (arith, h, on s e))
+    go false e ih = inl (ap (λ (x : _). going (times f n x)) (still s e) ∙ ap going (times-still f n s (still s e)) ∙ e)

@@ -1,5 +1,5 @@
 -- Demand 3 for finishing: where the zones are apart, two lists of turns come to the same. Assumes nothing.
-use mathlib.Core.Path.{_≡_, refl, sym, ap, _∙_, subst}
+use mathlib.Core.Path.{_≡_, refl, sym, _∙_, subst}
 use mathlib.Core.Logic.{_≢_, _⊎_, inl, inr}
 use mathlib.Core.List.{List, [], _∷_, map}
 use mathlib.Core.Bool.{Bool, true, false, _||_}
@@ -20,6 +20,7 @@ use Rattle.finalize_eq.specs.Turns.{Zone, zoneAt, nodesAt, turnOrder, finishAll
 use Rattle.finalize_eq.proofs.Jobs.{Agrees, agree}
 use Rattle.finalize_eq.proofs.Order.{order-in, turn-rows}
 use Rattle.equalize.specs.Equalize.{hasMix, apart}
+use Rattle.equalize.specs.Worked as worked  -- checked before the laws
 
 -- ---- how many pass a test
 

@@ -1,14 +1,13 @@
 -- What a call that isn't refused was lent: each requirement in turn, since the first that fails gives a number above 0. Assumes nothing.
-use mathlib.Core.Path.{_≡_, refl, sym, ap, _∙_}
-use mathlib.Core.List.{List, [], _∷_, _++_}
+use mathlib.Core.Path.{_≡_, _∙_}
+use mathlib.Core.List.{List, [], _∷_}
 use mathlib.Core.Bool.{Bool, true, false, cond}
-use Prim.Native.Nat.{ℕ, zero, suc, _+_, _-_, _≤_, _<_}
+use Prim.Native.Nat.{ℕ, zero, _≤_, _<_}
 use native.Mathlib.Omega.{arith}
-use lib.Dec.{T, leb, leb→le}
-use lib.ListN.{length, drop, replicate, length-append, length-drop, length-replicate}
+use lib.Dec.{T, leb→le}
+use lib.ListN.{length, drop, length-append, length-drop}
 use lib.Ieee.{Float}
 use Rattle.basics.specs.Loops.{every}
-use Rattle.basics.specs.Floats.{0f}
 use Rattle.basics.proofs.Loops.{All, all-of}
 use Rattle.turfs.specs.Board.{Board}
 use Rattle.turfs.proofs.Accepted.{Accepted, accepted}
@@ -16,6 +15,7 @@ use Rattle.mixture.specs.Mixture.{amountFits}
 use Rattle.events.specs.Events.{encodeAll}
 use Rattle.events.specs.declared.Event.{Event}
 use Rattle.lent.specs.Lent.{Lent, Extra, wordsRoom, floatsRoom, firstFailed, refusal, after}
+use Rattle.lent.specs.Worked as worked  -- checked before the laws
 
 held : (t : Bool) (n x : ℕ) → zero < n → cond t x n ≡ 0 → T t × (x ≡ 0)
 held true n x h e = (tt, e)
