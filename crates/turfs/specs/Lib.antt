@@ -1,3 +1,4 @@
 pub mod Board
 pub mod Refuse
+pub mod Tables
 pub mod Draw

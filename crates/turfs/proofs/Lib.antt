@@ -1,0 +1,4 @@
+pub mod Order
+pub mod Lookup
+pub mod Refused
+pub mod Accepted
