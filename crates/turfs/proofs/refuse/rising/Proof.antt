@@ -1,7 +1,10 @@
 -- Each pair that passes leaves the test of the rest. Assumes nothing.
-use Prim.Native.Nat.{_≤_, _-_}
+use Prim.Native.Nat.{_≤_, _-_, _+_}
 use mathlib.Core.Path.{_≡_, refl, _∙_, sym}
-use lib.ListN.{length, drop}
+use native.Mathlib.Omega.{arith}
+use denote.Ref.{now}
+use lib.Dec.{leb}
+use lib.ListN.{length, drop, getD}
 use borrow.Author.Needs.{needs}
 use borrow.Author.Tests.{le-leb, lt-leb}
 use Rattle.turfs.specs.Refuse.{rising}
@@ -37,7 +40,10 @@ shared-slice-read-if1-2 : tie.Need-shared-slice-read-if1-2 Inv-loop μ-loop
 shared-slice-read-if1-2 c = search needs
 
 returns : tie.Need-returns Inv-loop μ-loop
-returns c = sym (pairwise-fails _ _ _ (c .before .before .before .loop-test .taken) (lt-leb _ _ (c .if1 .taken))) ∙ c .before .before .before .before .loop .inv .1
+returns c =
+    let l = now (c .before .before .before .before .before .args .xs) in
+    let i = c .before .before .before .before .loop .i in
+    sym (pairwise-fails leb l i (omega arith) (lt-leb (getD l i 0) (getD l (i + 1) 0) (omega arith))) ∙ c .before .before .before .before .loop .inv .1
 
 add-i : tie.Need-add-i Inv-loop μ-loop
 add-i c = search needs
@@ -46,7 +52,10 @@ loop-less : tie.Need-loop-less Inv-loop μ-loop
 loop-less c = search needs
 
 loop-again : tie.Need-loop-again Inv-loop μ-loop
-loop-again c = (search needs, sym (pairwise-next _ _ _ (c .before .before .before .loop-test .taken) (le-leb _ _ (c .if1 .left))) ∙ c .before .before .before .before .loop .inv .1)
+loop-again c =
+    let l = now (c .before .before .before .before .before .args .xs) in
+    let i = c .before .before .before .before .loop .i in
+    (omega arith, sym (pairwise-next leb l i (omega arith) (le-leb (getD l i 0) (getD l (i + 1) 0) (omega arith))) ∙ c .before .before .before .before .loop .inv .1)
 
 returns-2 : tie.Need-returns-2 Inv-loop μ-loop
 returns-2 c = sym (pairwise-end _ _ _ (c .loop-test .left)) ∙ c .before .loop .inv .1
