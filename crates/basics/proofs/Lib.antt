@@ -1,3 +1,4 @@
 pub mod Loops
 pub mod Tests
+pub mod Stores
 pub mod Regions

@@ -1,1 +1,2 @@
 pub mod Mixture
+pub mod Steps
