@@ -1,2 +1,3 @@
 pub mod Mixture
-pub mod Steps
+pub mod Moves
+pub mod Accepted

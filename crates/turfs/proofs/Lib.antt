@@ -1,4 +1,4 @@
 pub mod Order
 pub mod Lookup
 pub mod Refused
-pub mod Accepted
+pub mod Tables
