@@ -2,20 +2,23 @@
 use mathlib.Core.Path.{_≡_, refl, sym}
 use mathlib.Core.List.{List, [], _∷_}
 use mathlib.Core.Bool.{Bool, true, false}
-use Prim.Native.Nat.{ℕ, suc}
+use Prim.Native.Nat.{ℕ, suc, _+_, _*_, _≤_}
 use native.Mathlib.Omega.{arith}
 use lib.Dec.{leb}
 use lib.ListN.{length}
+use lib.Ieee.{Float}
 use borrow.Author.Tests.{leb-true}
 use Rattle.basics.specs.Loops.{every, allOf}
+use Rattle.basics.specs.Floats.{0f}
 use Rattle.basics.proofs.Tests.{each, one-fails}
 use Rattle.turfs.specs.Board.{Board}
 use Rattle.turfs.specs.Refuse.{sizesFit, tablesFit, idsFit, linksFit}
 use Rattle.turfs.specs.Tables.{Sizes}
 use Rattle.turfs.proofs.Tables.{amounts-of, tables-of}
 use Rattle.mixture.specs.Mixture.{amountFits}
-use Rattle.lent.specs.Lent.{Lent, Extra, wordsRoom, floatsRoom, firstFailed, refusal}
-use Rattle.lent.specs.Given.{counted, Small, Given}
+use Rattle.events.specs.declared.Event.{Event}
+use Rattle.lent.specs.Lent.{Lent, Extra, wordsRoom, floatsRoom, firstFailed, refusal, after}
+use Rattle.lent.specs.Given.{counted, Small, cleared, Given}
 
 -- ---- the number of a list of requirements
 
@@ -56,10 +59,6 @@ module _ (b : Board) where
 -- the areas are long enough
 abbrev pub areas : Board → Lent → ℕ → Bool
 areas b l room = allOf (leb room (length (l .area)) ∷ leb (wordsRoom b) (length (l .words)) ∷ leb (floatsRoom b) (length (l .floats)) ∷ [])
-
-pub areas-alone : (b : Board) (l : Lent) (room : ℕ)
-    → allOf (leb room (length (l .area)) ∷ leb (wordsRoom (counted (b .ids) (b .neighbours) (b .immutable))) (length (l .words)) ∷ leb (floatsRoom (counted (b .ids) (b .neighbours) [])) (length (l .floats)) ∷ []) ≡ areas b l room
-areas-alone b l room = rw (words-alone b, floats-alone b)
 
 -- the refusals 5 to 7
 abbrev last-three : Board → Lent → ℕ → Extra → List (Bool × ℕ)
@@ -150,3 +149,25 @@ module _ (b : Board) (l : Lent) (room : ℕ) (x : Extra) where
       let h₅ = holds _ 4 _ (h₄ .1) in
       let h₆ = holds _ 5 _ (h₅ .1) in
       (each _ 1 (h₁ .0) (omega arith), (each _ 1 (h₅ .0) (omega arith), h₆ .0))
+
+-- ---- what a call that goes on needs, and leaves
+
+-- a call that writes nothing for links
+pub no-links : (e n : ℕ) → 0 * e + n ≡ n
+no-links e n = omega arith
+
+module _ (b : Board) (l : Lent) (room : ℕ) where
+  -- what `clear_scratch` asks
+  pub scratch-of : Given b l room
+      → Small (counted (b .ids) (b .neighbours) (b .immutable))
+      × ((wordsRoom (counted (b .ids) (b .neighbours) (b .immutable)) ≤ length (l .words)) × (floatsRoom (counted (b .ids) (b .neighbours) []) ≤ length (l .floats)))
+  scratch-of g = (small-of b (g .accepted .tables .sizes), (rw (words-alone b) (g .words), rw (floats-alone b) (g .floats)))
+
+  -- what it leaves is the scratch after a call that was done
+  pub words-after : (gas : List Float) (es : List Event) → cleared 0 (wordsRoom (counted (b .ids) (b .neighbours) (b .immutable))) (l .words) ≡ after b l gas es .words
+  unfolding after wordsRoom
+  words-after gas es = refl
+
+  pub floats-after : (gas : List Float) (es : List Event) → cleared 0f (floatsRoom (counted (b .ids) (b .neighbours) [])) (l .floats) ≡ after b l gas es .floats
+  unfolding after floatsRoom
+  floats-after gas es = refl
