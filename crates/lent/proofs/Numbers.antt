@@ -13,12 +13,12 @@ use Rattle.basics.specs.Floats.{0f}
 use Rattle.basics.proofs.Tests.{each, one-fails}
 use Rattle.turfs.specs.Board.{Board}
 use Rattle.turfs.specs.Refuse.{sizesFit, tablesFit, idsFit, linksFit}
-use Rattle.turfs.specs.Tables.{Sizes}
+use Rattle.turfs.specs.Tables.{Small}
 use Rattle.turfs.proofs.Tables.{amounts-of, tables-of}
 use Rattle.mixture.specs.Mixture.{amountFits}
 use Rattle.events.specs.declared.Event.{Event}
 use Rattle.lent.specs.Lent.{Lent, Extra, wordsRoom, floatsRoom, firstFailed, refusal, after}
-use Rattle.lent.specs.Given.{counted, Small, cleared, Given}
+use Rattle.lent.specs.Given.{counted, cleared, Given}
 
 -- ---- the number of a list of requirements
 
@@ -51,7 +51,7 @@ module _ (b : Board) where
   unfolding floatsRoom
   floats-alone = refl
 
-  pub small-of : Sizes b → Small (counted (b .ids) (b .neighbours) (b .immutable))
+  pub small-of : Small b → Small (counted (b .ids) (b .neighbours) (b .immutable))
   small-of s = record { turfs = s .turfs; links = s .links; mixtures = s .mixtures }
 
 -- ---- each number in turn
@@ -161,7 +161,7 @@ module _ (b : Board) (l : Lent) (room : ℕ) where
   pub scratch-of : Given b l room
       → Small (counted (b .ids) (b .neighbours) (b .immutable))
       × ((wordsRoom (counted (b .ids) (b .neighbours) (b .immutable)) ≤ length (l .words)) × (floatsRoom (counted (b .ids) (b .neighbours) []) ≤ length (l .floats)))
-  scratch-of g = (small-of b (g .accepted .tables .sizes), (rw (words-alone b) (g .words), rw (floats-alone b) (g .floats)))
+  scratch-of g = (small-of b (g .accepted .tables .sizes .small), (rw (words-alone b) (g .words), rw (floats-alone b) (g .floats)))
 
   -- what it leaves is the scratch after a call that was done
   pub words-after : (gas : List Float) (es : List Event) → cleared 0 (wordsRoom (counted (b .ids) (b .neighbours) (b .immutable))) (l .words) ≡ after b l gas es .words

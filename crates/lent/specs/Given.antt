@@ -1,11 +1,9 @@
 -- What the code of a call hands to the refusals, and what it knows once none was met.
 use mathlib.Core.List.{List, [], _++_}
-use mathlib.Core.Bool.{true}
-use mathlib.Core.Path.{_≡_}
 use Prim.Native.Nat.{ℕ, _≤_}
 use lib.ListN.{length, drop, replicate}
 use lib.Ieee.{Float}
-use Rattle.turfs.specs.Board.{Board, turfCount, linkCount, mixtureCount}
+use Rattle.turfs.specs.Board.{Board}
 use Rattle.turfs.specs.Tables.{board}
 use Rattle.mixture.specs.Accepted.{Accepted}
 use Rattle.lent.specs.Lent.{Lent, Extra, wordsRoom, floatsRoom}
@@ -14,12 +12,6 @@ use Rattle.lent.specs.declared.ExtraTests.{ExtraTests}
 -- a board of which no more than the counts is looked at
 abbrev pub counted : List ℕ → List ℕ → List ℕ → Board
 counted ids neighbours immutable = board ids [] [] [] [] neighbours [] immutable 0
-
--- the counts are within their limits
-pub record Small (b : Board) : Type 0 where
-  pub turfs : turfCount b ≤ 4096
-  pub links : linkCount b ≤ 24576
-  pub mixtures : mixtureCount b ≤ 4096
 
 -- the first n cells hold z, the rest is as it was
 abbrev pub cleared : {A : Type 0} → A → ℕ → List A → List A

@@ -6,9 +6,9 @@ ghost use lib.Dec.{leb};
 ghost use lib.ListN.{length};
 ghost use Rattle.basics.specs.Loops.{allOf};
 ghost use Rattle.basics.specs.Floats.{0f};
-ghost use Rattle.turfs.specs.Tables.{board};
+ghost use Rattle.turfs.specs.Tables.{board, Small};
 ghost use Rattle.lent.specs.Lent.{wordsRoom, floatsRoom, noExtra, refusal};
-ghost use Rattle.lent.specs.Given.{counted, Small, cleared, lent, extraOf};
+ghost use Rattle.lent.specs.Given.{counted, cleared, lent, extraOf};
 
 // The words of the scratch that a call may use.
 pub fn words_room(ids: &[u32], neighbours: &[u32], immutable: &[u8]) -> usize

@@ -104,7 +104,7 @@ returns-2 : tie.Need-returns-2
 returns-2 c = let s : tie.Start = s₁ (c .before .before) in is-1-extra (B s) (L s) (R s) (X s) (not-true _ (c .if2 .taken))
 
 tables-fit-requires : tie.Need-tables-fit-requires
-tables-fit-requires c κs = let z = sized c in (z .turfs, (z .mixtures, z .gases))
+tables-fit-requires c κs = let z = sized c in (z .small .turfs, (z .small .mixtures, z .gases))
 
 returns-3 : tie.Need-returns-3
 returns-3 c = let s : tie.Start = s₂ (c .before .before) in is-2 (B s) (L s) (R s) (X s) (h₁ (c .before .before)) (no (tablesFit (B s) (length (L s .gas))) (c .before .tables-fit .ensures) (c .if3 .taken))
@@ -116,7 +116,7 @@ returns-4 : tie.Need-returns-4
 returns-4 c = let s : tie.Start = s₃ (c .before .before) in is-3 (B s) (L s) (R s) (X s) (h₁ (c .before .before .before .before)) (h₂ (c .before .before)) (no _ (c .before .ascending .ensures) (c .if4 .taken))
 
 links-fit-requires : tie.Need-links-fit-requires
-links-fit-requires c κs = (sized (c .before .before .before .before) .turfs, starts-of (B (s₄ c)) (length (L (s₄ c) .gas)) (h₂ (c .before .before)))
+links-fit-requires c κs = (sized (c .before .before .before .before) .small .turfs, starts-of (B (s₄ c)) (length (L (s₄ c) .gas)) (h₂ (c .before .before)))
 
 returns-5 : tie.Need-returns-5
 unfolding linksFit rowFits
@@ -135,7 +135,7 @@ returns-8 : tie.Need-returns-8
 returns-8 c = let s : tie.Start = s₇ (c .before .before) in is-6 (B s) (L s) (R s) (X s) (h₁ (c .before .before .before .before .before .before .before .before .before .before .before .before)) (h₂ (c .before .before .before .before .before .before .before .before .before .before)) (h₃ (c .before .before .before .before .before .before .before .before)) (h₄ (c .before .before .before .before .before .before)) (h₅ (c .before .before)) (not-true _ (c .if8 .taken))
 
 areas-fit-requires : tie.Need-areas-fit-requires
-areas-fit-requires c κs = small-of (B (s₈ c)) (sized (c .before .before .before .before .before .before .before .before .before .before .before .before))
+areas-fit-requires c κs = small-of (B (s₈ c)) (sized (c .before .before .before .before .before .before .before .before .before .before .before .before) .small)
 
 returns-9 : tie.Need-returns-9
 unfolding wordsRoom floatsRoom
