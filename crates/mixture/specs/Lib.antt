@@ -1,2 +1,4 @@
 pub mod Mixture
 pub mod Worked
+pub mod Moves
+pub mod Accepted
