@@ -1,6 +1,7 @@
 //! Runs beside the Rust: the text with the FILLED mixture, the text with the published one, and the document's model.
 
 pub mod judged;
+pub mod lister;
 
 use boards::families::{FAMILIES, case, with_turns};
 use boards::paper::{ask_a, board};

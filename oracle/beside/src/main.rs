@@ -1,6 +1,6 @@
 //! The commands of the runs beside the Rust. With no word it says which there are.
 
-use beside::{Agreement, Numbers, Published, accepted, agree, deepest, drop_small, heaviest, judged, two_turfs, vectors};
+use beside::{Agreement, Numbers, Published, accepted, agree, deepest, drop_small, heaviest, judged, lister, two_turfs, vectors};
 use boards::refusal::refusal;
 use std::process::Command;
 use std::time::Instant;
@@ -12,6 +12,7 @@ beside numbers EACH SEED     weights and amounts on accepted boards: the largest
 beside vectors EACH SEED     cases with the text's answers, to standard output
 beside judged EACH SEED      small cases with the text's answers as rows that the checker computes, to standard output
 beside bench                 how long the text's equalize takes on the boards that speed is measured on
+beside lister EACH SEED COMMAND..   events, damaged, torn and over-long ones too, listed by a command and by the lister here
 beside paper                 document 01's boards, played by the text: amounts before and after, the answer, the events as lines
 beside stack                 how much stack the text needs on the deepest board";
 
@@ -87,6 +88,10 @@ fn main() {
         }
         ("vectors", Some(each), Some(seed)) => print!("{}", vectors(each, seed)),
         ("judged", Some(each), Some(seed)) => print!("{}", judged::rows(each, seed)),
+        ("lister", Some(each), Some(seed)) if words.len() > 3 => match lister::against(&words[3..], each, seed) {
+            Ok(inputs) => println!("lister: {inputs} inputs, no disagreement"),
+            Err(first) => println!("lister: {first}"),
+        },
         ("stack-of", Some(kib), None) => stack_of(kib as usize),
         ("stack", None, None) => stack(),
         ("paper", None, None) => paper(),
