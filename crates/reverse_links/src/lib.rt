@@ -1,0 +1,1 @@
+// The reverse of each link, found once a call.
