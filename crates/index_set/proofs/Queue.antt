@@ -71,7 +71,7 @@ member-at {P} x (y ∷ ys) m f = go (or-cases (eqb x y) (member x ys) m) (λ n. 
     go (inl e) r = f 0 (omega arith) (sym (eqb→eq x y e))
     go (inr n) r = r n
 
-not-member : (x : ℕ) (xs : List ℕ) → member x xs ≡ false → (i : ℕ) → i < length xs → getD xs i 0 ≢ x
+pub not-member : (x : ℕ) (xs : List ℕ) → member x xs ≡ false → (i : ℕ) → i < length xs → getD xs i 0 ≢ x
 not-member x xs m i h e = subst T (ap (λ (y : ℕ). member y xs) e ∙ m) (at-member xs i h)
 
 -- ---- no more different rows than rows

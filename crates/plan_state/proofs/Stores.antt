@@ -4,12 +4,24 @@ use native.Mathlib.Omega.{arith}
 use mathlib.Core.Path.{_≡_, refl, ap, ap₂, _∙_, sym, subst}
 use mathlib.Core.List.{List, [], _∷_}
 use lib.ListN.{length, getD, set, length-set}
+use lib.Seq.{set-getD}
 use lib.Ieee.{Float, nan}
 use Rattle.basics.specs.Regions.{cut, region, base}
 use Rattle.basics.proofs.Regions.{cut-set, cut-get}
-use Rattle.process_zone.specs.Plan.{Plan, store, load}
+use Rattle.process_zone.specs.Plan.{Plan, store, load, withDelta, withAmount}
 use Rattle.process_zone.specs.declared.MonstermosInfo.{MonstermosInfo}
 use Rattle.plan_state.specs.Held.{Area, area, wsizes, rsizes, View, viewIn, view, Fit, onPlan, Does, Frame}
+
+-- ---- a plan with one number set anew
+
+abbrev pub setDelta : ℕ → Float → Plan → Plan
+setDelta r x s = record { weight = s .weight; delta = set (s .delta) r x; amount = s .amount; direction = s .direction; fast = s .fast }
+
+abbrev pub setAmount : ℕ → Float → Plan → Plan
+setAmount r x s = record { weight = s .weight; delta = s .delta; amount = set (s .amount) r x; direction = s .direction; fast = s .fast }
+
+abbrev pub setDirection : ℕ → ℕ → Plan → Plan
+setDirection r x s = record { weight = s .weight; delta = s .delta; amount = s .amount; direction = set (s .direction) r x; fast = s .fast }
 
 -- ---- steps one after the other
 
@@ -109,3 +121,54 @@ module _ (n e row : ℕ) (w : List ℕ) (f : List Float) (r : row < n) (h : Fit 
         fit = record { words = simp length-set (h .words); reals = simp length-set (h .reals); turfs = h .turfs; links = h .links };
         same = ap₂ viewIn a b;
       }
+
+  pub amount-set : (x : Float) → Does n e (λ o p. setAmount row x p) (area w f) (area w (set f (e + n + row) x))
+  unfolding view
+  amount-set x = record {
+    fit = record { words = h .words; reals = simp length-set (h .reals); turfs = h .turfs; links = h .links };
+    same = ap (viewIn (cut (wsizes n e) w)) (cut-set (rsizes n e) f 2 row x (e + n + row) (omega arith) r (omega arith));
+  }
+
+  pub delta-set : (x : Float) → Does n e (λ o p. setDelta row x p) (area w f) (area w (set f (e + row) x))
+  unfolding view
+  delta-set x = record {
+    fit = record { words = h .words; reals = simp length-set (h .reals); turfs = h .turfs; links = h .links };
+    same = ap (viewIn (cut (wsizes n e) w)) (cut-set (rsizes n e) f 1 row x (e + row) (omega arith) r (omega arith));
+  }
+
+  pub direction-set : (x : ℕ) → Does n e (λ o p. setDirection row x p) (area w f) (area (set w (e + e + row) x) f)
+  unfolding view
+  direction-set x = record {
+    fit = record { words = simp length-set (h .words); reals = h .reals; turfs = h .turfs; links = h .links };
+    same = ap (λ ws. viewIn ws (cut (rsizes n e) f)) (cut-set (wsizes n e) w 2 row x (e + e + row) (omega arith) r (omega arith));
+  }
+
+-- ---- a store of what is there changes nothing
+
+module _ (s : Plan) (r : ℕ) where
+  pub store-same : store s r (load s r) ≡ s
+  store-same = λ i. record {
+    weight = s .weight;
+    delta = set-getD (s .delta) r nan i;
+    amount = set-getD (s .amount) r nan i;
+    direction = set-getD (s .direction) r 0 i;
+    fast = set-getD (s .fast) r 0 i;
+  }
+
+  pub store-amount : (x : Float) → store s r (withAmount x (load s r)) ≡ setAmount r x s
+  store-amount x = λ i. record {
+    weight = s .weight;
+    delta = set-getD (s .delta) r nan i;
+    amount = set (s .amount) r x;
+    direction = set-getD (s .direction) r 0 i;
+    fast = set-getD (s .fast) r 0 i;
+  }
+
+  pub store-delta : (x : Float) → store s r (withDelta x (load s r)) ≡ setDelta r x s
+  store-delta x = λ i. record {
+    weight = s .weight;
+    delta = set (s .delta) r x;
+    amount = set-getD (s .amount) r nan i;
+    direction = set-getD (s .direction) r 0 i;
+    fast = set-getD (s .fast) r 0 i;
+  }

@@ -4,6 +4,9 @@ use native.Mathlib.Omega.{arith}
 use mathlib.Core.Path.{_≡_, refl, ap, ap₂, _∙_, sym, subst}
 use mathlib.Core.List.{List, [], _∷_}
 use mathlib.Core.Logic.{_≢_}
+use mathlib.Core.Bool.{Bool, true, false, cond}
+use native.Mathlib.Decide.{ℕ-discrete}
+use lib.Dec.{eqb}
 use lib.ListN.{length, getD, set, take, drop, length-set}
 use lib.Seq.{getD-take, getD-drop}
 use borrow.Author.Tests.{eq-eqb, ne-eqb}
@@ -82,3 +85,20 @@ module _ (e k z : ℕ) (w : List ℕ) (hk : k < e) where
     pub back-foreign : getD w (getD w (e + k) 0 - 1) 0 ≢ z + 1 → Nowhere ≡ backLink (take e (drop e w)) (take e w) z k
     unfolding backLink
     back-foreign h = rw (← back, ne-eqb (getD w (e + k) 0) 0 some, ← own, ne-eqb _ _ h)
+
+pub found-more : (m m′ : ℕ) (s : Spot) → m ≤ m′ → Found (λ k. k < m) s → Found (λ k. k < m′) s
+found-more m m′ (At k) q f = omega arith
+found-more m m′ Nowhere q f = f
+
+-- what a reverse is, it is among the links
+pub back-found : (reverse owner : List ℕ) (z k e : ℕ) (s : Spot) → s ≡ backLink reverse owner z k → getD reverse k 0 ≤ e → Found (λ j. j < e) s
+unfolding backLink
+back-found reverse owner z k e s q h = subst (Found (λ j. j < e)) (sym q) (go (ℕ-discrete (getD reverse k 0) 0))
+  where
+    own : (t : Bool) → getD reverse k 0 ≢ 0 → Found (λ j. j < e) (cond t (At (getD reverse k 0 - 1)) Nowhere)
+    own true d = omega (arith, d)
+    own false d = tt
+
+    go : Dec (getD reverse k 0 ≡ 0) → Found (λ j. j < e) (ownedBy owner z (getD reverse k 0))
+    go (yes d) = rw (eq-eqb (getD reverse k 0) 0 d) tt
+    go (no d) = rw (ne-eqb (getD reverse k 0) 0 d) (own (eqb (getD owner (getD reverse k 0 - 1) 0) (z + 1)) d)

@@ -7,6 +7,7 @@ use lib.Ieee.{Float, nan}
 use Rattle.basics.specs.Regions.{cut}
 use Rattle.turfs.specs.Board.{Board}
 use Rattle.process_zone.specs.Plan.{Plan}
+use Rattle.index_set.specs.Line.{Below}
 
 -- the tables that planning looks at, of n turfs
 abbrev pub ground : ℕ → List ℕ → List ℕ → List ℕ → ℕ → Board
@@ -119,3 +120,8 @@ top n e = e + e + n + n + n + n + n + n
 
 abbrev pub nodesOf : ℕ → ℕ → View → ℕ → ℕ → List ℕ
 nodesOf n e v first count = take count (drop (first - top n e) (v .restW))
+
+pub record Nodes (n e first count : ℕ) (a : Area) : Type 0 where
+  pub past : top n e ≤ first
+  pub room : first + count ≤ length (a .words)
+  pub rows : Below n (nodesOf n e (view n e a) first count)
