@@ -1,3 +1,4 @@
 pub mod Stores
 pub mod Weights
 pub mod Links
+pub mod Parts

@@ -7,7 +7,7 @@ use lib.ListN.{length, getD, set, length-set}
 use lib.Seq.{set-getD}
 use lib.Ieee.{Float, nan}
 use Rattle.basics.specs.Regions.{cut, region, base}
-use Rattle.basics.proofs.Regions.{cut-set, cut-get}
+use Rattle.basics.proofs.Regions.{cut-set, cut-get, cut-length}
 use Rattle.process_zone.specs.Plan.{Plan, store, load, withDelta, withAmount}
 use Rattle.process_zone.specs.declared.MonstermosInfo.{MonstermosInfo}
 use Rattle.plan_state.specs.Held.{Area, area, wsizes, rsizes, View, viewIn, view, Fit, onPlan, Does, Frame}
@@ -99,6 +99,10 @@ module _ (n e k : ℕ) (w : List ℕ) (f : List Float) (r : k < e) where
   pub reverse-at : getD w (e + k) 0 ≡ getD (view n e (area w f) .reverse) k 0
   unfolding view
   reverse-at = cut-get (wsizes n e) w 0 1 k (e + k) (omega arith) r (omega arith)
+
+pub direction-length : (n e : ℕ) (a : Area) → Fit n e a → length (view n e a .plan .direction) ≡ n
+unfolding view
+direction-length n e a h = cut-length (wsizes n e) (a .words) 2 (omega arith) (omega (arith, h .words))
 
 -- ---- what the code stores
 

@@ -1,3 +1,4 @@
+use Rattle.plan_search.proofs.Serves.{points-nowhere, begun, begun-met, reverses-after, met-within, drained-by-edges, served}
 use borrow.Author.Needs.{needs}
 use Rattle.plan_search.proofs.serve.Statement.{statement}
 use Rattle.plan_search.proofs.serve.Tie as tie
@@ -33,11 +34,11 @@ insert-requires c κs = search needs
 
 -- src/lib.rt:355:9
 seek-requires : tie.Need-seek-requires
-seek-requires c κs = ?
+seek-requires c κs = ((begun _ _ _ _ _ _ (c .before .before .before .before .before .before .before .before .before .before .before .before .store .ensures .fit) (c .before .before .before .before .before .before .before .before .before .before .before .before .before .before .before .before .before .before .before .before .before .before .pre .0 .1 .1 .1 .1) _ _ (c .before .before .before .before .before .before .before .queue-at .ensures) (c .before .before .before .before .before .before .places-at .ensures) (c .before .before .before .before .insert .ensures), c .before .before .before .before .before .before .before .before .before .before .before .before .before .before .before .before .before .before .before .before .before .before .pre .0 .1 .1 .1 .0), (c .before .before .before .before .before .before .before .before .before .before .before .before .before .before .before .before .before .before .before .before .before .before .pre .0 .1 .1 .1 .1, (c .before .before .before .before .before .before .before .before .before .before .before .before .before .before .before .before .before .before .before .before .before .before .pre .0 .0, (c .before .before .before .before .before .before .before .before .before .before .before .before .before .before .before .before .before .before .before .before .before .before .pre .0 .1 .0, begun-met _ _ _ _ _ _ (c .before .before .before .before .before .before .before .before .before .before .before .before .store .ensures .fit) (c .before .before .before .before .before .before .before .before .before .before .before .before .before .before .before .before .before .before .before .before .before .before .pre .0 .1 .1 .1 .1) _ _ (c .before .before .before .before .before .before .before .queue-at .ensures) (c .before .before .before .before .before .before .places-at .ensures) (c .before .before .before .before .insert .ensures) _ _ _ (points-nowhere _ _ _ _ _ _ (c .before .before .before .before .before .before .before .before .before .before .before .before .before .before .before .before .before .before .before .before .before .before .pre .0 .1 .1 .0) (c .before .before .before .before .before .before .before .before .before .before .before .before .before .before .before .before .before .before .before .before .before .before .pre .0 .1 .1 .1 .1) (c .before .before .before .before .before .before .before .before .before .before .before .before .store .ensures))))))
 
 -- src/lib.rt:356:5
 drain-requires : tie.Need-drain-requires
-drain-requires c κs = ?
+drain-requires c κs = ((c .before .before .before .before .before .before .seek .ensures .0 .seeking, c .before .before .before .before .before .before .before .before .before .before .before .before .before .before .before .before .before .before .before .before .before .before .before .before .before .before .before .before .before .pre .0 .1 .1 .1 .0), met-within _ _ _ _ _ _ (c .before .before .before .before .before .before .before .before .before .before .before .before .before .before .before .before .before .before .before .before .before .before .before .before .before .before .before .before .before .pre .0 .0) (c .before .before .before .before .before .before .before .before .before .before .before .before .before .before .before .before .before .before .before .before .before .before .before .before .before .before .before .before .before .pre .0 .1 .0) (c .before .before .before .before .before .before .seek .ensures .0 .seeking) (c .before .before .before .before .before .before .seek .ensures .1) (reverses-after _ _ _ _ _ _ (c .before .before .before .before .before .before .before .before .before .before .before .before .before .before .before .before .before .before .before .store .ensures .fit) (c .before .before .before .before .before .before .before .before .before .before .before .before .before .before .before .before .before .before .before .before .before .before .before .before .before .before .before .before .before .pre .0 .1 .1 .1 .1) _ _ (c .before .before .before .before .before .before .before .before .before .before .before .before .before .before .queue-at .ensures) (c .before .before .before .before .before .before .before .before .before .before .before .before .before .places-at .ensures) (c .before .before .before .before .before .before .before .before .before .before .before .insert .ensures) (c .before .before .before .before .before .before .before .before .before .before .before .before .before .before .before .before .before .before .before .before .before .before .before .before .before .before .before .before .before .pre .1) (c .before .before .before .before .before .before .before .before .before .before .before .before .before .before .before .before .before .before .before .store .ensures) (c .before .before .before .before .before .before .seek .ensures .0)))
 
 -- src/lib.rt:328:1
 same-length : tie.Need-same-length
@@ -49,7 +50,7 @@ same-length-2 c = search needs
 
 -- src/lib.rt:328:1
 returns : tie.Need-returns
-returns c = ?
+returns c = served _ _ _ _ _ _ (c .before .before .before .before .before .before .before .before .before .before .before .before .before .before .before .before .before .before .before .before .before .before .store .ensures .fit) (c .before .before .before .before .before .before .before .before .before .before .before .before .before .before .before .before .before .before .before .before .before .before .before .before .before .before .before .before .before .before .before .before .pre .0 .1 .1 .1 .1) _ _ (c .before .before .before .before .before .before .before .before .before .before .before .before .before .before .before .before .before .queue-at .ensures) (c .before .before .before .before .before .before .before .before .before .before .before .before .before .before .before .before .places-at .ensures) (c .before .before .before .before .before .before .before .before .before .before .before .before .before .before .insert .ensures) _ _ _ _ _ _ (c .before .before .before .before .before .before .before .before .before .before .before .before .before .before .before .before .before .before .before .before .before .before .before .before .before .load .ensures) (c .before .before .before .before .before .before .before .before .before .before .before .before .before .before .before .before .before .before .before .before .before .before .store .ensures) (c .before .before .before .before .before .before .before .before .before .seek .ensures .0) (drained-by-edges _ _ _ _ _ _ (c .before .before .before .before .before .before .before .before .before .before .before .before .before .before .before .before .before .before .before .before .before .before .before .before .before .before .before .before .before .before .before .before .pre .0 .0) (c .before .before .before .before .before .before .before .before .before .before .before .before .before .before .before .before .before .before .before .before .before .before .before .before .before .before .before .before .before .before .before .before .pre .0 .1 .0) (c .before .before .before .before .before .before .before .before .before .seek .ensures .0 .seeking) (c .before .before .before .before .before .before .before .before .before .seek .ensures .1) (reverses-after _ _ _ _ _ _ (c .before .before .before .before .before .before .before .before .before .before .before .before .before .before .before .before .before .before .before .before .before .before .store .ensures .fit) (c .before .before .before .before .before .before .before .before .before .before .before .before .before .before .before .before .before .before .before .before .before .before .before .before .before .before .before .before .before .before .before .before .pre .0 .1 .1 .1 .1) _ _ (c .before .before .before .before .before .before .before .before .before .before .before .before .before .before .before .before .before .queue-at .ensures) (c .before .before .before .before .before .before .before .before .before .before .before .before .before .before .before .before .places-at .ensures) (c .before .before .before .before .before .before .before .before .before .before .before .before .before .before .insert .ensures) (c .before .before .before .before .before .before .before .before .before .before .before .before .before .before .before .before .before .before .before .before .before .before .before .before .before .before .before .before .before .before .before .before .pre .1) (c .before .before .before .before .before .before .before .before .before .before .before .before .before .before .before .before .before .before .before .before .before .before .store .ensures) (c .before .before .before .before .before .before .before .before .before .seek .ensures .0)) (c .before .before .drain .ensures))
 
 pub serve-spec : {M : Type 1} → statement M
 serve-spec =
