@@ -89,27 +89,6 @@ module _ (n e z r : ℕ) (i : MonstermosInfo) (w : List ℕ) (f : List Float) (e
 
 -- ---- the loop
 
--- what is left to do, f, from here on comes to what the whole, f₀, comes to from the start
-pub record Onto (n e : ℕ) (f f₀ : List ℕ → Plan → Plan) (a a′ : Area) : Type 0 where
-  pub fit : Fit n e a′
-  pub on : onPlan f (view n e a′) ≡ onPlan f₀ (view n e a)
-
-pub onto-start : {n e : ℕ} (f : List ℕ → Plan → Plan) {a : Area} → Fit n e a → Onto n e f f a a
-onto-start f h = record { fit = h; on = refl }
-
-pub onto-next : {n e : ℕ} {f f₀ : List ℕ → Plan → Plan} {a a′ a″ : Area} (h f′ : List ℕ → Plan → Plan) → Onto n e f f₀ a a′ → Does n e h a′ a″
-    → ((o : List ℕ) (p : Plan) → f o p ≡ f′ o (h o p)) → Onto n e f′ f₀ a a″
-onto-next {n} {e} {a′ = a′} h f′ b d s = record {
-  fit = d .fit;
-  on = ap (onPlan f′) (d .same) ∙ sym (ap (λ (p : Plan). onPlan (λ u v. p) (view n e a′)) (s (view n e a′ .owner) (view n e a′ .plan))) ∙ b .on;
-}
-
-pub onto-end : {n e : ℕ} {f f₀ : List ℕ → Plan → Plan} {a a′ : Area} → Onto n e f f₀ a a′ → ((o : List ℕ) (p : Plan) → f o p ≡ p) → Does n e f₀ a a′
-onto-end {n} {e} {a′ = a′} b s = record {
-  fit = b .fit;
-  same = sym (ap (λ (p : Plan). onPlan (λ u v. p) (view n e a′)) (s (view n e a′ .owner) (view n e a′ .plan))) ∙ b .on;
-}
-
 -- a list from its end
 aux-append : {A : Type 0} (xs ys r : List A) → reverseAux (xs ++ ys) r ≡ reverseAux ys (reverseAux xs r)
 aux-append [] ys r = refl

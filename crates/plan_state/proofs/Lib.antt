@@ -2,3 +2,4 @@ pub mod Stores
 pub mod Weights
 pub mod Links
 pub mod Parts
+pub mod Nodes

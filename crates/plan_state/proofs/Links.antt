@@ -49,7 +49,7 @@ first-nowhere p a (suc n) e k l m = go (p a) refl (ℕ-discrete a k) (λ q d. fi
     go false q (yes d) r = ap p (sym d) ∙ q
     go false q (no d) r = r (sym (ap (λ (t : Bool). atOr t a (first p (upFrom (suc a) n))) q) ∙ e) (omega (arith, d))
 
-up-all : (P : ℕ → Type 0) (a n : ℕ) → ((k : ℕ) → a ≤ k → k < a + n → P k) → All P (upFrom a n)
+pub up-all : (P : ℕ → Type 0) (a n : ℕ) → ((k : ℕ) → a ≤ k → k < a + n → P k) → All P (upFrom a n)
 unfolding upFrom
 up-all P a zero h = tt
 up-all P a (suc n) h = (h a (omega arith) (omega arith), up-all P (suc a) n (λ k l m. h k (omega arith) (omega arith)))

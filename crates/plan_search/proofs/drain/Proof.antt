@@ -7,7 +7,8 @@ use borrow.Author.Needs.{needs}
 use Rattle.basics.specs.Loops.{run}
 use Rattle.plan_state.specs.Held.{area, view}
 use Rattle.plan_search.specs.Steps.{drainVia}
-use Rattle.plan_search.proofs.Drains.{Onto, onto-start, onto-next, onto-end, row-below, row-within, row-next, back-end, drained-same}
+use Rattle.plan_state.proofs.Nodes.{Onto, onto-start, onto-next, onto-end}
+use Rattle.plan_search.proofs.Drains.{row-below, row-within, row-next, back-end, drained-same}
 use Rattle.plan_search.proofs.drain.Statement.{statement}
 use Rattle.plan_search.proofs.drain.Tie as tie
 use Rattle.plan_search.proofs.drain.Reads as reads
