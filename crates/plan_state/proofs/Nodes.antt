@@ -2,16 +2,18 @@
 use Prim.Native.Nat.{ℕ, zero, suc, _+_, _-_, _≤_, _<_}
 use native.Mathlib.Omega.{arith}
 use native.Mathlib.Numerals.{add-one}
-use mathlib.Core.Path.{_≡_, refl, ap, _∙_, sym}
+use mathlib.Core.Path.{_≡_, refl, ap, _∙_, sym, subst}
 use mathlib.Core.List.{List}
 use lib.ListN.{length, getD, take, drop, length-drop, drop-of-length-le}
 use lib.Seq.{getD-take, getD-drop, length-take-le, drop-cons}
 use lib.Ieee.{Float}
 use Rattle.basics.specs.Loops.{run}
 use Rattle.basics.proofs.Regions.{cut-rest}
+use Rattle.turfs.specs.Board.{Board}
 use Rattle.process_zone.specs.Plan.{Plan}
 use Rattle.index_set.specs.Line.{Below}
 use Rattle.index_set.proofs.Queue.{Below-at}
+use Rattle.reverse_links.specs.Reverse.{Reverses}
 use Rattle.plan_state.specs.Held.{Area, area, wsizes, View, view, Fit, onPlan, Does, Frame, top, Nodes, nodesOf}
 
 -- ---- in a loop
@@ -44,6 +46,10 @@ onto-frame b = record {
   restW = ap (λ (v : View). v .restW) (b .on);
   restR = ap (λ (v : View). v .restR) (b .on);
 }
+
+-- the reverses stand as they stood
+pub reverses-kept : {n e m : ℕ} {b : Board} {a a′ : Area} → Reverses b m (view n e a .reverse) → Frame n e a a′ → Reverses b m (view n e a′ .reverse)
+reverses-kept {m = m} {b = b} v f = subst (Reverses b m) (sym (f .reverse)) v
 
 -- a loop over a list, by its index
 module _ {S : Type 0} (f : ℕ → S → S) (xs : List ℕ) (i : ℕ) where
