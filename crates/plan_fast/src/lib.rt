@@ -12,8 +12,12 @@ ghost use Rattle.reverse_links.specs.Reverse.{Linked, Reverses};
 ghost use Rattle.plan_state.specs.Held.{grid, area, view, Fit, Does, Nodes, nodesOf};
 ghost use Rattle.plan_fast.specs.Steps.{tallyStep, moveAt, fastVia};
 use basics::Spot;
+use plan_state::adjust_eq_movement;
+use plan_state::back_link;
+use plan_state::fast_at;
+use plan_state::load;
+use plan_state::store;
 use process_zone::MonstermosInfo;
-use plan_state::{fast_at, load, store, back_link, adjust_eq_movement};
 
 // Counts the link k, which ends at the row a, if it is the zone's and that turf has no fast mark.
 fn tally(k: usize, a: u32, z: u32, n: usize, e: usize, c: u16, words: &[u32]) -> u16
@@ -44,7 +48,17 @@ fn count_eligible(part: &[u32], from: usize, z: u32, n: usize, e: usize, words: 
 }
 
 // x moves from the turf r to its neighbour a, over the edges at hand.
-fn fast_move(there: Spot, back: Spot, r: usize, a: usize, x: f32, n: usize, e: usize, words: &[u32], reals: &mut [f32])
+fn fast_move(
+    there: Spot,
+    back: Spot,
+    r: usize,
+    a: usize,
+    x: f32,
+    n: usize,
+    e: usize,
+    words: &[u32],
+    reals: &mut [f32],
+)
     requires { ⌜ Fit n e (area (now words) (now reals)) × ((r < n) × (a < n)) ⌝ }
     requires { ⌜ Found (λ k. k < e) there × Found (λ k. k < e) back ⌝ }
     ensures { λ _. ⌜ Does n e (λ o p. moveAt there back r x a p) (area (now (words .entry)) (now (reals .entry))) (area (now (words .exit)) (now (reals .exit))) ⌝ }
@@ -55,7 +69,17 @@ fn fast_move(there: Spot, back: Spot, r: usize, a: usize, x: f32, n: usize, e: u
 }
 
 // The link k of the turf r, which ends at the row a: x moves if the turf there has no fast mark.
-fn fast_link(r: usize, x: f32, k: usize, a: u32, z: u32, n: usize, e: usize, words: &[u32], reals: &mut [f32])
+fn fast_link(
+    r: usize,
+    x: f32,
+    k: usize,
+    a: u32,
+    z: u32,
+    n: usize,
+    e: usize,
+    words: &[u32],
+    reals: &mut [f32],
+)
     requires { ⌜ Fit n e (area (now words) (now reals)) × ((z < 4096) × ((r < n) × ((a < n) × (k < e)))) ⌝ }
     requires { ⌜ getD (view n e (area (now words) (now reals)) .reverse) k 0 ≤ e ⌝ }
     ensures { λ _. ⌜ Does n e (λ o p. fastVia (view n e (area (now (words .entry)) (now (reals .entry))) .reverse) z r x o k a p) (area (now (words .entry)) (now (reals .entry))) (area (now (words .exit)) (now (reals .exit))) ⌝ }
@@ -72,7 +96,17 @@ fn fast_link(r: usize, x: f32, k: usize, a: u32, z: u32, n: usize, e: usize, wor
 }
 
 // The links of the turf r, which are handed on as a part of the link list that starts at `from`.
-fn fast_row(r: usize, x: f32, part: &[u32], from: usize, z: u32, n: usize, e: usize, words: &[u32], reals: &mut [f32])
+fn fast_row(
+    r: usize,
+    x: f32,
+    part: &[u32],
+    from: usize,
+    z: u32,
+    n: usize,
+    e: usize,
+    words: &[u32],
+    reals: &mut [f32],
+)
     requires { ⌜ Fit n e (area (now words) (now reals)) × ((z < 4096) × ((r < n) × (Below n (now part) × (from + length (now part) ≤ e)))) ⌝ }
     requires { ⌜ ((i : ℕ) → i < length (now part) → getD (view n e (area (now words) (now reals)) .reverse) (from + i) 0 ≤ e) ⌝ }
     ensures { λ _. ⌜ Does n e (λ o p. run (λ i t. fastVia (view n e (area (now (words .entry)) (now (reals .entry))) .reverse) z r x o (from + i) (getD (now (part .entry)) i 0) t) (upFrom 0 (length (now (part .entry)))) p) (area (now (words .entry)) (now (reals .entry))) (area (now (words .exit)) (now (reals .exit))) ⌝ }

@@ -222,8 +222,7 @@ module _ (n e z count : ℕ) (starts neighbours : List ℕ) (t : Linked n starts
   pub met-within : (i : ℕ) → i < count → Within n e (view n e C) (getD (view n e C .queue) i 0)
   met-within i l = record {
     at = λ d q.
-        let u = m i l .over d q .0 in
-        (
+        let u = m i l .over d q .0 in (
           u .row,
           (
             omega (arith, len, link-below (grid n starts neighbours) n t (view n e C .owner) z d _ (u .row) (u .link)),

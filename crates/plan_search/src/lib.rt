@@ -17,9 +17,17 @@ ghost use Rattle.plan_state.specs.Held.{grid, area, view, Fit, Does, Serves};
 ghost use Rattle.plan_search.specs.Search.{Seeking, Sought, Searched, AllMet, KeepsMet, Within};
 ghost use Rattle.plan_search.specs.Steps.{bargain, point, alongPart, handOn, drainVia};
 use basics::Spot;
-use process_zone::{MonstermosInfo, Side};
-use index_set::{contains, insert};
-use plan_state::{via_at, queue_at, places_at, load, store, back_link, adjust_eq_movement};
+use index_set::contains;
+use index_set::insert;
+use plan_state::adjust_eq_movement;
+use plan_state::back_link;
+use plan_state::load;
+use plan_state::places_at;
+use plan_state::queue_at;
+use plan_state::store;
+use plan_state::via_at;
+use process_zone::MonstermosInfo;
+use process_zone::Side;
 
 // The turf in hand has nothing more to give, or to take.
 fn settled(side: Side, x: f32) -> bool
@@ -281,7 +289,16 @@ fn seek(
 }
 
 // The turf r hands its amount on to the turf d, over the edges at hand.
-fn hand_on(there: Spot, back: Spot, r: usize, d: usize, n: usize, e: usize, words: &[u32], reals: &mut [f32])
+fn hand_on(
+    there: Spot,
+    back: Spot,
+    r: usize,
+    d: usize,
+    n: usize,
+    e: usize,
+    words: &[u32],
+    reals: &mut [f32],
+)
     requires { ⌜ Fit n e (area (now words) (now reals)) × ((r < n) × (d < n)) ⌝ }
     requires { ⌜ Found (λ k. k < e) there × Found (λ k. k < e) back ⌝ }
     ensures { λ _. ⌜ Does n e (λ o p. handOn there back r d p) (area (now (words .entry)) (now (reals .entry))) (area (now (words .exit)) (now (reals .exit))) ⌝ }

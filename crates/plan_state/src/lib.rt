@@ -75,7 +75,14 @@ pub fn load(row: usize, n: usize, e: usize, words: &[u32], reals: &[f32]) -> Mon
 }
 
 // Sets the planning state of the turf at `row`.
-pub fn store(row: usize, info: MonstermosInfo, n: usize, e: usize, words: &mut [u32], reals: &mut [f32])
+pub fn store(
+    row: usize,
+    info: MonstermosInfo,
+    n: usize,
+    e: usize,
+    words: &mut [u32],
+    reals: &mut [f32],
+)
     requires { ⌜ Fit n e (area (now words) (now reals)) × (row < n) ⌝ }
     ensures { λ _. ⌜ Does n e (λ o p. store p row info) (area (now (words .entry)) (now (reals .entry))) (area (now (words .exit)) (now (reals .exit))) ⌝ }
 {

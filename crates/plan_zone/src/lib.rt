@@ -14,10 +14,12 @@ ghost use Rattle.index_set.specs.Line.{Below};
 ghost use Rattle.reverse_links.specs.Reverse.{Linked, Reverses};
 ghost use Rattle.plan_state.specs.Held.{grid, ground, area, view, Fit, Does, Serves, Nodes, nodesOf};
 ghost use Rattle.plan_zone.specs.Zone.{sideOf, Gassed, Picked, Plans};
-use process_zone::{MonstermosInfo, Side};
-use plan_state::{list_at, store};
-use plan_search::serve;
 use plan_fast::fast_all;
+use plan_search::serve;
+use plan_state::list_at;
+use plan_state::store;
+use process_zone::MonstermosInfo;
+use process_zone::Side;
 
 // Whether a turf gives, or takes.
 fn picks(side: Side, x: f32) -> bool
@@ -43,7 +45,14 @@ fn count_one(r: u32, c: usize, e: usize, reals: &[f32]) -> usize
 }
 
 // How many of the nodes give.
-fn count_givers(first: usize, count: usize, n: usize, e: usize, words: &[u32], reals: &[f32]) -> usize
+fn count_givers(
+    first: usize,
+    count: usize,
+    n: usize,
+    e: usize,
+    words: &[u32],
+    reals: &[f32],
+) -> usize
     requires { ⌜ Fit n e (area (now words) (now reals)) × (Nodes n e first count (area (now words) (now reals)) × (count ≤ 4096)) ⌝ }
     ensures { λ k. ⌜ k ≡ length (chosen Giving (nodesOf n e (view n e (area (now (words .entry)) (now (reals .entry)))) first count) (view n e (area (now (words .entry)) (now (reals .entry))) .plan)) ⌝ }
 {
@@ -65,7 +74,15 @@ fn log2(n: u32) -> u32
 }
 
 // The turf r joins the list of c turfs, which starts at `list`, if it gives, or takes.
-fn choose(side: Side, r: u32, c: usize, list: usize, e: usize, words: &mut [u32], reals: &[f32]) -> usize
+fn choose(
+    side: Side,
+    r: u32,
+    c: usize,
+    list: usize,
+    e: usize,
+    words: &mut [u32],
+    reals: &[f32],
+) -> usize
     requires { ⌜ (list + c < length (now words)) × ((e + r < length (now reals)) × (c < 4096)) ⌝ }
     ensures { λ k. ⌜ (k ≡ cond (picks side (getD (now (reals .entry)) (e + r) nan)) (c + 1) c) × (now (words .exit) ≡ cond (picks side (getD (now (reals .entry)) (e + r) nan)) (set (now (words .entry)) (list + c) r) (now (words .entry))) ⌝ }
 {
@@ -119,7 +136,17 @@ fn serve_all(
     let list = list_at(n, e);
     let mut i = 0;
     while i < count {
-        serve(side, words[list + i], starts, neighbours, z, n, e, words, reals);
+        serve(
+            side,
+            words[list + i],
+            starts,
+            neighbours,
+            z,
+            n,
+            e,
+            words,
+            reals,
+        );
         i += 1;
     }
 }
@@ -251,7 +278,17 @@ fn all_deltas(
 {
     let mut i = 0;
     while i < count {
-        first_delta(words[first + i], average, mixtures, gases, gas, n, e, words, reals);
+        first_delta(
+            words[first + i],
+            average,
+            mixtures,
+            gases,
+            gas,
+            n,
+            e,
+            words,
+            reals,
+        );
         i += 1;
     }
 }
@@ -278,7 +315,18 @@ pub fn process_zone(
 {
     let size = count as u16;
     let average = moles / (size as f32);
-    all_deltas(first, count, average, mixtures, gases, gas, n, e, words, reals);
+    all_deltas(
+        first,
+        count,
+        average,
+        mixtures,
+        gases,
+        gas,
+        n,
+        e,
+        words,
+        reals,
+    );
     fast_pass(first, count, starts, neighbours, z, n, e, words, reals);
     share_out(first, count, starts, neighbours, z, n, e, words, reals);
 }
