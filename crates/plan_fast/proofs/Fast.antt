@@ -48,7 +48,7 @@ unfolding linksOf
 links-all b n r t h = up-all (getD (b .starts) r 0) (getD (b .starts) (r + 1) 0 - getD (b .starts) r 0) (λ k l m. record { from = l; to = omega (arith, t .rise r h) })
   where
     up-all : (a m : ℕ) → ((k : ℕ) → a ≤ k → k < a + m → InRow (b .starts) r k) → All (InRow (b .starts) r) (upFrom a m)
-    up-all a m g = Rattle.plan_state.proofs.Links.up-all (InRow (b .starts) r) a m g
+    up-all a m g = Rattle.reverse_links.proofs.Firsts.up-all (InRow (b .starts) r) a m g
 
 module _ (b : Board) (o : List ℕ) (z r : ℕ) where
   -- the count is the number of eligible links

@@ -1,1 +1,2 @@
 pub mod Reverse
+pub mod Words

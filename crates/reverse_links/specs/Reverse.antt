@@ -15,9 +15,11 @@ pub record InRow (starts : List ℕ) (r k : ℕ) : Type 0 where
   pub from : getD starts r 0 ≤ k
   pub to : k < getD starts (r + 1) 0
 
--- What refusal 4 leaves of the links of n turfs: starts that rise within the links, neighbours in range, none twice in a row.
+-- What refusal 4 leaves of the links of n turfs: starts that rise from 0 to the links' number, neighbours in range, none twice in a row.
 pub record Linked (n : ℕ) (starts neighbours : List ℕ) : Type 0 where
   pub starts-n : length starts ≡ n + 1
+  pub zero : getD starts 0 0 ≡ 0
+  pub all : getD starts n 0 ≡ length neighbours
   pub rise : (r : ℕ) → r < n → getD starts r 0 ≤ getD starts (r + 1) 0
   pub within : (r : ℕ) → r < n → getD starts (r + 1) 0 ≤ length neighbours
   pub rows : (k : ℕ) → k < length neighbours → getD neighbours k 0 < n
