@@ -45,6 +45,12 @@ module _ {A : Type 0} where
   cut-rest [] w = refl
   cut-rest (n ∷ sizes) w = cut-rest sizes (drop n w) ∙ drop-drop (base sizes (length sizes)) n w
 
+  -- an array by where it starts
+  pub region-part : (sizes : List ℕ) (w : List A) (k : ℕ) → k < length sizes → region sizes k w ≡ take (getD sizes k 0) (drop (base sizes k) w)
+  region-part [] w k h = absurd (not-suc-le-zero h)
+  region-part (n ∷ sizes) w zero h = refl
+  region-part (n ∷ sizes) w (suc k) h = region-part sizes (drop n w) k (le-of-suc-le-suc h) ∙ ap (take (getD sizes k 0)) (drop-drop (base sizes k) n w)
+
   -- a cleared work area: every array holds z alone
   pub cut-clear : (z : A) (sizes : List ℕ) (t : List A)
       → cut sizes (replicate (base sizes (length sizes)) z ++ t) ≡ map (λ (n : ℕ). replicate n z) sizes ++ t ∷ []

@@ -1,0 +1,6 @@
+pub mod Trades
+pub mod Drains
+pub mod Seeks
+pub mod Rows
+pub mod Search
+pub mod Serves

@@ -1,0 +1,105 @@
+-- The links of one turf in a search: a loop over its part of the link list is a loop over its edges, and a settled turf ends it. Assumes nothing.
+use Prim.Native.Nat.{ℕ, zero, suc, _+_, _-_, _≤_, _<_}
+use native.Mathlib.Omega.{arith}
+use native.Mathlib.Nat.{add-zero}
+use mathlib.Core.Path.{_≡_, refl, ap, _∙_, sym, subst}
+use mathlib.Core.List.{List, [], _∷_}
+use mathlib.Core.Bool.{Bool, true, false, cond}
+use lib.Dec.{eqb}
+use lib.ListN.{length, getD, take, drop}
+use lib.Ieee.{Float, nan}
+use Rattle.basics.specs.Loops.{run, upFrom}
+use Rattle.basics.proofs.Loops.{run-keep}
+use Rattle.turfs.specs.Board.{linksOf}
+use Rattle.process_zone.specs.Edges.{edgesOf}
+use Rattle.process_zone.specs.Plan.{Plan, Seek, settled, seekTo, seekLink}
+use Rattle.process_zone.specs.declared.Side.{Side}
+use Rattle.reverse_links.specs.Reverse.{InRow, Linked}
+use Rattle.plan_state.specs.Held.{grid, Area, area, View, view}
+use Rattle.plan_state.proofs.Stores.{frame-then, delta-at}
+use Rattle.plan_state.proofs.Parts.{part, part-run, part-get, part-length}
+use Rattle.plan_search.specs.Search.{Seeking, seekOf, Leaves, Sought, Leads, AllMet, KeepsMet}
+use Rattle.plan_search.specs.Steps.{alongPart}
+use Rattle.plan_search.proofs.Seeks.{leaves-none, to-settled}
+
+-- ---- in a loop: what is left to do, f, from here on comes to what the whole, f₀, comes to from the start
+
+pub leaves-then : {n e : ℕ} {a b c : Area} → Leaves n e a b → Leaves n e b c → Leaves n e a c
+leaves-then l m = record { frame = frame-then (l .frame) (m .frame); list = m .list ∙ l .list }
+
+pub record Onward (n e : ℕ) (f f₀ : List ℕ → Seek → Seek) (count count′ : ℕ) (a a′ : Area) : Type 0 where
+  pub seeking : Seeking n e count′ a′
+  pub rest : Leaves n e a a′
+  pub on : (looked : ℕ) → f (view n e a .owner) (seekOf (view n e a′) count′ looked) ≡ f₀ (view n e a .owner) (seekOf (view n e a) count looked)
+
+pub onward-start : {n e count : ℕ} {f f₀ : List ℕ → Seek → Seek} {a : Area} → Seeking n e count a → ((o : List ℕ) (s : Seek) → f o s ≡ f₀ o s) → Onward n e f f₀ count count a a
+onward-start h s = record { seeking = h; rest = leaves-none; on = λ looked. s _ _ }
+
+pub onward-next : {n e count count′ count″ : ℕ} {f f₀ : List ℕ → Seek → Seek} {a a′ a″ : Area} (h f′ : List ℕ → Seek → Seek) → Onward n e f f₀ count count′ a a′
+    → Sought n e h count′ count″ a′ a″ → ((o : List ℕ) (s : Seek) → f o s ≡ f′ o (h o s)) → Onward n e f′ f₀ count count″ a a″
+onward-next {n} {e} {count′ = c′} {a = a} {a′ = a′} h f′ b d s = record {
+  seeking = d .seeking;
+  rest = leaves-then (b .rest) (d .rest);
+  on = λ looked.
+      ap (f′ (view n e a .owner)) (d .same looked ∙ ap (λ (o : List ℕ). h o (seekOf (view n e a′) c′ looked)) (b .rest .frame .owner))
+      ∙ sym (s _ _) ∙ b .on looked;
+}
+
+pub onward-end : {n e count count′ : ℕ} {f f₀ : List ℕ → Seek → Seek} {a a′ : Area} → Onward n e f f₀ count count′ a a′
+    → ((o : List ℕ) (looked : ℕ) → f o (seekOf (view n e a′) count′ looked) ≡ seekOf (view n e a′) count′ looked) → Sought n e f₀ count count′ a a′
+onward-end b s = record { seeking = b .seeking; rest = b .rest; same = λ looked. sym (s _ looked) ∙ b .on looked }
+
+-- a step by another name
+pub sought-as : {n e count count′ : ℕ} {f f′ : List ℕ → Seek → Seek} {a a′ : Area} → Sought n e f count count′ a a′ → ((o : List ℕ) (s : Seek) → f o s ≡ f′ o s)
+    → Sought n e f′ count count′ a a′
+sought-as d s = record { seeking = d .seeking; rest = d .rest; same = λ looked. d .same looked ∙ s _ _ }
+
+pub keeps-next : {n e z r from : ℕ} {part : List ℕ} {count c c′ : ℕ} {A B C : Area} (i : ℕ) → i < length part → KeepsMet n e z r from part count c A B
+    → KeepsMet n e z r (from + i) (getD part i 0 ∷ []) c c′ B C → KeepsMet n e z r from part count c′ A C
+keeps-next {n} {r = r} {from} {part} i h k l = record {
+  keeps = λ starts neighbours t m. l .keeps starts neighbours (λ j g. one starts neighbours j g (t i h)) (k .keeps starts neighbours t m);
+}
+  where
+    one : (starts neighbours : List ℕ) (j : ℕ) → j < 1 → Leads n starts neighbours r (from + i) (getD part i 0) → Leads n starts neighbours r (from + i + j) (getD (getD part i 0 ∷ []) j 0)
+    one starts neighbours j g t = let q : j ≡ 0 = omega arith in rw (q, add-zero) t
+
+-- ---- a settled turf
+
+run-still : {A S : Type 0} (f : A → S → S) (s : S) → ((x : A) → f x s ≡ s) → (xs : List A) → run f xs s ≡ s
+unfolding run
+run-still f s h [] = refl
+run-still f s h (x ∷ xs) = ap (run f xs) (h x) ∙ run-still f s h xs
+
+pub along-settled : (side : Side) (g r : ℕ) (part : List ℕ) (from z n e count : ℕ) (w : List ℕ) (f : List Float) → g < n → settled side (getD f (e + g) nan) ≡ true
+    → (xs o : List ℕ) (looked : ℕ) → run (alongPart side g r part from z o) xs (seekOf (view n e (area w f)) count looked) ≡ seekOf (view n e (area w f)) count looked
+unfolding alongPart
+along-settled side g r part from z n e count w f hg t xs o looked =
+    run-still (alongPart side g r part from z o) s (λ i. pick (eqb (getD o (from + i) 0) (z + 1)) (getD part i 0)) xs
+  where
+    s : Seek
+    s = seekOf (view n e (area w f)) count looked
+
+    pick : (b : Bool) (a : ℕ) → cond b (seekTo side g r a (seekOf (view n e (area w f)) count looked)) (seekOf (view n e (area w f)) count looked) ≡ seekOf (view n e (area w f)) count looked
+    pick true a = sym (to-settled side g r a (seekOf (view n e (area w f)) count looked) (rw (delta-at n e g w f hg) at t))
+    pick false a = refl
+
+-- ---- the part of the links
+
+pub part-is : (n : ℕ) (starts neighbours : List ℕ) (z : ℕ) (side : Side) (g r : ℕ) → Linked n starts neighbours → r < n → (o : List ℕ) (s : Seek)
+    → run (alongPart side g r (part neighbours (getD starts r 0) (getD starts (r + 1) 0)) (getD starts r 0) z o) (upFrom 0 (length (part neighbours (getD starts r 0) (getD starts (r + 1) 0)))) s
+    ≡ run (seekLink (grid n starts neighbours) o z side g r) (edgesOf (grid n starts neighbours) o z r) s
+unfolding alongPart seekLink edgesOf
+part-is n starts neighbours z side g r t h o s =
+    part-run n starts neighbours r t h (λ k a u. cond (eqb (getD o k 0) (z + 1)) (seekTo side g r a u) u) s
+    ∙ sym (run-keep (λ k. eqb (getD o k 0) (z + 1)) (λ k u. seekTo side g r (getD neighbours k 0) u) (linksOf (grid n starts neighbours) r) s)
+
+-- each link of the part leads from the turf
+pub part-leads : (n : ℕ) (starts neighbours : List ℕ) (r : ℕ) → Linked n starts neighbours → r < n → (i : ℕ) → i < length (part neighbours (getD starts r 0) (getD starts (r + 1) 0))
+    → Leads n starts neighbours r (getD starts r 0 + i) (getD (part neighbours (getD starts r 0) (getD starts (r + 1) 0)) i 0)
+part-leads n starts neighbours r t h i l =
+    let m : i < getD starts (r + 1) 0 - getD starts r 0 = rw (part-length n starts neighbours r t h) at l in
+    record {
+      row = h;
+      link = record { from = omega arith; to = omega (arith, t .rise r h) };
+      ends = sym (part-get neighbours (getD starts r 0) (getD starts (r + 1) 0) i m);
+    }

@@ -1,0 +1,213 @@
+-- One link of a search: a new row joins the queue with its place and its link, and is met. Assumes nothing.
+use Prim.Native.Nat.{ℕ, zero, suc, _+_, _-_, _≤_, _<_}
+use native.Mathlib.Omega.{arith}
+use native.Mathlib.Nat.{add-zero}
+use native.Mathlib.Decide.{ℕ-discrete}
+use mathlib.Core.Path.{_≡_, refl, ap, ap₂, _∙_, sym, subst}
+use mathlib.Core.Logic.{_≢_}
+use mathlib.Core.List.{List, [], _∷_}
+use mathlib.Core.Bool.{Bool, true, false, _||_, cond}
+use lib.Dec.{eqb}
+use lib.ListN.{length, getD, set, take, drop, length-set}
+use lib.Seq.{getD-take, getD-set-same, getD-set-other, length-take-le}
+use lib.Ieee.{Float, nan}
+use borrow.Author.Tests.{eq-eqb, ne-eqb}
+use Rattle.basics.specs.Loops.{member, snoc}
+use Rattle.basics.specs.Regions.{cut}
+use Rattle.basics.proofs.Regions.{cut-set, cut-length, region-part}
+use Rattle.process_zone.specs.Plan.{Plan, Seek, settled, meet, seekTo}
+use Rattle.process_zone.specs.declared.Side.{Side}
+use Rattle.index_set.specs.Line.{Line, array, Holds}
+use Rattle.index_set.proofs.Queue.{not-member, count-below, take-more, line-more}
+use Rattle.plan_state.specs.Held.{Area, area, wsizes, rsizes, View, viewIn, view, Fit, onPlan, Does}
+use Rattle.plan_state.proofs.Stores.{frame-none, owner-at, delta-at}
+use Rattle.plan_search.specs.Search.{Seeking, seekOf, Leaves, Sought, Leads, Met, AllMet, KeepsMet}
+use Rattle.plan_search.proofs.Trades.{meet-direction}
+
+pub leaves-none : {n e : ℕ} {a : Area} → Leaves n e a a
+leaves-none = record { frame = frame-none; list = refl }
+
+pub sought-none : {n e count : ℕ} (f : List ℕ → Seek → Seek) {a : Area} → Seeking n e count a
+    → ((looked : ℕ) → seekOf (view n e a) count looked ≡ f (view n e a .owner) (seekOf (view n e a) count looked)) → Sought n e f count count a a
+sought-none f h s = record { seeking = h; rest = leaves-none; same = s }
+
+pub keeps-none : {n e z r from : ℕ} {part : List ℕ} {count : ℕ} {a : Area} → KeepsMet n e z r from part count count a a
+keeps-none = record { keeps = λ starts neighbours l m. m }
+
+-- ---- the definition's step
+
+module _ (side : Side) (g r a : ℕ) (s : Seek) where
+  pub to-settled : settled side (getD (s .plan .delta) g nan) ≡ true → s ≡ seekTo side g r a s
+  unfolding seekTo
+  to-settled h = simp h
+
+  to-queued : settled side (getD (s .plan .delta) g nan) ≡ false → member a (s .queue) ≡ true → s ≡ seekTo side g r a s
+  unfolding seekTo
+  to-queued h m = simp (h, m)
+
+  to-new : settled side (getD (s .plan .delta) g nan) ≡ false → member a (s .queue) ≡ false
+      → record { queue = snoc (s .queue) a; looked = s .looked; plan = meet side g r a (s .plan) } ≡ seekTo side g r a s
+  unfolding seekTo
+  to-new h m = simp (h, m)
+
+-- ---- the turf that is met joins those that were met
+
+-- what the view comes to, but for the plan
+pub record Joins (count r k a : ℕ) (v v′ : View) : Type 0 where
+  pub owner : v′ .owner ≡ v .owner
+  pub queue : v′ .queue ≡ set (v .queue) count a
+  pub via : v′ .via ≡ set (v .via) a k
+  pub direction : v′ .plan .direction ≡ set (v .plan .direction) a (r + 1)
+
+module _ (n z count r k a : ℕ) (starts neighbours : List ℕ) (v v′ : View) (j : Joins count r k a v v′) (l : Line n count (v .queue) (v .places))
+    (new : member a (take count (v .queue)) ≡ false) where
+  met-before : (i : ℕ) → i < count → Met n z starts neighbours v (getD (v .queue) i 0) → Met n z starts neighbours v′ (getD (v′ .queue) i 0)
+  met-before i h m =
+      let long : length (take count (v .queue)) ≡ count = length-take-le count (v .queue) (omega (arith, l .few, l .queue-n)) in
+      let b : ℕ = getD (v .queue) i 0 in
+      let q : getD (v′ .queue) i 0 ≡ b = ap (λ (xs : List ℕ). getD xs i 0) (j .queue) ∙ getD-set-other (v .queue) count i a 0 (λ x. omega arith) in
+      let ne : b ≢ a = λ x. not-member a (take count (v .queue)) new i (rw long h) (getD-take count (v .queue) i 0 h ∙ x) in
+      let ed : getD (v′ .plan .direction) b 0 ≡ getD (v .plan .direction) b 0 = ap (λ (xs : List ℕ). getD xs b 0) (j .direction) ∙ getD-set-other (v .plan .direction) a b (r + 1) 0 ne in
+      let ek : getD (v′ .via) b 0 ≡ getD (v .via) b 0 = ap (λ (xs : List ℕ). getD xs b 0) (j .via) ∙ getD-set-other (v .via) a b k 0 ne in
+      subst (Met n z starts neighbours v′) (sym q) (record { over = λ d x. rw (ek, j .owner) (m .over d (sym ed ∙ x)) })
+
+  met-here : a < length (v .plan .direction) → a < length (v .via) → count < length (v .queue) → Leads n starts neighbours r k a → getD (v .owner) k 0 ≡ z + 1
+      → Met n z starts neighbours v′ (getD (v′ .queue) count 0)
+  met-here hd hv hq t o =
+      let q : getD (v′ .queue) count 0 ≡ a = ap (λ (xs : List ℕ). getD xs count 0) (j .queue) ∙ getD-set-same (v .queue) count a 0 hq in
+      let ed : getD (v′ .plan .direction) a 0 ≡ r + 1 = ap (λ (xs : List ℕ). getD xs a 0) (j .direction) ∙ getD-set-same (v .plan .direction) a (r + 1) 0 hd in
+      let ek : getD (v′ .via) a 0 ≡ k = ap (λ (xs : List ℕ). getD xs a 0) (j .via) ∙ getD-set-same (v .via) a k 0 hv in
+      subst (Met n z starts neighbours v′) (sym q)
+      (record { over = λ d x. let e : d ≡ r = omega (arith, ed, x) in rw (ek, e, j .owner) (t, o) })
+
+-- ---- a link
+
+abbrev linked : Side → ℕ → ℕ → ℕ → ℕ → ℕ → List ℕ → Seek → Seek
+linked side g r k a z o s = cond (eqb (getD o k 0) (z + 1)) (seekTo side g r a s) s
+
+module _ (side : Side) (g r k a z n e count : ℕ) (w : List ℕ) (f : List Float) (h : Seeking n e count (area w f)) (hk : k < e) (hg : g < n) (ha : a < n) where
+  pub link-foreign : (getD w k 0 ≡ z + 1 → ⊥) → Sought n e (linked side g r k a z) count count (area w f) (area w f)
+  link-foreign o = sought-none (linked side g r k a z) h (λ looked. rw (ne-eqb _ _ (λ i. o (owner-at n e k w f hk ∙ i))))
+
+  module _ (queue places : ℕ) (eq : queue ≡ e + e + n + n + n) (ep : places ≡ e + e + n + n + n + n) where
+    queue-is : view n e (area w f) .queue ≡ array n queue w
+    unfolding view
+    queue-is =
+        let q : e + (e + (n + (n + (n + 0)))) ≡ queue = omega arith in
+        region-part (wsizes n e) w 5 (omega arith) ∙ ap (λ (m : ℕ). take n (drop m w)) q
+
+    places-is : view n e (area w f) .places ≡ array n places w
+    unfolding view
+    places-is =
+        let q : e + (e + (n + (n + (n + (n + 0))))) ≡ places = omega arith in
+        region-part (wsizes n e) w 6 (omega arith) ∙ ap (λ (m : ℕ). take n (drop m w)) q
+
+    pub link-holds : Holds n count queue places w
+    link-holds = record {
+      room = (omega (arith, h .fit .words), omega (arith, h .fit .words));
+      line = subst (λ (p : List ℕ). Line n count (array n queue w) p) places-is (subst (λ (q : List ℕ). Line n count q (view n e (area w f) .places)) queue-is (h .line));
+    }
+
+    module _ (o : getD w k 0 ≡ z + 1) (t : settled side (getD f (e + g) nan) ≡ false) where
+      ours : (s : Seek) → seekTo side g r a s ≡ linked side g r k a z (view n e (area w f) .owner) s
+      ours s = rw (eq-eqb _ _ (sym (owner-at n e k w f hk) ∙ o))
+
+      pub link-queued : true ≡ member a (take count (array n queue w)) → Sought n e (linked side g r k a z) count count (area w f) (area w f)
+      link-queued m =
+          sought-none (linked side g r k a z) h
+          (λ looked. to-queued side g r a _ (rw (delta-at n e g w f hg) at t) (ap (λ (q : List ℕ). member a (take count q)) queue-is ∙ sym m) ∙ ours _)
+
+      module _ (m : false ≡ member a (take count (array n queue w))) where
+        new : member a (take count (view n e (area w f) .queue)) ≡ false
+        new = ap (λ (q : List ℕ). member a (take count q)) queue-is ∙ sym m
+
+        pub link-room : count < n
+        link-room = count-below (h .line) a ha new
+
+        unfoldable pushed : View
+        pushed = record {
+          owner = view n e (area w f) .owner;
+          reverse = view n e (area w f) .reverse;
+          plan = view n e (area w f) .plan;
+          via = set (view n e (area w f) .via) a k;
+          queue = set (view n e (area w f) .queue) count a;
+          places = set (view n e (area w f) .places) a count;
+          list = view n e (area w f) .list;
+          restW = view n e (area w f) .restW;
+          restR = view n e (area w f) .restR;
+        }
+
+        module _ (w′ : List ℕ) (s : w′ ≡ set (set w (queue + count) a) (places + a) count) where
+          push-view : view n e (area (set w′ (e + e + n + a) k) f) ≡ pushed
+          unfolding view pushed
+          push-view =
+              rw s (ap (λ rs. viewIn rs (cut (rsizes n e) f))
+              (cut-set (wsizes n e) (set (set w (queue + count) a) (places + a) count) 3 a k (e + e + n + a) (omega arith) ha (omega arith)
+              ∙ ap (λ rs. set rs 3 (set (getD rs 3 []) a k))
+              (cut-set (wsizes n e) (set w (queue + count) a) 6 a count (places + a) (omega arith) ha (omega arith)
+              ∙ ap (λ rs. set rs 6 (set (getD rs 6 []) a count)) (cut-set (wsizes n e) w 5 count a (queue + count) (omega arith) link-room (omega arith)))))
+
+          pub push-fit : Fit n e (area (set w′ (e + e + n + a) k) f)
+          push-fit = record {
+            words = rw s (simp length-set (h .fit .words));
+            reals = h .fit .reals;
+            turfs = h .fit .turfs;
+            links = h .fit .links;
+          }
+
+          module _ {A : Area} (d : Does n e (λ o p. meet side g r a p) (area (set w′ (e + e + n + a) k) f) A) where
+            after : view n e A ≡ onPlan (λ o p. meet side g r a p) pushed
+            after = d .same ∙ ap (onPlan (λ o p. meet side g r a p)) push-view
+
+            pub link-new : Sought n e (linked side g r k a z) count (count + 1) (area w f) A
+            unfolding pushed
+            link-new = record {
+              seeking = record { fit = d .fit; line = subst (λ (v : View). Line n (count + 1) (v .queue) (v .places)) (sym after) (line-more (h .line) a ha new) };
+              rest = record {
+                frame = record {
+                  owner = ap (λ (v : View). v .owner) after;
+                  reverse = ap (λ (v : View). v .reverse) after;
+                  restW = ap (λ (v : View). v .restW) after;
+                  restR = ap (λ (v : View). v .restR) after;
+                };
+                list = ap (λ (v : View). v .list) after;
+              };
+              same = λ looked.
+                  ap (λ (v : View). seekOf v (count + 1) looked) after
+                  ∙ ap (λ (q : List ℕ). record { queue = q; looked = looked; plan = meet side g r a (view n e (area w f) .plan) }) (take-more (h .line) a ha new)
+                  ∙ to-new side g r a _ (rw (delta-at n e g w f hg) at t) new
+                  ∙ ours _;
+            }
+
+            joins : Joins count r k a (view n e (area w f)) (view n e A)
+            unfolding pushed
+            joins = record {
+              owner = ap (λ (v : View). v .owner) after;
+              queue = ap (λ (v : View). v .queue) after;
+              via = ap (λ (v : View). v .via) after;
+              direction = ap (λ (v : View). v .plan .direction) after ∙ meet-direction side g r a (view n e (area w f) .plan);
+            }
+
+            long-direction : length (view n e (area w f) .plan .direction) ≡ n
+            unfolding view
+            long-direction = cut-length (wsizes n e) w 2 (omega arith) (omega (arith, h .fit .words))
+
+            long-via : length (view n e (area w f) .via) ≡ n
+            unfolding view
+            long-via = cut-length (wsizes n e) w 3 (omega arith) (omega (arith, h .fit .words))
+
+            pub link-keeps : KeepsMet n e z r k (a ∷ []) count (count + 1) (area w f) A
+            link-keeps = record {
+              keeps = λ starts neighbours l m i hi. pick starts neighbours l m i hi (ℕ-discrete i count);
+            }
+              where
+                pick : (starts neighbours : List ℕ) → ((i : ℕ) → i < 1 → Leads n starts neighbours r (k + i) (getD (a ∷ []) i 0))
+                    → AllMet n z starts neighbours (view n e (area w f)) count → (i : ℕ) → i < count + 1 → Dec (i ≡ count)
+                    → Met n z starts neighbours (view n e A) (getD (view n e A .queue) i 0)
+                pick starts neighbours l m i hi (yes q) =
+                    let t₀ : Leads n starts neighbours r k a = subst (λ (x : ℕ). Leads n starts neighbours r x a) (add-zero k) (l 0 (omega arith)) in
+                    subst (λ (x : ℕ). Met n z starts neighbours (view n e A) (getD (view n e A .queue) x 0)) (sym q)
+                    (met-here n z count r k a starts neighbours (view n e (area w f)) (view n e A) joins (h .line) new (omega (arith, long-direction)) (omega (arith, long-via))
+                    (omega (arith, h .line .queue-n, link-room)) t₀ (sym (owner-at n e k w f hk) ∙ o))
+                pick starts neighbours l m i hi (no q) =
+                    met-before n z count r k a starts neighbours (view n e (area w f)) (view n e A) joins (h .line) new i (omega (arith, q)) (m i (omega (arith, q)))

@@ -1,0 +1,61 @@
+-- What holds in a search, and what a step of it promises.
+use Prim.Native.Nat.{ℕ, _+_, _≤_, _<_}
+use mathlib.Core.Path.{_≡_}
+use mathlib.Core.List.{List}
+use lib.ListN.{length, getD, take}
+use Rattle.process_zone.specs.Plan.{Plan, Seek}
+use Rattle.index_set.specs.Line.{Line}
+use Rattle.reverse_links.specs.Reverse.{InRow}
+use Rattle.plan_state.specs.Held.{Area, View, view, Fit, Frame}
+
+-- the queue has `count` rows
+pub record Seeking (n e count : ℕ) (a : Area) : Type 0 where
+  pub fit : Fit n e a
+  pub line : Line n count (view n e a .queue) (view n e a .places)
+
+-- the search that the areas hold
+abbrev pub seekOf : View → ℕ → ℕ → Seek
+seekOf v count looked = record { queue = take count (v .queue); looked = looked; plan = v .plan }
+
+-- what a search leaves as it was
+pub record Leaves (n e : ℕ) (a a′ : Area) : Type 0 where
+  pub frame : Frame n e a a′
+  pub list : view n e a′ .list ≡ view n e a .list
+
+-- from a to a′ by the step f of the search, wherever it has looked up to; all else is as it was
+pub record Sought (n e : ℕ) (f : List ℕ → Seek → Seek) (count count′ : ℕ) (a a′ : Area) : Type 0 where
+  pub seeking : Seeking n e count′ a′
+  pub rest : Leaves n e a a′
+  pub same : (looked : ℕ) → seekOf (view n e a′) count′ looked ≡ f (view n e a .owner) (seekOf (view n e a) count looked)
+
+-- from a to a′ by the whole search f, which has looked nowhere yet
+pub record Searched (n e : ℕ) (f : List ℕ → Seek → Seek) (count count′ : ℕ) (a a′ : Area) : Type 0 where
+  pub seeking : Seeking n e count′ a′
+  pub rest : Leaves n e a a′
+  pub queue : take count′ (view n e a′ .queue) ≡ f (view n e a .owner) (seekOf (view n e a) count 0) .queue
+  pub plan : view n e a′ .plan ≡ f (view n e a .owner) (seekOf (view n e a) count 0) .plan
+
+-- ---- the links over which turfs were met
+
+-- the link k of the turf r ends at the turf a
+pub record Leads (n : ℕ) (starts neighbours : List ℕ) (r k a : ℕ) : Type 0 where
+  pub row : r < n
+  pub link : InRow starts r k
+  pub ends : getD neighbours k 0 ≡ a
+
+-- a turf that points at d was met from there, over the link of zone z that `via` has
+pub record Met (n z : ℕ) (starts neighbours : List ℕ) (v : View) (a : ℕ) : Type 0 where
+  pub over : (d : ℕ) → getD (v .plan .direction) a 0 ≡ d + 1 → Leads n starts neighbours d (getD (v .via) a 0) a × (getD (v .owner) (getD (v .via) a 0) 0 ≡ z + 1)
+
+-- each row of the queue was met so
+abbrev pub AllMet : ℕ → ℕ → List ℕ → List ℕ → View → ℕ → Type 0
+AllMet n z starts neighbours v count = (i : ℕ) → i < count → Met n z starts neighbours v (getD (v .queue) i 0)
+
+-- a step over links of the turf r, those of `part` from `from` on, keeps that so
+pub record KeepsMet (n e z r from : ℕ) (part : List ℕ) (count count′ : ℕ) (a a′ : Area) : Type 0 where
+  pub keeps : (starts neighbours : List ℕ) → ((i : ℕ) → i < length part → Leads n starts neighbours r (from + i) (getD part i 0))
+      → AllMet n z starts neighbours (view n e a) count → AllMet n z starts neighbours (view n e a′) count′
+
+-- what the way back reads is within the areas
+pub record Within (n e : ℕ) (v : View) (a : ℕ) : Type 0 where
+  pub at : (d : ℕ) → getD (v .plan .direction) a 0 ≡ d + 1 → (d < n) × ((getD (v .via) a 0 < e) × (getD (v .reverse) (getD (v .via) a 0) 0 ≤ e))

@@ -1,0 +1,374 @@
+// `give_to_takers` and `take_from_givers` for one turf: a search from it through the zone, then the way back. One body serves both; what differs
+// is the tests.
+ghost use mathlib.Core.Path.{_≡_};
+ghost use mathlib.Core.Bool.{false, cond};
+ghost use mathlib.Core.List.{List, [], _∷_, reverse};
+ghost use Prim.Native.Nat.{ℕ, _+_, _-_, _≤_, _<_};
+ghost use lib.Dec.{eqb};
+ghost use lib.Ieee.{nan};
+ghost use lib.ListN.{length, getD, take, drop};
+ghost use Rattle.basics.proofs.Loops.{Found};
+ghost use Rattle.basics.specs.Loops.{run, times, upFrom};
+ghost use Rattle.process_zone.specs.Edges.{edgesOf};
+ghost use Rattle.process_zone.specs.Plan.{settled, wants, more, trade, meet, seekTo, seekLink, seekNext, serve};
+ghost use Rattle.index_set.specs.Line.{Below};
+ghost use Rattle.reverse_links.specs.Reverse.{Linked, Reverses};
+ghost use Rattle.plan_state.specs.Held.{grid, area, view, Fit, Does, Serves};
+ghost use Rattle.plan_search.specs.Search.{Seeking, Sought, Searched, AllMet, KeepsMet, Within};
+ghost use Rattle.plan_search.specs.Steps.{bargain, point, alongPart, handOn, drainVia};
+use basics::Spot;
+use index_set::contains;
+use index_set::insert;
+use plan_state::adjust_eq_movement;
+use plan_state::back_link;
+use plan_state::load;
+use plan_state::places_at;
+use plan_state::queue_at;
+use plan_state::store;
+use plan_state::via_at;
+use process_zone::MonstermosInfo;
+use process_zone::Side;
+
+// The turf in hand has nothing more to give, or to take.
+fn settled(side: Side, x: f32) -> bool
+    ensures { λ r. ⌜ r ≡ settled side x ⌝ }
+{
+    match side {
+        Side::Giving => x <= 0.0,
+        Side::Taking => x >= 0.0,
+    }
+}
+
+// The turf that is met can take, or give.
+fn wants(side: Side, y: f32) -> bool
+    ensures { λ r. ⌜ r ≡ wants side y ⌝ }
+{
+    match side {
+        Side::Giving => y < 0.0,
+        Side::Taking => y > 0.0,
+    }
+}
+
+// The turf that is met has room for all that the turf in hand has left, and some over.
+fn more(side: Side, x: f32, y: f32) -> bool
+    ensures { λ r. ⌜ r ≡ more side x y ⌝ }
+{
+    match side {
+        Side::Giving => -y > x,
+        Side::Taking => y > -x,
+    }
+}
+
+// The turf in hand and the turf that is met.
+pub struct Both {
+    pub hand: MonstermosInfo,
+    pub met: MonstermosInfo,
+}
+
+fn barter(side: Side, hand: MonstermosInfo, met: MonstermosInfo) -> Both
+    ensures { λ r. ⌜ r ≡ bargain side hand met ⌝ }
+{
+    let x = hand.delta;
+    let y = met.delta;
+    if !wants(side, y) {
+        return Both { hand, met };
+    }
+    if more(side, x, y) {
+        let h = MonstermosInfo {
+            delta: 0.0,
+            amount: hand.amount,
+            direction: hand.direction,
+            fast: hand.fast,
+        };
+        let m = MonstermosInfo {
+            delta: y + x,
+            amount: met.amount - x,
+            direction: met.direction,
+            fast: met.fast,
+        };
+        return Both { hand: h, met: m };
+    }
+    let h = MonstermosInfo {
+        delta: x + y,
+        amount: hand.amount,
+        direction: hand.direction,
+        fast: hand.fast,
+    };
+    let m = MonstermosInfo {
+        delta: 0.0,
+        amount: met.amount + y,
+        direction: met.direction,
+        fast: met.fast,
+    };
+    Both { hand: h, met: m }
+}
+
+// The turf in hand, g, and the turf that is met, a.
+fn trade(side: Side, g: usize, a: usize, n: usize, e: usize, words: &mut [u32], reals: &mut [f32])
+    requires { ⌜ Fit n e (area (now words) (now reals)) × ((g < n) × (a < n)) ⌝ }
+    ensures { λ _. ⌜ Does n e (λ o p. trade side g a p) (area (now (words .entry)) (now (reals .entry))) (area (now (words .exit)) (now (reals .exit))) ⌝ }
+{
+    let hand = load(g, n, e, words, reals);
+    let met = load(a, n, e, words, reals);
+    let both = barter(side, hand, met);
+    store(a, both.met, n, e, words, reals);
+    store(g, both.hand, n, e, words, reals);
+}
+
+// The turf at row a points at d - 1, and has moved nothing yet.
+fn point(a: usize, d: u32, n: usize, e: usize, words: &mut [u32], reals: &mut [f32])
+    requires { ⌜ Fit n e (area (now words) (now reals)) × (a < n) ⌝ }
+    ensures { λ _. ⌜ Does n e (λ o p. point a d p) (area (now (words .entry)) (now (reals .entry))) (area (now (words .exit)) (now (reals .exit))) ⌝ }
+{
+    words[e + e + a] = d;
+    reals[e + n + a] = 0.0;
+}
+
+// A turf that is met for the first time, from r.
+fn meet(
+    side: Side,
+    g: usize,
+    r: u32,
+    a: usize,
+    n: usize,
+    e: usize,
+    words: &mut [u32],
+    reals: &mut [f32],
+)
+    requires { ⌜ Fit n e (area (now words) (now reals)) × ((g < n) × ((a < n) × (r < n))) ⌝ }
+    ensures { λ _. ⌜ Does n e (λ o p. meet side g r a p) (area (now (words .entry)) (now (reals .entry))) (area (now (words .exit)) (now (reals .exit))) ⌝ }
+{
+    point(a, r + 1, n, e, words, reals);
+    if wants(side, reals[e + a]) {
+        trade(side, g, a, n, e, words, reals);
+    }
+}
+
+// A link of the turf r, which ends at the row a. The turf in hand is g, and isn't settled.
+fn seek_link(
+    side: Side,
+    g: usize,
+    r: u32,
+    k: usize,
+    a: u32,
+    z: u32,
+    n: usize,
+    e: usize,
+    count: usize,
+    words: &mut [u32],
+    reals: &mut [f32],
+) -> usize
+    requires { ⌜ Seeking n e count (area (now words) (now reals)) × ((z < 4096) × (settled side (getD (now reals) (e + g) nan) ≡ false)) ⌝ }
+    requires { ⌜ (g < n) × ((r < n) × ((a < n) × (k < e))) ⌝ }
+    ensures { λ c. ⌜ Sought n e (λ o s. cond (eqb (getD o k 0) (z + 1)) (seekTo side g r a s) s) count c (area (now (words .entry)) (now (reals .entry))) (area (now (words .exit)) (now (reals .exit))) ⌝ }
+    ensures { λ c. ⌜ KeepsMet n e z r k (a ∷ []) count c (area (now (words .entry)) (now (reals .entry))) (area (now (words .exit)) (now (reals .exit))) ⌝ }
+{
+    if words[k] != z + 1 {
+        return count;
+    }
+    let queue = queue_at(n, e);
+    let places = places_at(n, e);
+    if contains(a, count, n, queue, places, words) {
+        return count;
+    }
+    insert(a, count, queue, places, words);
+    let row = a as usize;
+    words[e + e + n + row] = k as u32;
+    meet(side, g, r, row, n, e, words, reals);
+    count + 1
+}
+
+// The links of the turf r, which are handed on as a part of the link list that starts at `from`.
+fn seek_row(
+    side: Side,
+    g: usize,
+    r: u32,
+    part: &[u32],
+    from: usize,
+    z: u32,
+    n: usize,
+    e: usize,
+    count: usize,
+    words: &mut [u32],
+    reals: &mut [f32],
+) -> usize
+    requires { ⌜ Seeking n e count (area (now words) (now reals)) × (z < 4096) ⌝ }
+    requires { ⌜ (g < n) × ((r < n) × (Below n (now part) × (from + length (now part) ≤ e))) ⌝ }
+    ensures { λ c. ⌜ Sought n e (λ o s. run (alongPart side g r (now (part .entry)) from z o) (upFrom 0 (length (now (part .entry)))) s) count c (area (now (words .entry)) (now (reals .entry))) (area (now (words .exit)) (now (reals .exit))) ⌝ }
+    ensures { λ c. ⌜ KeepsMet n e z r from (now (part .entry)) count c (area (now (words .entry)) (now (reals .entry))) (area (now (words .exit)) (now (reals .exit))) ⌝ }
+{
+    let mut c = count;
+    let mut i = 0;
+    while i < part.len() {
+        if settled(side, reals[e + g]) {
+            return c;
+        }
+        c = seek_link(side, g, r, from + i, part[i], z, n, e, c, words, reals);
+        i += 1;
+    }
+    c
+}
+
+// The turf r of the queue.
+fn seek_turf(
+    side: Side,
+    g: usize,
+    r: u32,
+    starts: &[u32],
+    neighbours: &[u32],
+    z: u32,
+    n: usize,
+    e: usize,
+    count: usize,
+    words: &mut [u32],
+    reals: &mut [f32],
+) -> usize
+    requires { ⌜ Seeking n e count (area (now words) (now reals)) × (z < 4096) ⌝ }
+    requires { ⌜ (g < n) × ((r < n) × (Linked n (now starts) (now neighbours) × (length (now neighbours) ≡ e))) ⌝ }
+    ensures { λ c. ⌜ Sought n e (λ o s. run (seekLink (grid n (now (starts .entry)) (now (neighbours .entry))) o z side g r) (edgesOf (grid n (now (starts .entry)) (now (neighbours .entry))) o z r) s) count c (area (now (words .entry)) (now (reals .entry))) (area (now (words .exit)) (now (reals .exit))) ⌝ }
+    ensures { λ c. ⌜ (AllMet n z (now (starts .entry)) (now (neighbours .entry)) (view n e (area (now (words .entry)) (now (reals .entry)))) count → AllMet n z (now (starts .entry)) (now (neighbours .entry)) (view n e (area (now (words .exit)) (now (reals .exit)))) c) ⌝ }
+{
+    let row = r as usize;
+    let from = starts[row] as usize;
+    let to = starts[row + 1] as usize;
+    seek_row(
+        side,
+        g,
+        r,
+        &neighbours[from..to],
+        from,
+        z,
+        n,
+        e,
+        count,
+        words,
+        reals,
+    )
+}
+
+// The search from the turf g, which is at the queue's start: it answers how many rows the queue has then.
+fn seek(
+    side: Side,
+    g: usize,
+    starts: &[u32],
+    neighbours: &[u32],
+    z: u32,
+    n: usize,
+    e: usize,
+    words: &mut [u32],
+    reals: &mut [f32],
+) -> usize
+    requires { ⌜ Seeking n e 1 (area (now words) (now reals)) × (z < 4096) ⌝ }
+    requires { ⌜ (g < n) × (Linked n (now starts) (now neighbours) × ((length (now neighbours) ≡ e) × AllMet n z (now starts) (now neighbours) (view n e (area (now words) (now reals))) 1)) ⌝ }
+    ensures { λ c. ⌜ Searched n e (λ o s. times (seekNext (grid n (now (starts .entry)) (now (neighbours .entry))) o z side g) n s) 1 c (area (now (words .entry)) (now (reals .entry))) (area (now (words .exit)) (now (reals .exit))) ⌝ }
+    ensures { λ c. ⌜ AllMet n z (now (starts .entry)) (now (neighbours .entry)) (view n e (area (now (words .exit)) (now (reals .exit)))) c ⌝ }
+{
+    let queue = queue_at(n, e);
+    let mut count = 1;
+    let mut looked = 0;
+    while looked < count {
+        if settled(side, reals[e + g]) {
+            return count;
+        }
+        count = seek_turf(
+            side,
+            g,
+            words[queue + looked],
+            starts,
+            neighbours,
+            z,
+            n,
+            e,
+            count,
+            words,
+            reals,
+        );
+        looked += 1;
+    }
+    count
+}
+
+// The turf r hands its amount on to the turf d, over the edges at hand.
+fn hand_on(
+    there: Spot,
+    back: Spot,
+    r: usize,
+    d: usize,
+    n: usize,
+    e: usize,
+    words: &[u32],
+    reals: &mut [f32],
+)
+    requires { ⌜ Fit n e (area (now words) (now reals)) × ((r < n) × (d < n)) ⌝ }
+    requires { ⌜ Found (λ k. k < e) there × Found (λ k. k < e) back ⌝ }
+    ensures { λ _. ⌜ Does n e (λ o p. handOn there back r d p) (area (now (words .entry)) (now (reals .entry))) (area (now (words .exit)) (now (reals .exit))) ⌝ }
+{
+    let x = reals[e + n + r];
+    adjust_eq_movement(there, back, x, reals);
+    reals[e + n + d] = reals[e + n + d] + x;
+    reals[e + n + r] = 0.0;
+}
+
+// The turf r of the queue, on the way back.
+fn drain_turf(r: u32, z: u32, n: usize, e: usize, words: &[u32], reals: &mut [f32])
+    requires { ⌜ Fit n e (area (now words) (now reals)) × ((z < 4096) × ((r < n) × Within n e (view n e (area (now words) (now reals))) r)) ⌝ }
+    ensures { λ _. ⌜ Does n e (λ o p. drainVia (view n e (area (now (words .entry)) (now (reals .entry))) .reverse) (view n e (area (now (words .entry)) (now (reals .entry))) .via) z o r p) (area (now (words .entry)) (now (reals .entry))) (area (now (words .exit)) (now (reals .exit))) ⌝ }
+{
+    let row = r as usize;
+    let i = load(row, n, e, words, reals);
+    let amount = i.amount;
+    let direction = i.direction as usize;
+    if amount != 0.0 {
+        if direction != 0 {
+            let k = words[e + e + n + row] as usize;
+            let there = back_link(k, z, e, words);
+            hand_on(there, Spot::At(k), row, direction - 1, n, e, words, reals);
+        }
+    }
+}
+
+// The queue from its end.
+fn drain(count: usize, z: u32, n: usize, e: usize, words: &[u32], reals: &mut [f32])
+    requires { ⌜ Seeking n e count (area (now words) (now reals)) × (z < 4096) ⌝ }
+    requires { ⌜ ((i : ℕ) → i < count → Within n e (view n e (area (now words) (now reals))) (getD (view n e (area (now words) (now reals)) .queue) i 0)) ⌝ }
+    ensures { λ _. ⌜ Does n e (λ o p. run (drainVia (view n e (area (now (words .entry)) (now (reals .entry))) .reverse) (view n e (area (now (words .entry)) (now (reals .entry))) .via) z o) (reverse (take count (view n e (area (now (words .entry)) (now (reals .entry))) .queue))) p) (area (now (words .entry)) (now (reals .entry))) (area (now (words .exit)) (now (reals .exit))) ⌝ }
+{
+    let queue = queue_at(n, e);
+    let mut i = count;
+    while i > 0 {
+        i -= 1;
+        drain_turf(words[queue + i], z, n, e, words, reals);
+    }
+}
+
+// One giver gives, or one taker takes.
+pub fn serve(
+    side: Side,
+    g: u32,
+    starts: &[u32],
+    neighbours: &[u32],
+    z: u32,
+    n: usize,
+    e: usize,
+    words: &mut [u32],
+    reals: &mut [f32],
+)
+    requires { ⌜ Linked n (now starts) (now neighbours) × ((length (now neighbours) ≡ e) × (Fit n e (area (now words) (now reals)) × ((z < 4096) × (g < n)))) ⌝ }
+    requires { ⌜ Reverses (grid n (now starts) (now neighbours)) n (view n e (area (now words) (now reals)) .reverse) ⌝ }
+    ensures { λ _. ⌜ Serves n e (λ o p. serve (grid n (now (starts .entry)) (now (neighbours .entry))) o z side g p) (area (now (words .entry)) (now (reals .entry))) (area (now (words .exit)) (now (reals .exit))) ⌝ }
+{
+    let row = g as usize;
+    let i = load(row, n, e, words, reals);
+    let first = MonstermosInfo {
+        delta: i.delta,
+        amount: 0.0,
+        direction: 0,
+        fast: i.fast,
+    };
+    store(row, first, n, e, words, reals);
+    let queue = queue_at(n, e);
+    let places = places_at(n, e);
+    insert(g, 0, queue, places, words);
+    let count = seek(side, row, starts, neighbours, z, n, e, words, reals);
+    drain(count, z, n, e, words, reals);
+}

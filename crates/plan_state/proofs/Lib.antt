@@ -1,0 +1,5 @@
+pub mod Stores
+pub mod Weights
+pub mod Links
+pub mod Parts
+pub mod Nodes

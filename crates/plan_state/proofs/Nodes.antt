@@ -1,0 +1,109 @@
+-- Loops over the nodes of a zone, which stand past the words that planning changes. Assumes nothing.
+use Prim.Native.Nat.{ℕ, zero, suc, _+_, _-_, _≤_, _<_}
+use native.Mathlib.Omega.{arith}
+use native.Mathlib.Numerals.{add-one}
+use mathlib.Core.Path.{_≡_, refl, ap, _∙_, sym, subst}
+use mathlib.Core.List.{List}
+use lib.ListN.{length, getD, take, drop, length-drop, drop-of-length-le}
+use lib.Seq.{getD-take, getD-drop, length-take-le, drop-cons}
+use lib.Ieee.{Float}
+use Rattle.basics.specs.Loops.{run}
+use Rattle.basics.proofs.Regions.{cut-rest}
+use Rattle.turfs.specs.Board.{Board}
+use Rattle.process_zone.specs.Plan.{Plan}
+use Rattle.index_set.specs.Line.{Below}
+use Rattle.index_set.proofs.Queue.{Below-at}
+use Rattle.reverse_links.specs.Reverse.{Reverses}
+use Rattle.plan_state.specs.Held.{Area, area, wsizes, View, view, Fit, onPlan, Does, Frame, top, Nodes, nodesOf}
+
+-- ---- in a loop
+
+-- what is left to do, f, from here on comes to what the whole, f₀, comes to from the start
+pub record Onto (n e : ℕ) (f f₀ : List ℕ → Plan → Plan) (a a′ : Area) : Type 0 where
+  pub fit : Fit n e a′
+  pub on : onPlan f (view n e a′) ≡ onPlan f₀ (view n e a)
+
+pub onto-start : {n e : ℕ} (f : List ℕ → Plan → Plan) {a : Area} → Fit n e a → Onto n e f f a a
+onto-start f h = record { fit = h; on = refl }
+
+pub onto-next : {n e : ℕ} {f f₀ : List ℕ → Plan → Plan} {a a′ a″ : Area} (h f′ : List ℕ → Plan → Plan) → Onto n e f f₀ a a′ → Does n e h a′ a″
+    → ((o : List ℕ) (p : Plan) → f o p ≡ f′ o (h o p)) → Onto n e f′ f₀ a a″
+onto-next {n} {e} {a′ = a′} h f′ b d s = record {
+  fit = d .fit;
+  on = ap (onPlan f′) (d .same) ∙ sym (ap (λ (p : Plan). onPlan (λ u v. p) (view n e a′)) (s (view n e a′ .owner) (view n e a′ .plan))) ∙ b .on;
+}
+
+pub onto-end : {n e : ℕ} {f f₀ : List ℕ → Plan → Plan} {a a′ : Area} → Onto n e f f₀ a a′ → ((o : List ℕ) (p : Plan) → f o p ≡ p) → Does n e f₀ a a′
+onto-end {n} {e} {a′ = a′} b s = record {
+  fit = b .fit;
+  same = sym (ap (λ (p : Plan). onPlan (λ u v. p) (view n e a′)) (s (view n e a′ .owner) (view n e a′ .plan))) ∙ b .on;
+}
+
+pub onto-frame : {n e : ℕ} {f f₀ : List ℕ → Plan → Plan} {a a′ : Area} → Onto n e f f₀ a a′ → Frame n e a a′
+onto-frame b = record {
+  owner = ap (λ (v : View). v .owner) (b .on);
+  reverse = ap (λ (v : View). v .reverse) (b .on);
+  restW = ap (λ (v : View). v .restW) (b .on);
+  restR = ap (λ (v : View). v .restR) (b .on);
+}
+
+-- the reverses stand as they stood
+pub reverses-kept : {n e m : ℕ} {b : Board} {a a′ : Area} → Reverses b m (view n e a .reverse) → Frame n e a a′ → Reverses b m (view n e a′ .reverse)
+reverses-kept {m = m} {b = b} v f = subst (Reverses b m) (sym (f .reverse)) v
+
+-- a loop over a list, by its index
+module _ {S : Type 0} (f : ℕ → S → S) (xs : List ℕ) (i : ℕ) where
+  pub run-at : i < length xs → (s : S) → run f (drop i xs) s ≡ run f (drop (i + 1) xs) (f (getD xs i 0) s)
+  unfolding run
+  run-at h s = rw (add-one, drop-cons xs i 0 h)
+
+  pub run-stop : length xs ≤ i → (s : S) → run f (drop i xs) s ≡ s
+  unfolding run
+  run-stop h s = rw (drop-of-length-le xs h)
+
+-- ---- the nodes
+
+rest-is : (n e : ℕ) (a : Area) → view n e a .restW ≡ drop (top n e) (a .words)
+unfolding view
+rest-is n e a =
+    let k : e + (e + (n + (n + (n + (n + (n + (n + 0))))))) ≡ e + e + n + n + n + n + n + n = omega arith in
+    cut-rest (wsizes n e) (a .words) ∙ ap (λ (m : ℕ). drop m (a .words)) k
+
+module _ {n e first count : ℕ} {a : Area} (h : Nodes n e first count a) where
+  pub nodes-length : length (nodesOf n e (view n e a) first count) ≡ count
+  nodes-length =
+      length-take-le count (drop (first - top n e) (view n e a .restW))
+      (omega (arith, h .room, h .past, length-drop (first - top n e) (view n e a .restW), ap length (rest-is n e a), length-drop (top n e) (a .words)))
+
+  module _ (i : ℕ) (l : i < count) where
+    -- a node, as the code reads it
+    pub node-at : getD (a .words) (first + i) 0 ≡ getD (nodesOf n e (view n e a) first count) i 0
+    node-at =
+        let k : top n e + (first - top n e + i) ≡ first + i = omega (arith, h .past) in
+        sym (getD-take count (drop (first - top n e) (view n e a .restW)) i 0 l ∙ getD-drop (first - top n e) (view n e a .restW) i 0
+        ∙ ap (λ (r : List ℕ). getD r (first - top n e + i) 0) (rest-is n e a) ∙ getD-drop (top n e) (a .words) (first - top n e + i) 0
+        ∙ ap (λ (m : ℕ). getD (a .words) m 0) k)
+
+    pub node-below : getD (a .words) (first + i) 0 < n
+    node-below = rw node-at (Below-at n (nodesOf n e (view n e a) first count) i (h .rows) (rw nodes-length l))
+
+-- planning leaves them as they are
+pub nodes-same : {n e : ℕ} (first count : ℕ) {a a′ : Area} → Frame n e a a′ → nodesOf n e (view n e a′) first count ≡ nodesOf n e (view n e a) first count
+nodes-same {n} {e} first count f = ap (λ (r : List ℕ). take count (drop (first - top n e) r)) (f .restW)
+
+pub nodes-kept : {n e first count : ℕ} {a a′ : Area} → Nodes n e first count a → Frame n e a a′ → length (a′ .words) ≡ length (a .words) → Nodes n e first count a′
+nodes-kept {first = first} {count = count} h f l = record { past = h .past; room = omega (arith, h .room, l); rows = rw (nodes-same first count f) (h .rows) }
+
+module _ {n e first count : ℕ} {a a′ : Area} (h : Nodes n e first count a) (fr : Frame n e a a′) (len : length (a′ .words) ≡ length (a .words)) (i : ℕ) where
+  pub node-now : i < count → getD (a′ .words) (first + i) 0 ≡ getD (nodesOf n e (view n e a) first count) i 0
+  node-now l = node-at (nodes-kept h fr len) i l ∙ ap (λ (xs : List ℕ). getD xs i 0) (nodes-same first count fr)
+
+  pub now-below : i < count → getD (a′ .words) (first + i) 0 < n
+  now-below l = node-below (nodes-kept h fr len) i l
+
+  pub walk-next : i < count → {S : Type 0} (f : ℕ → S → S) (s : S)
+      → run f (drop i (nodesOf n e (view n e a) first count)) s ≡ run f (drop (i + 1) (nodesOf n e (view n e a) first count)) (f (getD (a′ .words) (first + i) 0) s)
+  walk-next l f s = rw (node-now l) (run-at f (nodesOf n e (view n e a) first count) i (rw (nodes-length h) l) s)
+
+  pub walk-end : count ≤ i → {S : Type 0} (f : ℕ → S → S) (s : S) → run f (drop i (nodesOf n e (view n e a) first count)) s ≡ s
+  walk-end l f s = run-stop f (nodesOf n e (view n e a) first count) i (rw (nodes-length h) l) s

@@ -1,0 +1,104 @@
+-- A weight that is altered: in the list of all reals, and in the plan. Assumes nothing.
+use Prim.Native.Nat.{ℕ, _+_, _-_, _≤_, _<_}
+use native.Mathlib.Omega.{arith}
+use mathlib.Core.Path.{_≡_, refl, ap, ap₂, _∙_, sym, subst}
+use mathlib.Core.List.{List, [], _∷_}
+use mathlib.Core.Logic.{_≢_}
+use mathlib.Core.Bool.{Bool, true, false, cond}
+use native.Mathlib.Decide.{ℕ-discrete}
+use lib.Dec.{eqb}
+use lib.ListN.{length, getD, set, take, drop, length-set}
+use lib.Seq.{getD-take, getD-drop}
+use borrow.Author.Tests.{eq-eqb, ne-eqb}
+use lib.Ieee.{Float, nan}
+use Rattle.basics.specs.Floats.{_+f_, _-f_}
+use Rattle.basics.specs.Regions.{cut, region}
+use Rattle.basics.specs.declared.Spot.{Spot}
+use Rattle.basics.specs.declared.Spot.the-variants.{At, Nowhere}
+use Rattle.basics.proofs.Loops.{Found}
+use Rattle.basics.proofs.Regions.{cut-set, cut-get}
+use Rattle.process_zone.specs.Edges.{alter}
+use Rattle.process_zone.specs.Plan.{Plan, reweigh}
+use Rattle.plan_state.specs.Held.{Area, area, wsizes, rsizes, View, viewIn, view, Fit, onPlan, Does}
+use Rattle.plan_state.specs.Steps.{ownedBy, backLink, adjustAt}
+
+-- what a search found, by its case
+pub found-at : (P : ℕ → Type 0) {s : Spot} {k : ℕ} → s ≡ At k → Found P s → P k
+found-at P e f = subst (Found P) e f
+
+pub altered : {s : Spot} {k : ℕ} (f : Float → Float) (w : List Float) → s ≡ At k → set w k (f (getD w k nan)) ≡ alter s f w
+altered f w e = ap (λ (s : Spot). alter s f w) (sym e)
+
+pub alter-length : (s : Spot) (f : Float → Float) (w : List Float) → length (alter s f w) ≡ length w
+alter-length (At k) f w = length-set w k (f (getD w k nan))
+alter-length Nowhere f w = refl
+
+pub adjust-length : (there back : Spot) (x : Float) (w : List Float) → length (adjustAt there back x w) ≡ length w
+unfolding adjustAt
+adjust-length there back x w = alter-length back (λ y. y -f x) (alter there (λ y. y +f x) w) ∙ alter-length there (λ y. y +f x) w
+
+pub found-as : (m m′ : ℕ) (s : Spot) → m ≡ m′ → Found (λ k. k < m) s → Found (λ k. k < m′) s
+found-as m m′ s q f = subst (λ (j : ℕ). Found (λ k. k < j) s) q f
+
+-- the weights stand first among the reals
+cut-alter : (n e : ℕ) (s : Spot) (f : Float → Float) (w : List Float) → Found (λ k. k < e) s
+    → cut (rsizes n e) (alter s f w) ≡ set (cut (rsizes n e) w) 0 (alter s f (region (rsizes n e) 0 w))
+cut-alter n e (At k) f w h =
+    cut-set (rsizes n e) w 0 k (f (getD w k nan)) k (omega arith) h (omega arith)
+    ∙ ap (λ (x : Float). set (cut (rsizes n e) w) 0 (set (region (rsizes n e) 0 w) k (f x))) (cut-get (rsizes n e) w nan 0 k k (omega arith) h (omega arith))
+cut-alter n e Nowhere f w h = refl
+
+pub adjusted : (n e : ℕ) (there back : Spot) (x : Float) (w : List ℕ) (f f′ : List Float) → Found (λ k. k < e) there → Found (λ k. k < e) back
+    → f′ ≡ adjustAt there back x f → Fit n e (area w f)
+    → Does n e (λ o p. reweigh (adjustAt there back x) p) (area w f) (area w f′)
+unfolding view adjustAt
+adjusted n e there back x w f f′ ht hb s h =
+    let c : cut (rsizes n e) f′ ≡ set (cut (rsizes n e) f) 0 (adjustAt there back x (region (rsizes n e) 0 f)) =
+    ap (cut (rsizes n e)) s ∙ cut-alter n e back (λ y. y -f x) (alter there (λ y. y +f x) f) hb
+    ∙ ap (λ rs. set rs 0 (alter back (λ y. y -f x) (getD rs 0 []))) (cut-alter n e there (λ y. y +f x) f ht) in
+    record {
+      fit = record { words = h .words; reals = rw (ap length s ∙ adjust-length there back x f) (h .reals); turfs = h .turfs; links = h .links };
+      same = ap (viewIn (cut (wsizes n e) w)) c;
+    }
+
+pub adjusts : (there back : Spot) (x : Float) (w w′ w″ : List Float) → w′ ≡ alter there (λ y. y +f x) w → w″ ≡ alter back (λ y. y -f x) w′ → w″ ≡ adjustAt there back x w
+unfolding adjustAt
+adjusts there back x w w′ w″ e e′ = e′ ∙ ap (alter back (λ y. y -f x)) e
+
+-- the reverse of a link, by the words that are read
+module _ (e k z : ℕ) (w : List ℕ) (hk : k < e) where
+  back : getD w (e + k) 0 ≡ getD (take e (drop e w)) k 0
+  back = sym (getD-take e (drop e w) k 0 hk ∙ getD-drop e w k 0)
+
+  pub back-none : getD w (e + k) 0 ≡ 0 → Nowhere ≡ backLink (take e (drop e w)) (take e w) z k
+  unfolding backLink
+  back-none h = sym (ap (ownedBy (take e w) z) (sym back ∙ h))
+
+  module _ (some : getD w (e + k) 0 ≢ 0) (le : getD w (e + k) 0 ≤ e) where
+    own : getD w (getD w (e + k) 0 - 1) 0 ≡ getD (take e w) (getD w (e + k) 0 - 1) 0
+    own = sym (getD-take e w (getD w (e + k) 0 - 1) 0 (omega (arith, some)))
+
+    pub back-owned : getD w (getD w (e + k) 0 - 1) 0 ≡ z + 1 → At (getD w (e + k) 0 - 1) ≡ backLink (take e (drop e w)) (take e w) z k
+    unfolding backLink
+    back-owned h = rw (← back, ne-eqb (getD w (e + k) 0) 0 some, ← own, eq-eqb _ _ h)
+
+    pub back-foreign : getD w (getD w (e + k) 0 - 1) 0 ≢ z + 1 → Nowhere ≡ backLink (take e (drop e w)) (take e w) z k
+    unfolding backLink
+    back-foreign h = rw (← back, ne-eqb (getD w (e + k) 0) 0 some, ← own, ne-eqb _ _ h)
+
+pub found-more : (m m′ : ℕ) (s : Spot) → m ≤ m′ → Found (λ k. k < m) s → Found (λ k. k < m′) s
+found-more m m′ (At k) q f = omega arith
+found-more m m′ Nowhere q f = f
+
+-- what a reverse is, it is among the links
+pub back-found : (reverse owner : List ℕ) (z k e : ℕ) (s : Spot) → s ≡ backLink reverse owner z k → getD reverse k 0 ≤ e → Found (λ j. j < e) s
+unfolding backLink
+back-found reverse owner z k e s q h = subst (Found (λ j. j < e)) (sym q) (go (ℕ-discrete (getD reverse k 0) 0))
+  where
+    own : (t : Bool) → getD reverse k 0 ≢ 0 → Found (λ j. j < e) (cond t (At (getD reverse k 0 - 1)) Nowhere)
+    own true d = omega (arith, d)
+    own false d = tt
+
+    go : Dec (getD reverse k 0 ≡ 0) → Found (λ j. j < e) (ownedBy owner z (getD reverse k 0))
+    go (yes d) = rw (eq-eqb (getD reverse k 0) 0 d) tt
+    go (no d) = rw (ne-eqb (getD reverse k 0) 0 d) (own (eqb (getD owner (getD reverse k 0 - 1) 0) (z + 1)) d)

@@ -1,0 +1,127 @@
+-- How the two work areas hold the planning state, and what a function of planning promises of them.
+use Prim.Native.Nat.{ℕ, _+_, _-_, _≤_, _<_}
+use mathlib.Core.Path.{_≡_}
+use mathlib.Core.List.{List, [], _∷_}
+use lib.ListN.{length, getD, take, drop, replicate}
+use lib.Ieee.{Float, nan}
+use Rattle.basics.specs.Regions.{cut}
+use Rattle.turfs.specs.Board.{Board}
+use Rattle.process_zone.specs.Plan.{Plan}
+use Rattle.index_set.specs.Line.{Below}
+
+-- the tables that planning looks at, of n turfs
+abbrev pub ground : ℕ → List ℕ → List ℕ → List ℕ → ℕ → Board
+ground n starts neighbours mixtures gases = record {
+  ids = replicate n 0;
+  flags = [];
+  planetary = [];
+  mixtures = mixtures;
+  starts = starts;
+  neighbours = neighbours;
+  linkFlags = [];
+  immutable = [];
+  gases = gases;
+}
+
+-- the links alone
+abbrev pub grid : ℕ → List ℕ → List ℕ → Board
+grid n starts neighbours = ground n starts neighbours [] 0
+
+-- everything that a function of planning may change, before or after it
+pub record Area : Type 0 where
+  pub words : List ℕ
+  pub reals : List Float
+
+abbrev pub area : List ℕ → List Float → Area
+area w f = record { words = w; reals = f }
+
+-- words: by link, the zone that owns it and its reverse; by row, the direction, the link over which the turf was met, the fast mark, the queue of a
+-- search, each row's place in it, the list of givers or takers
+abbrev pub wsizes : ℕ → ℕ → List ℕ
+wsizes n e = e ∷ e ∷ n ∷ n ∷ n ∷ n ∷ n ∷ n ∷ []
+
+-- reals: by link, the weight; by row, the delta and the amount
+abbrev pub rsizes : ℕ → ℕ → List ℕ
+rsizes n e = e ∷ n ∷ n ∷ []
+
+-- all that the two areas hold
+pub record View : Type 0 where
+  pub owner : List ℕ
+  pub reverse : List ℕ
+  pub plan : Plan
+  pub via : List ℕ
+  pub queue : List ℕ
+  pub places : List ℕ
+  pub list : List ℕ
+  pub restW : List ℕ
+  pub restR : List Float
+
+abbrev pub viewIn : List (List ℕ) → List (List Float) → View
+viewIn ws rs = record {
+  owner = getD ws 0 [];
+  reverse = getD ws 1 [];
+  plan = record { weight = getD rs 0 []; delta = getD rs 1 []; amount = getD rs 2 []; direction = getD ws 2 []; fast = getD ws 4 [] };
+  via = getD ws 3 [];
+  queue = getD ws 5 [];
+  places = getD ws 6 [];
+  list = getD ws 7 [];
+  restW = getD ws 8 [];
+  restR = getD rs 3 [];
+}
+
+unfoldable pub view : ℕ → ℕ → Area → View
+view n e a = viewIn (cut (wsizes n e) (a .words)) (cut (rsizes n e) (a .reals))
+
+-- the areas are long enough, and the sizes within their limits
+pub record Fit (n e : ℕ) (a : Area) : Type 0 where
+  pub words : e + e + n + n + n + n + n + n ≤ length (a .words)
+  pub reals : e + n + n ≤ length (a .reals)
+  pub turfs : n ≤ 4096
+  pub links : e ≤ 24576
+
+-- a step of the plan that may look at the links' owners; all else stays
+abbrev pub onPlan : (List ℕ → Plan → Plan) → View → View
+onPlan h v = record {
+  owner = v .owner;
+  reverse = v .reverse;
+  plan = h (v .owner) (v .plan);
+  via = v .via;
+  queue = v .queue;
+  places = v .places;
+  list = v .list;
+  restW = v .restW;
+  restR = v .restR;
+}
+
+-- from a to a′ by the step h of the plan, and all else is as it was
+pub record Does (n e : ℕ) (h : List ℕ → Plan → Plan) (a a′ : Area) : Type 0 where
+  pub fit : Fit n e a′
+  pub same : view n e a′ ≡ onPlan h (view n e a)
+
+-- what planning leaves as it was
+pub record Frame (n e : ℕ) (a a′ : Area) : Type 0 where
+  pub owner : view n e a′ .owner ≡ view n e a .owner
+  pub reverse : view n e a′ .reverse ≡ view n e a .reverse
+  pub restW : view n e a′ .restW ≡ view n e a .restW
+  pub restR : view n e a′ .restR ≡ view n e a .restR
+
+-- the same, but that what a search works with may be anything afterwards
+pub record Serves (n e : ℕ) (h : List ℕ → Plan → Plan) (a a′ : Area) : Type 0 where
+  pub fit : Fit n e a′
+  pub frame : Frame n e a a′
+  pub list : view n e a′ .list ≡ view n e a .list
+  pub plan : view n e a′ .plan ≡ h (view n e a .owner) (view n e a .plan)
+
+-- ---- the nodes of a zone: `count` words from `first` on, past those that planning changes
+
+-- where the words are that planning leaves
+abbrev pub top : ℕ → ℕ → ℕ
+top n e = e + e + n + n + n + n + n + n
+
+abbrev pub nodesOf : ℕ → ℕ → View → ℕ → ℕ → List ℕ
+nodesOf n e v first count = take count (drop (first - top n e) (v .restW))
+
+pub record Nodes (n e first count : ℕ) (a : Area) : Type 0 where
+  pub past : top n e ≤ first
+  pub room : first + count ≤ length (a .words)
+  pub rows : Below n (nodesOf n e (view n e a) first count)

@@ -1,0 +1,135 @@
+// A turf's planning state and the weights of a zone's edges, in the two work areas that a call is lent. Of n turfs and e links, the words hold
+// by link the owner and the reverse, then by row the direction, the link over which the turf was met, the fast mark, a queue, the places in it and a
+// list; the reals hold by link the weight, then by row the delta and the amount.
+ghost use mathlib.Core.Path.{_≡_};
+ghost use Prim.Native.Nat.{ℕ, _+_, _≤_, _<_};
+ghost use lib.ListN.{length, getD, take, drop};
+ghost use Rattle.basics.proofs.Loops.{Found};
+ghost use Rattle.basics.specs.Floats.{_+f_, _-f_};
+ghost use Rattle.process_zone.specs.Edges.{alter};
+ghost use Rattle.process_zone.specs.Plan.{load, store};
+ghost use Rattle.plan_state.specs.Held.{area, view, Fit, Does};
+ghost use Rattle.plan_state.specs.Steps.{backLink, adjustAt};
+use basics::Spot;
+use process_zone::MonstermosInfo;
+
+// Where the directions start.
+pub fn direction_at(e: usize) -> usize
+    requires { ⌜ e ≤ 24576 ⌝ }
+    ensures { λ r. ⌜ r ≡ e + e ⌝ }
+{
+    e + e
+}
+
+// Where the links start over which turfs were met.
+pub fn via_at(n: usize, e: usize) -> usize
+    requires { ⌜ (e ≤ 24576) × (n ≤ 4096) ⌝ }
+    ensures { λ r. ⌜ r ≡ e + e + n ⌝ }
+{
+    e + e + n
+}
+
+// Where the fast marks start.
+pub fn fast_at(n: usize, e: usize) -> usize
+    requires { ⌜ (e ≤ 24576) × (n ≤ 4096) ⌝ }
+    ensures { λ r. ⌜ r ≡ e + e + n + n ⌝ }
+{
+    e + e + n + n
+}
+
+// Where the queue starts.
+pub fn queue_at(n: usize, e: usize) -> usize
+    requires { ⌜ (e ≤ 24576) × (n ≤ 4096) ⌝ }
+    ensures { λ r. ⌜ r ≡ e + e + n + n + n ⌝ }
+{
+    e + e + n + n + n
+}
+
+// Where the places in the queue start.
+pub fn places_at(n: usize, e: usize) -> usize
+    requires { ⌜ (e ≤ 24576) × (n ≤ 4096) ⌝ }
+    ensures { λ r. ⌜ r ≡ e + e + n + n + n + n ⌝ }
+{
+    e + e + n + n + n + n
+}
+
+// Where the list of givers or takers starts.
+pub fn list_at(n: usize, e: usize) -> usize
+    requires { ⌜ (e ≤ 24576) × (n ≤ 4096) ⌝ }
+    ensures { λ r. ⌜ r ≡ e + e + n + n + n + n + n ⌝ }
+{
+    e + e + n + n + n + n + n
+}
+
+// The planning state of the turf at `row`.
+pub fn load(row: usize, n: usize, e: usize, words: &[u32], reals: &[f32]) -> MonstermosInfo
+    requires { ⌜ Fit n e (area (now words) (now reals)) × (row < n) ⌝ }
+    ensures { λ r. ⌜ r ≡ load (view n e (area (now (words .entry)) (now (reals .entry))) .plan) row ⌝ }
+{
+    MonstermosInfo {
+        delta: reals[e + row],
+        amount: reals[e + n + row],
+        direction: words[e + e + row],
+        fast: words[e + e + n + n + row],
+    }
+}
+
+// Sets the planning state of the turf at `row`.
+pub fn store(
+    row: usize,
+    info: MonstermosInfo,
+    n: usize,
+    e: usize,
+    words: &mut [u32],
+    reals: &mut [f32],
+)
+    requires { ⌜ Fit n e (area (now words) (now reals)) × (row < n) ⌝ }
+    ensures { λ _. ⌜ Does n e (λ o p. store p row info) (area (now (words .entry)) (now (reals .entry))) (area (now (words .exit)) (now (reals .exit))) ⌝ }
+{
+    reals[e + row] = info.delta;
+    reals[e + n + row] = info.amount;
+    words[e + e + row] = info.direction;
+    words[e + e + n + n + row] = info.fast;
+}
+
+// The reverse of the link k, where zone z owns it.
+pub fn back_link(k: usize, z: u32, e: usize, words: &[u32]) -> Spot
+    requires { ⌜ (e + e ≤ length (now words)) × ((k < e) × ((getD (now words) (e + k) 0 ≤ e) × (z < 4096))) ⌝ }
+    ensures { λ r. ⌜ r ≡ backLink (take e (drop e (now (words .entry)))) (take e (now (words .entry))) z k ⌝ }
+{
+    let p = words[e + k] as usize;
+    if p == 0 {
+        return Spot::Nowhere;
+    }
+    if words[p - 1] == z + 1 {
+        return Spot::At(p - 1);
+    }
+    Spot::Nowhere
+}
+
+fn gain(spot: Spot, x: f32, weights: &mut [f32])
+    requires { ⌜ Found (λ k. k < length (now weights)) spot ⌝ }
+    ensures { λ _. ⌜ now (weights .exit) ≡ alter spot (λ y. y +f x) (now (weights .entry)) ⌝ }
+{
+    if let Spot::At(k) = spot {
+        weights[k] = weights[k] + x;
+    }
+}
+
+fn lose(spot: Spot, x: f32, weights: &mut [f32])
+    requires { ⌜ Found (λ k. k < length (now weights)) spot ⌝ }
+    ensures { λ _. ⌜ now (weights .exit) ≡ alter spot (λ y. y -f x) (now (weights .entry)) ⌝ }
+{
+    if let Spot::At(k) = spot {
+        weights[k] = weights[k] - x;
+    }
+}
+
+// One edge gains x, and the edge back loses it; a missing one isn't adjusted.
+pub fn adjust_eq_movement(there: Spot, back: Spot, x: f32, weights: &mut [f32])
+    requires { ⌜ Found (λ k. k < length (now weights)) there × Found (λ k. k < length (now weights)) back ⌝ }
+    ensures { λ _. ⌜ now (weights .exit) ≡ adjustAt there back x (now (weights .entry)) ⌝ }
+{
+    gain(there, x, weights);
+    lose(back, x, weights);
+}

@@ -1,0 +1,4 @@
+pub mod Counts
+pub mod Lists
+pub mod Whole
+pub mod Logs

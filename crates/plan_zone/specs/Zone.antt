@@ -1,0 +1,36 @@
+-- What `process_zone` promises of a zone whose nodes stand in the words.
+use Prim.Native.Nat.{ℕ, _+_, _*_, _≤_, _<_}
+use mathlib.Core.Path.{_≡_}
+use mathlib.Core.List.{List}
+use mathlib.Core.Bool.{Bool, cond}
+use lib.Dec.{ltb}
+use lib.ListN.{length, getD, take}
+use lib.Ieee.{Float}
+use Rattle.basics.specs.Loops.{if_then_else_}
+use Rattle.process_zone.specs.Plan.{Plan}
+use Rattle.process_zone.specs.declared.Side.{Side}
+use Rattle.process_zone.specs.declared.Side.the-variants.{Giving, Taking}
+use Rattle.plan_state.specs.Held.{Area, View, view, Fit, Frame}
+
+-- fewer givers than takers: givers give; else takers take
+abbrev pub sideOf : ℕ → ℕ → Side
+sideOf givers takers = if ltb givers takers then Giving else Taking
+
+-- every turf's mixture lies in the gas
+pub record Gassed (n : ℕ) (mixtures : List ℕ) (gases : ℕ) (gas : List Float) : Type 0 where
+  pub mixtures-n : length mixtures ≡ n
+  pub within : (r : ℕ) → r < n → getD mixtures r 0 * gases + gases ≤ length gas
+
+-- the list has the rows xs in its first k words; the queue, the places and `via` may be anything, and all else is as it was
+pub record Picked (n e : ℕ) (xs : List ℕ) (k : ℕ) (a a′ : Area) : Type 0 where
+  pub fit : Fit n e a′
+  pub few : k ≤ n
+  pub frame : Frame n e a a′
+  pub plan : view n e a′ .plan ≡ view n e a .plan
+  pub list : take k (view n e a′ .list) ≡ xs
+
+-- from a to a′ by the step h of the plan; what searches work with may be anything afterwards
+pub record Plans (n e : ℕ) (h : List ℕ → Plan → Plan) (a a′ : Area) : Type 0 where
+  pub fit : Fit n e a′
+  pub frame : Frame n e a a′
+  pub plan : view n e a′ .plan ≡ h (view n e a .owner) (view n e a .plan)
