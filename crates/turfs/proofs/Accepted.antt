@@ -10,10 +10,10 @@ use native.Mathlib.Omega.{arith}
 use lib.Dec.{T, eqb, ltb, leb, leb→le, ltb→lt, eqb→eq}
 use lib.ListN.{length, getD, drop, List·getD-eq-default}
 use borrow.Author.Tests.{le-leb, lt-leb}
-use Rattle.basics.specs.Loops.{every, upFrom}
-use Rattle.basics.proofs.Loops.{All, All-imp, All-getD, every-all, and-left, and-right, all-of}
+use Rattle.basics.specs.Loops.{every, upFrom, first}
+use Rattle.basics.proofs.Loops.{All, All-imp, All-getD, every-all, and-left, and-right, all-of, Found, first-found}
 use Rattle.basics.proofs.Lists.{upFrom-above, upFrom-below, upFrom-apart, Apart, one, count}
-use Rattle.turfs.specs.Board.{Board, turfCount, linkCount, mixtureCount, mixOf, end, linksOf}
+use Rattle.turfs.specs.Board.{Board, turfCount, linkCount, mixtureCount, idOf, mixOf, end, linksOf, rowOf}
 use Rattle.turfs.specs.Refuse.{within, pairwise, ascending, rising, rowFits, sizesFit, tablesFit, idsFit, linksFit}
 
 -- the tables that 1 to 4 let pass, with `amounts` amounts
@@ -74,6 +74,13 @@ accepted b amounts s t i l =
       mixed = λ r. below (b .mixtures) (mixtureCount b) (m .0) (links .1 .1 .1 .1 .0) r;
       rows = links .1 .1 .1 .1 .1 .0;
     }
+
+-- an id that has a row has one of the board's
+pub row-below : (b : Board) (i : ℕ) → Found (λ r. r < turfCount b) (rowOf b i)
+unfolding rowOf
+row-below b i =
+    first-found (λ r. r < turfCount b) (λ r. eqb (idOf b r) i) (upFrom 0 (turfCount b))
+    (All-imp (λ k. k < 0 + turfCount b) (λ k. k < turfCount b) (upFrom 0 (turfCount b)) (λ k h. omega arith) (upFrom-below 0 (turfCount b)))
 
 -- ---- a link is of one turf
 

@@ -1,1 +1,5 @@
+pub mod Order
+pub mod Lookup
+pub mod Refused
+pub mod Tables
 pub mod Accepted

@@ -1,4 +1,5 @@
 pub mod Board
 pub mod Refuse
+pub mod Tables
 pub mod Draw
 pub mod Worked

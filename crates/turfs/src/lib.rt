@@ -1,6 +1,15 @@
-// The flag types of turfs and links. The tables that a call is lent, and the tests that refuse them, are defined in specs/.
+// Turfs: the flag types of turfs and links, the search for a turf by its id, the part of the link list that is a turf's own.
+// The tables that a call is lent are defined in specs/; refuse.rt has the tests that refuse them.
+pub mod refuse;
+
+use basics::Spot;
 ghost use mathlib.Core.Path.{_≡_};
-ghost use Rattle.turfs.specs.Board.{anyBit, lockBit};
+ghost use mathlib.Core.Bool.{true};
+ghost use Prim.Native.Nat.{_+_, _<_};
+ghost use lib.ListN.{length, getD};
+ghost use Rattle.turfs.specs.Board.{Board, anyBit, lockBit, rowOf};
+ghost use Rattle.turfs.specs.Refuse.{ascending};
+ghost use Rattle.turfs.specs.Tables.{Bracket};
 
 // A turf's flags; bits that have no name here are ignored.
 pub struct SimulationFlags(pub u8);
@@ -25,5 +34,54 @@ impl AdjacentFlags {
         ensures { λ r. ⌜ r ≡ lockBit (self .0) ⌝ }
     {
         self.0 & Self::ATMOS_ADJACENT_FIRELOCK == Self::ATMOS_ADJACENT_FIRELOCK
+    }
+}
+
+// The first place whose number is at least x.
+fn lower_bound(xs: &[u32], x: u32) -> usize
+    requires { ⌜ ascending (now xs) ≡ true ⌝ }
+    ensures { λ r. ⌜ Bracket (now (xs .entry)) x r r ⌝ }
+{
+    let mut lo = 0;
+    let mut hi = xs.len();
+    while lo < hi {
+        let mid = lo + (hi - lo) / 2;
+        if xs[mid] < x {
+            lo = mid + 1;
+        } else {
+            hi = mid;
+        }
+    }
+    lo
+}
+
+// The row of the turf with this id.
+pub fn find(ids: &[u32], id: u32) -> Spot
+    requires { ⌜ ascending (now ids) ≡ true ⌝ }
+    ensures { λ r. ⌜ ((b : Board) → b .ids ≡ now (ids .entry) → r ≡ rowOf b id) ⌝ }
+{
+    let row = lower_bound(ids, id);
+    if row == ids.len() {
+        return Spot::Nowhere;
+    }
+    if ids[row] != id {
+        return Spot::Nowhere;
+    }
+    Spot::At(row)
+}
+
+// Where a turf's links start and end: its neighbours are `&neighbours[from..to]`.
+pub struct Links {
+    pub from: usize,
+    pub to: usize,
+}
+
+pub fn links_of(starts: &[u32], row: usize) -> Links
+    requires { ⌜ row + 1 < length (now starts) ⌝ }
+    ensures { λ r. ⌜ (r .from ≡ getD (now (starts .entry)) row 0) × (r .to ≡ getD (now (starts .entry)) (row + 1) 0) ⌝ }
+{
+    Links {
+        from: starts[row] as usize,
+        to: starts[row + 1] as usize,
     }
 }

@@ -1,0 +1,71 @@
+-- What the tests of the refusals 1 to 4 say of the tables that pass them. Assumes nothing.
+use Prim.Native.Nat.{ℕ, _+_, _*_, _≤_, _<_}
+use native.Mathlib.Omega.{arith}
+use native.Mathlib.Nat.{le-of-eq, zero-add}
+use native.Mathlib.Decide.{ℕ-discrete}
+use mathlib.Core.Path.{_≡_, ap, sym, _∙_}
+use mathlib.Core.List.{List}
+use mathlib.Core.Bool.{true}
+use lib.ListN.{length, getD}
+use lib.Dec.{leb}
+use borrow.Author.Tests.{ltb-true, leb-true, eqb-true}
+use Rattle.basics.proofs.Tests.{both, each, every-at, every-up-at}
+use Rattle.turfs.specs.Board.{Board, turfCount, linkCount, mixtureCount}
+use Rattle.turfs.specs.Refuse.{within, rising, sizesFit, tablesFit, idsFit, linksFit, rowFits}
+use Rattle.turfs.specs.Tables.{Parts, Sizes, Tables}
+use Rattle.turfs.proofs.Order.{rising-to}
+
+-- starts that never fall and end with the number of links
+pub parts-of : (n : ℕ) (starts neighbours : List ℕ) → n ≤ 4096 → length starts ≡ n + 1 → rising starts ≡ true → getD starts n 0 ≡ length neighbours
+    → Parts n starts neighbours
+parts-of n starts neighbours l c up e = record {
+  rows = l;
+  count = c;
+  rise = λ r h. rising-to starts r (r + 1) up (omega arith) (omega arith);
+  end = λ r h. go r h (ℕ-discrete (r + 1) n);
+}
+  where
+    go : (r : ℕ) → r < n → Dec (r + 1 ≡ n) → getD starts (r + 1) 0 ≤ length neighbours
+    go r h (yes q) = le-of-eq (ap (λ (k : ℕ). getD starts k 0) q ∙ e)
+    go r h (no q) = let a = rising-to starts (r + 1) n up (omega arith) (omega arith) in omega arith
+
+within-of : (lo hi n : ℕ) → within lo hi n ≡ true → (lo ≤ n) × (n ≤ hi)
+within-of lo hi n e = let p = both (leb lo n) (leb n hi) e in (leb-true lo n (p .0), leb-true n hi (p .1))
+
+module _ (b : Board) where
+  pub sizes-of : sizesFit b ≡ true → Sizes b
+  unfolding sizesFit
+  sizes-of e =
+      let n = within-of 1 4096 (turfCount b) (each _ 0 e (omega arith)) in
+      let m = within-of 1 4096 (mixtureCount b) (each _ 1 e (omega arith)) in
+      let g = within-of 1 64 (b .gases) (each _ 3 e (omega arith)) in
+      record {
+        some = n .0;
+        turfs = n .1;
+        mixtures = m .1;
+        links = leb-true (linkCount b) 24576 (each _ 2 e (omega arith));
+        gas = g .0;
+        gases = g .1;
+      }
+
+  pub amounts-of : (amounts : ℕ) → tablesFit b amounts ≡ true → amounts ≡ mixtureCount b * b .gases
+  unfolding tablesFit
+  amounts-of amounts e = eqb-true _ _ (each _ 5 e (omega arith))
+
+  pub tables-of : (amounts : ℕ) → sizesFit b ≡ true → tablesFit b amounts ≡ true → idsFit b ≡ true → linksFit b ≡ true → Tables b
+  unfolding tablesFit linksFit
+  tables-of amounts s t i l =
+      let sizes = sizes-of s in
+      let mix : length (b .mixtures) ≡ turfCount b = eqb-true _ _ (each _ 2 t (omega arith)) in
+      record {
+        sizes = sizes;
+        flags = eqb-true _ _ (each _ 0 t (omega arith));
+        planetary = eqb-true _ _ (each _ 1 t (omega arith));
+        mixtures = mix;
+        linkFlags = eqb-true _ _ (each _ 4 t (omega arith));
+        ascend = i;
+        parts = parts-of (turfCount b) (b .starts) (b .neighbours) (sizes .turfs) (eqb-true _ _ (each _ 3 t (omega arith))) (each _ 0 l (omega arith)) (eqb-true _ _ (each _ 2 l (omega arith)));
+        neighbour = λ k h. ltb-true _ _ (every-at _ (b .neighbours) 0 k (each _ 3 l (omega arith)) h);
+        mixture = λ r h. ltb-true _ _ (every-at _ (b .mixtures) 0 r (each _ 4 l (omega arith)) (omega arith));
+        apart = λ r h. ap (rowFits b) (sym (zero-add r)) ∙ every-up-at (rowFits b) 0 (turfCount b) r (each _ 5 l (omega arith)) h;
+      }

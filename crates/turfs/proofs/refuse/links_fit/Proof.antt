@@ -1,0 +1,88 @@
+-- The first part of refusal 4 that is met decides; what passed makes each turf's links a part. Assumes nothing.
+use mathlib.Core.Path.{_∙_, sym}
+use mathlib.Core.List.{[], _∷_}
+use lib.ListN.{length}
+use denote.Ref.{now}
+use native.Mathlib.Omega.{arith}
+use borrow.Author.Tests.{eq-eqb, ne-eqb, not-true, not-false}
+use Rattle.basics.proofs.Tests.{one-fails, last-is, all-hold, all-none}
+use Rattle.turfs.specs.Refuse.{linksFit, rowFits}
+use Rattle.turfs.proofs.Accepted.{parts-of}
+use borrow.Author.Needs.{needs}
+use Rattle.turfs.proofs.refuse.links_fit.Statement.{statement}
+use Rattle.turfs.proofs.refuse.links_fit.Tie as tie
+
+rising-requires : tie.Need-rising-requires
+rising-requires c κs = search needs
+
+returns : tie.Need-returns
+unfolding linksFit
+returns c = sym (one-fails _ 0 (sym (c .before .rising .ensures) ∙ not-true _ (c .if1 .taken)))
+
+shared-slice-read-if2 : tie.Need-shared-slice-read-if2
+shared-slice-read-if2 c = search needs
+
+returns-2 : tie.Need-returns-2
+unfolding linksFit
+returns-2 c = sym (one-fails _ 1 (ne-eqb _ _ (c .if2 .taken)))
+
+mul-if3 : tie.Need-mul-if3
+mul-if3 c = search needs
+
+shared-slice-read-if3 : tie.Need-shared-slice-read-if3
+shared-slice-read-if3 c = search needs
+
+cast-if3 : tie.Need-cast-if3
+cast-if3 c = omega (arith, c .shared-slice-known7 .given (length (now (c .before .before .before .before .before .before .before .before .before .before .args .ids))))
+
+returns-3 : tie.Need-returns-3
+unfolding linksFit
+returns-3 c = sym (one-fails _ 2 (ne-eqb _ _ (c .if3 .taken)))
+
+all-below-requires : tie.Need-all-below-requires
+all-below-requires c κs = search needs
+
+returns-4 : tie.Need-returns-4
+unfolding linksFit
+returns-4 c = sym (one-fails _ 3 (sym (c .before .all-below .ensures) ∙ not-true _ (c .if4 .taken)))
+
+all-below-requires-2 : tie.Need-all-below-requires-2
+all-below-requires-2 c κs = search needs
+
+returns-5 : tie.Need-returns-5
+unfolding linksFit
+returns-5 c = sym (one-fails _ 4 (sym (c .before .all-below2 .ensures) ∙ not-true _ (c .if5 .taken)))
+
+rows-fit-requires : tie.Need-rows-fit-requires
+rows-fit-requires c κs = parts-of _ _ _ (c .before .before .before .before .before .before .before .before .before .before .before .before .before .before .before .pre .0) (c .before .before .before .before .before .before .before .before .before .before .before .before .before .before .before .pre .1) (sym (c .before .before .before .before .before .before .before .before .before .rising .ensures) ∙ not-false _ (c .before .before .before .before .before .before .before .before .if1 .left)) (c .before .before .before .before .if3 .left)
+
+returns-6 : tie.Need-returns-6
+unfolding linksFit rowFits
+returns-6 c =
+    c .rows-fit .ensures
+    ∙ sym
+    (last-is (_ ∷ _ ∷ _ ∷ _ ∷ _ ∷ []) _
+    (all-hold _ _ (sym (c .before .before .before .before .before .before .before .before .before .before .rising .ensures) ∙ not-false _ (c .before .before .before .before .before .before .before .before .before .if1 .left))
+    (all-hold _ _ (eq-eqb _ _ (c .before .before .before .before .before .before .before .if2 .left))
+    (all-hold _ _ (eq-eqb _ _ (c .before .before .before .before .before .if3 .left))
+    (all-hold _ _ (sym (c .before .before .before .before .all-below .ensures) ∙ not-false _ (c .before .before .before .if4 .left))
+    (all-hold _ _ (sym (c .before .before .all-below2 .ensures) ∙ not-false _ (c .before .if5 .left)) all-none))))))
+
+pub links-fit-spec : {M : Type 1} → statement M
+links-fit-spec =
+    tie.close
+    (tie.spec
+    rising-requires
+    returns
+    shared-slice-read-if2
+    returns-2
+    mul-if3
+    shared-slice-read-if3
+    cast-if3
+    returns-3
+    all-below-requires
+    returns-4
+    all-below-requires-2
+    returns-5
+    rows-fit-requires
+    returns-6)

@@ -1,0 +1,58 @@
+-- The board that a call is lent, table by table, and what the refusals 1 to 4 leave of it.
+use mathlib.Core.List.{List}
+use mathlib.Core.Path.{_≡_}
+use mathlib.Core.Bool.{true}
+use Prim.Native.Nat.{ℕ, _+_, _≤_, _<_}
+use lib.ListN.{length, getD}
+use Rattle.turfs.specs.Board.{Board, turfCount, linkCount, mixtureCount}
+use Rattle.turfs.specs.Refuse.{ascending, rowFits}
+
+-- in the order of the C interface
+abbrev pub board : List ℕ → List ℕ → List ℕ → List ℕ → List ℕ → List ℕ → List ℕ → List ℕ → ℕ → Board
+board ids flags planetary mixtures starts neighbours linkFlags immutable gases = record {
+  ids = ids;
+  flags = flags;
+  planetary = planetary;
+  mixtures = mixtures;
+  starts = starts;
+  neighbours = neighbours;
+  linkFlags = linkFlags;
+  immutable = immutable;
+  gases = gases;
+}
+
+-- every number of xs below x stands before `from`, every other one from `to` on
+pub record Bracket (xs : List ℕ) (x : ℕ) (from to : ℕ) : Type 0 where
+  pub order : from ≤ to
+  pub within : to ≤ length xs
+  pub below : (k : ℕ) → k < from → getD xs k 0 < x
+  pub above : (k : ℕ) → to ≤ k → k < length xs → x ≤ getD xs k 0
+
+-- n turfs' links are parts of the link list, one after the other
+pub record Parts (n : ℕ) (starts neighbours : List ℕ) : Type 0 where
+  pub rows : n ≤ 4096
+  pub count : length starts ≡ n + 1
+  pub rise : (r : ℕ) → r < n → getD starts r 0 ≤ getD starts (r + 1) 0
+  pub end : (r : ℕ) → r < n → getD starts (r + 1) 0 ≤ length neighbours
+
+-- sizes that refusal 1 lets pass
+pub record Sizes (b : Board) : Type 0 where
+  pub some : 1 ≤ turfCount b
+  pub turfs : turfCount b ≤ 4096
+  pub mixtures : mixtureCount b ≤ 4096
+  pub links : linkCount b ≤ 24576
+  pub gas : 1 ≤ b .gases
+  pub gases : b .gases ≤ 64
+
+-- tables that the refusals 1 to 4 let pass
+pub record Tables (b : Board) : Type 0 where
+  pub sizes : Sizes b
+  pub flags : length (b .flags) ≡ turfCount b
+  pub planetary : length (b .planetary) ≡ turfCount b
+  pub mixtures : length (b .mixtures) ≡ turfCount b
+  pub linkFlags : length (b .linkFlags) ≡ linkCount b
+  pub ascend : ascending (b .ids) ≡ true
+  pub parts : Parts (turfCount b) (b .starts) (b .neighbours)
+  pub neighbour : (k : ℕ) → k < linkCount b → getD (b .neighbours) k 0 < turfCount b
+  pub mixture : (r : ℕ) → r < turfCount b → getD (b .mixtures) r 0 < mixtureCount b
+  pub apart : (r : ℕ) → r < turfCount b → rowFits b r ≡ true  -- no turf is its own neighbour, or has one twice
