@@ -1,15 +1,17 @@
 -- Laws of lists: what all have, members, numbers none of which stands twice, how many pass a test. Assumes nothing.
 use mathlib.Core.Path.{_≡_, refl, sym, ap, ap₂, _∙_, subst}
 use mathlib.Core.Logic.{_≢_, _⊎_, inl, inr}
-use mathlib.Core.List.{List, [], _∷_, _++_, map}
+use mathlib.Core.List.{List, [], _∷_, _++_, map, reverse, reverseAux}
 use mathlib.Core.Bool.{Bool, true, false, not, _&&_, _||_, cond}
 use Prim.Native.Nat.{ℕ, zero, suc, _+_, _≤_, _<_}
 use native.Mathlib.Nat.{le-refl}
+use native.Mathlib.Decide.{ℕ-discrete}
 use native.Mathlib.Omega.{arith}
 use lib.Dec.{T, eqb, eqb→eq, eqb-refl}
-use lib.ListN.{length, getD, drop}
+use lib.ListN.{length, getD, set, drop}
+use borrow.Author.Tests.{eqb-false, eq-eqb, ne-eqb}
 use Rattle.basics.specs.Loops.{run, keep, every, consIf, upFrom, member, snoc}
-use Rattle.basics.proofs.Loops.{All, All-imp, keep-all}
+use Rattle.basics.proofs.Loops.{All, All-imp, All-getD, keep-all}
 
 -- ---- what all have
 
@@ -183,3 +185,97 @@ module _ {A : Type 0} (p : A → Bool) where
       go : (t : Bool) → length (keep p xs) ≡ count p xs → length (consIf t x (keep p xs)) ≡ one t + count p xs
       go true h = let z = h in omega arith
       go false h = let z = h in omega arith
+
+-- a store changes the count by what it puts in and takes out
+pub count-set : {A : Type 0} (p : A → Bool) (xs : List A) (i : ℕ) (y d : A) → i < length xs → count p (set xs i y) + one (p (getD xs i d)) ≡ count p xs + one (p y)
+unfolding count
+count-set p [] i y d h = absurd (omega arith)
+count-set p (x ∷ xs) zero y d h = omega arith
+count-set p (x ∷ xs) (suc i) y d h = omega (arith, count-set p xs i y d (omega arith))
+
+-- ---- as many different numbers below n as there can be
+
+pub not-member : (x : ℕ) (xs : List ℕ) → member x xs ≡ false → All (λ y. y ≢ x) xs
+unfolding member
+not-member x [] e = tt
+not-member x (y ∷ ys) e = go (eqb x y) refl e (λ h. not-member x ys h)
+  where
+    go : (t : Bool) → eqb x y ≡ t → t || member x ys ≡ false → (member x ys ≡ false → All (λ v. v ≢ x) ys) → All (λ v. v ≢ x) (y ∷ ys)
+    go true et h ih = absurd (subst T h tt)
+    go false et h ih = (λ i. eqb-false x y et (sym i), ih h)
+
+pub apart-snoc : (xs : List ℕ) (x : ℕ) → Apart xs → All (λ y. y ≢ x) xs → Apart (snoc xs x)
+apart-snoc [] x a h = (tt, tt)
+apart-snoc (y ∷ ys) x a h = (All-snoc (λ j. j ≢ y) ys x (a .0) (λ e. h .0 (sym e)), apart-snoc ys x (a .1) (h .1))
+
+-- two places of a list with none twice hold two numbers
+pub apart-at : (xs : List ℕ) (i j : ℕ) → Apart xs → i < j → j < length xs → getD xs j 0 ≢ getD xs i 0
+apart-at [] i j a h l = absurd (omega arith)
+apart-at (x ∷ xs) zero zero a h l = absurd (omega arith)
+apart-at (x ∷ xs) zero (suc j) a h l = All-getD (λ y. y ≢ x) xs j 0 (a .0) (omega arith)
+apart-at (x ∷ xs) (suc i) zero a h l = absurd (omega arith)
+apart-at (x ∷ xs) (suc i) (suc j) a h l = apart-at xs i j (a .1) (omega arith) (omega arith)
+
+-- all but one are left without n
+without : ℕ → List ℕ → List ℕ
+without n xs = keep (λ x. not (eqb x n)) xs
+
+without-length : (n : ℕ) (xs : List ℕ) → Apart xs → length xs ≤ suc (length (without n xs))
+unfolding without keep
+without-length n [] a = omega arith
+without-length n (x ∷ xs) a = go (ℕ-discrete x n) (without-length n xs (a .1))
+  where
+    all : x ≡ n → without n xs ≡ xs
+    all e = keep-all-pass xs (All-imp (λ j. j ≢ x) (λ j. not (eqb j n) ≡ true) xs (λ j h. ap not (ne-eqb j n (λ i. h (i ∙ sym e)))) (a .0))
+      where
+        keep-all-pass : (ys : List ℕ) → All (λ j. not (eqb j n) ≡ true) ys → without n ys ≡ ys
+        keep-all-pass [] h = refl
+        keep-all-pass (y ∷ ys) h = rw (h .0) (ap (λ (l : List ℕ). y ∷ l) (keep-all-pass ys (h .1)))
+
+    go : Dec (x ≡ n) → length xs ≤ suc (length (without n xs)) → suc (length xs) ≤ suc (length (consIf (not (eqb x n)) x (without n xs)))
+    go (yes e) h = rw (eq-eqb x n e) (rw (all e) (le-refl (suc (length xs))))
+    go (no e) h = rw (ne-eqb x n e) (omega (arith, h))
+
+-- different numbers below n are at most n
+pub pigeonhole : (n : ℕ) (xs : List ℕ) → Apart xs → All (λ x. x < n) xs → length xs ≤ n
+unfolding without
+pigeonhole zero xs a h = none xs h
+  where
+    none : (ys : List ℕ) → All (λ y. y < 0) ys → length ys ≤ 0
+    none [] k = omega arith
+    none (y ∷ ys) k = absurd (omega (arith, k .0))
+pigeonhole (suc n) xs a h =
+    let w = without n xs in
+    let l : length xs ≤ suc (length w) = without-length n xs a in
+    let below : All (λ y. y < n) w =
+    All-imp (λ y. T (not (eqb y n)) × (y < suc n)) (λ y. y < n) w (λ y k. smaller y (eqb y n) refl (k .0) (k .1)) (keep-all (λ y. not (eqb y n)) (λ y. y < suc n) xs h) in
+    let s : length w ≤ n = pigeonhole n w (keep-apart (λ y. not (eqb y n)) xs a) below in
+    omega arith
+  where
+    smaller : (y : ℕ) (t : Bool) → eqb y n ≡ t → T (not t) → y < suc n → y < n
+    smaller y true e u v = absurd u
+    smaller y false e u v = let ne : y ≡ n → ⊥ = eqb-false y n e in omega arith
+
+-- ---- counts and parts
+
+module _ {A : Type 0} (p : A → Bool) where
+  pub count-append : (xs ys : List A) → count p (xs ++ ys) ≡ count p xs + count p ys
+  unfolding count
+  count-append [] ys = omega arith
+  count-append (x ∷ xs) ys = omega (arith, count-append xs ys)
+
+  pub count-reverse : (xs : List A) → count p (reverse xs) ≡ count p xs
+  count-reverse xs = go xs [] ∙ unfold count in omega arith
+    where
+      go : (xs ys : List A) → count p (reverseAux xs ys) ≡ count p xs + count p ys
+      go [] ys = unfold count in omega arith
+      go (x ∷ xs) ys = go xs (x ∷ ys) ∙ unfold count in omega arith
+
+  pub count-none : (xs : List A) → All (λ x. p x ≡ false) xs → count p xs ≡ 0
+  unfolding count
+  count-none [] h = refl
+  count-none (x ∷ xs) h = let z : one (p x) ≡ 0 = ap one (h .0) in omega (arith, z, count-none xs (h .1))
+
+pub All-front : {A : Type 0} (P : A → Type 0) (xs ys : List A) → All P (xs ++ ys) → All P xs
+All-front P [] ys h = tt
+All-front P (x ∷ xs) ys h = (h .0, All-front P xs ys (h .1))

@@ -1,5 +1,6 @@
 -- Laws of the loops and searches. Assumes nothing.
 use mathlib.Core.Path.{_≡_, refl, sym, ap, _∙_, subst}
+use mathlib.Core.Logic.{_⊎_, inl, inr}
 use mathlib.Core.List.{List, [], _∷_, _++_, map}
 use mathlib.Core.Bool.{Bool, true, false, not, _&&_, _||_, cond}
 use Prim.Native.Nat.{ℕ, zero, suc, _+_, _-_, _≤_, _<_}
@@ -199,3 +200,16 @@ pub run-map : {A B S : Type 0} (g : A → B) (f : B → S → S) (xs : List A) (
 unfolding run
 run-map g f [] s = refl
 run-map g f (x ∷ xs) s = run-map g f xs (f (g x) s)
+
+-- A step that changes nothing once it is told to stop, and else counts one on: n steps come to rest, or count n.
+pub times-rests : {S : Type 0} (f : S → S) (going : S → Bool) (steps : S → ℕ) → ((s : S) → going s ≡ false → f s ≡ s) → ((s : S) → going s ≡ true → steps (f s) ≡ steps s + 1)
+    → (n : ℕ) (s : S) → (going (times f n s) ≡ false) ⊎ (steps (times f n s) ≡ steps s + n)
+unfolding times
+times-rests f going steps still on zero s = inr (omega arith)
+times-rests f going steps still on (suc n) s = go (going s) refl (times-rests f going steps still on n (f s))
+  where
+    go : (t : Bool) → going s ≡ t → (going (times f n (f s)) ≡ false) ⊎ (steps (times f n (f s)) ≡ steps (f s) + n)
+        → (going (times f n (f s)) ≡ false) ⊎ (steps (times f n (f s)) ≡ steps s + suc n)
+    go true e (inl h) = inl h
+    go true e (inr h) = inr (omega (arith, h, on s e))
+    go false e ih = inl (ap (λ (x : _). going (times f n x)) (still s e) ∙ ap going (times-still f n s (still s e)) ∙ e)

@@ -3,16 +3,15 @@ use mathlib.Core.Path.{_≡_, refl, sym, ap, _∙_, subst}
 use mathlib.Core.List.{List, []}
 use mathlib.Core.Bool.{Bool, true, false, not, _||_, cond}
 use Prim.Native.Nat.{ℕ, zero, suc, _+_, _<_}
-use native.Mathlib.Omega.{arith}
 use lib.Dec.{T, eqb, eqb→eq}
 use lib.ListN.{length, getD, replicate}
 use lib.Ieee.{Float, lt}
-use Rattle.basics.specs.Loops.{run, every, upFrom, first}
+use Rattle.basics.specs.Loops.{run, every}
 use Rattle.basics.specs.declared.Spot.{Spot}
 use Rattle.basics.specs.declared.Spot.the-variants.{At, Nowhere}
-use Rattle.basics.proofs.Loops.{All, All-any, All-imp, run-keeps, Found, first-found}
-use Rattle.basics.proofs.Lists.{upFrom-below}
-use Rattle.turfs.specs.Board.{Board, turfCount, linkCount, idOf, enabled, linksOf, rowOf}
+use Rattle.basics.proofs.Loops.{All, All-any, run-keeps, Found}
+use Rattle.turfs.specs.Board.{Board, turfCount, linkCount, enabled, linksOf, rowOf}
+use Rattle.turfs.proofs.Accepted.{row-below}
 use Rattle.mixture.specs.Mixture.{total}
 use Rattle.equalize.specs.Equalize.{Ask, Filled, 10f, near, passedOver, fillFrom, hotRow, hotId, fillAll}
 
@@ -26,13 +25,6 @@ startFilled b = record {
   events = [];
   cancelled = false;
 }
-
--- an id that has a row has one of the board's
-pub row-below : (b : Board) (i : ℕ) → Found (λ r. r < turfCount b) (rowOf b i)
-unfolding rowOf
-row-below b i =
-    first-found (λ r. r < turfCount b) (λ r. eqb (idOf b r) i) (upFrom 0 (turfCount b))
-    (All-imp (λ k. k < 0 + turfCount b) (λ k. k < turfCount b) (upFrom 0 (turfCount b)) (λ k h. omega arith) (upFrom-below 0 (turfCount b)))
 
 module _ (b : Board) (gas : List Float) (q : Ask) where
   -- what a turf has that a zone is filled from

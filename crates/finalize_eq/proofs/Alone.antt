@@ -19,8 +19,9 @@ use Rattle.mixture.proofs.Parts.{Fits, move-fits, move-apart, move-like}
 use Rattle.events.specs.declared.Event.{Event}
 use Rattle.events.proofs.Compared.{records, others, other-record, same-record, no-other}
 use Rattle.process_zone.specs.Edges.{edgesOf, edge, alter}
+use Rattle.process_zone.proofs.Sizes.{alter-size}
 use Rattle.finalize_eq.specs.Finish.{Done, Pair, zeroLifted, positive, negative, pairs, finishGivers, send, finishPair, finish}
-use Rattle.finalize_eq.proofs.Weights.{alter-size, lift-size}
+use Rattle.finalize_eq.proofs.Weights.{lift-size}
 
 -- b's rows name mixtures that there are; In says which mixtures are in the zone z, whose edges end at turfs with such mixtures
 module _ (b : Board) (owner : List ℕ) (z : ℕ) (In : ℕ → Type 0)

@@ -2,3 +2,6 @@ pub mod Weights
 pub mod Alone
 pub mod Jobs
 pub mod Order
+pub mod Fuel
+pub mod Slices
+pub mod Room

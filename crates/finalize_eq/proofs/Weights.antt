@@ -16,9 +16,10 @@ use Rattle.basics.specs.Floats.{0f}
 use Rattle.basics.specs.declared.Spot.{Spot}
 use Rattle.basics.specs.declared.Spot.the-variants.{At, Nowhere}
 use Rattle.basics.proofs.Loops.{All, All-any, run-keeps}
-use Rattle.basics.proofs.Lists.{or-cases, Apart, one, count}
-use Rattle.turfs.specs.Board.{Board, end}
-use Rattle.process_zone.specs.Edges.{alter}
+use Rattle.basics.proofs.Lists.{or-cases, Apart, keep-apart, one, count}
+use Rattle.turfs.specs.Board.{Board, end, linksOf}
+use Rattle.turfs.proofs.Accepted.{links-apart}
+use Rattle.process_zone.specs.Edges.{alter, edgesOf}
 use Rattle.finalize_eq.specs.Finish.{Pair, zeroLifted, positive}
 
 -- above 0
@@ -34,10 +35,6 @@ unfolding lt ofBits
 nan-not = refl
 
 -- ---- sizes
-
-pub alter-size : (o : Spot) (f : Float → Float) (w : List Float) → length (alter o f w) ≡ length w
-alter-size (At k) f w = length-set w k (f (getD w k nan))
-alter-size Nowhere f w = refl
 
 pub lift-size : (ks : List ℕ) (w : List Float) → length (zeroLifted ks w) ≡ length w
 unfolding zeroLifted
@@ -133,3 +130,8 @@ pairs-count b w (k ∷ ks) = go (aboveAt w k) (pairs-count b w ks)
         → length (consIf t (record { to = end b k; amount = getD w k nan }) (positive (map (λ j. record { to = end b j; amount = getD w j nan }) ks))) ≡ one t + count (aboveAt w) ks
     go true h = let z = h in omega arith
     go false h = let z = h in omega arith
+
+-- a zone's edges that leave a turf: none twice
+pub edges-apart : (b : Board) (owner : List ℕ) (z r : ℕ) → Apart (edgesOf b owner z r)
+unfolding edgesOf
+edges-apart b owner z r = keep-apart _ (linksOf b r) (links-apart b r)

@@ -1,2 +1,5 @@
 pub mod Steps
 pub mod Joins
+pub mod Counts
+pub mod Rest
+pub mod Owned
