@@ -7,7 +7,7 @@ use native.Mathlib.Omega.{arith}
 use borrow.Author.Tests.{eq-eqb, ne-eqb, not-true, not-false}
 use Rattle.basics.proofs.Tests.{one-fails, last-is, all-hold, all-none}
 use Rattle.turfs.specs.Refuse.{linksFit, rowFits}
-use Rattle.turfs.proofs.Accepted.{parts-of}
+use Rattle.turfs.proofs.Tables.{parts-of}
 use borrow.Author.Needs.{needs}
 use Rattle.turfs.proofs.refuse.links_fit.Statement.{statement}
 use Rattle.turfs.proofs.refuse.links_fit.Tie as tie
