@@ -1,4 +1,5 @@
 pub mod Loops
 pub mod Lists
 pub mod Tests
+pub mod Stores
 pub mod Regions

@@ -4,6 +4,7 @@ ghost use mathlib.Core.Path.{_≡_};
 ghost use mathlib.Core.List.{_++_};
 ghost use Prim.Native.Nat.{_≤_};
 ghost use lib.ListN.{length, drop, replicate};
+ghost use Rattle.basics.specs.Floats.{0f};
 
 // What a search answers: definitions and code share it.
 pub enum Spot {
@@ -19,6 +20,18 @@ pub fn clear(words: &mut [u32], k: usize)
     let mut i = 0;
     while i < k {
         words[i] = 0;
+        i += 1;
+    }
+}
+
+// Sets the first k floats to zero and leaves the rest.
+pub fn clear_floats(floats: &mut [f32], k: usize)
+    requires { ⌜ k ≤ length (now floats) ⌝ }
+    ensures { λ _. ⌜ now (floats .exit) ≡ replicate k 0f ++ drop k (now (floats .entry)) ⌝ }
+{
+    let mut i = 0;
+    while i < k {
+        floats[i] = 0.0;
         i += 1;
     }
 }

@@ -1,2 +1,3 @@
 pub mod Mixture
 pub mod Worked
+pub mod Steps

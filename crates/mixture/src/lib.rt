@@ -1,17 +1,16 @@
 // Mixtures: totals, the move of air between two mixtures, clearing, and the test of the amounts. Amounts lie mixture by mixture in one list, so
 // a mixture is the part of `gases` amounts that starts at its row times `gases`.
 ghost use mathlib.Core.Path.{_≡_};
-ghost use mathlib.Core.Bool.{Bool, cond};
-ghost use Prim.Native.Nat.{_+_, _*_, _≤_, _<_};
-ghost use lib.ListN.{length, getD, set};
-ghost use lib.Ieee.{nan};
+ghost use Prim.Native.Nat.{_<_};
+ghost use lib.ListN.{length, getD};
 ghost use Rattle.basics.specs.Loops.{every};
-ghost use Rattle.basics.specs.Floats.{1f, _-f_, finiteSignClear};
-ghost use Rattle.turfs.specs.Board.{Board, mixOf, immutableMix};
-ghost use Rattle.mixture.specs.Mixture.{sum, ratio, part, totalMix, moveAir, clearAir, amountFits};
+ghost use Rattle.basics.specs.Floats.{finiteSignClear};
+ghost use Rattle.turfs.specs.Board.{Board};
+ghost use Rattle.mixture.specs.Mixture.{sum, ratio, total, totalMix, moveAir, clearAir, amountFits};
+ghost use Rattle.mixture.specs.Steps.{Holds, setIf, moveGas};
 
 // The sum of the amounts from the left.
-pub fn sum(amounts: &[f32]) -> f32
+fn sum(amounts: &[f32]) -> f32
     ensures { λ r. ⌜ r ≡ sum (now (amounts .entry)) ⌝ }
 {
     let mut total = 0.0;
@@ -23,6 +22,24 @@ pub fn sum(amounts: &[f32]) -> f32
     total
 }
 
+// The total of a mixture.
+pub fn total_mix(gas: &[f32], gases: usize, mix: usize) -> f32
+    requires { ⌜ Holds (now gas) gases mix ⌝ }
+    ensures { λ r. ⌜ ((b : Board) → b .gases ≡ gases → r ≡ totalMix b (now (gas .entry)) mix) ⌝ }
+{
+    let from = mix * gases;
+    let to = from + gases;
+    sum(&gas[from..to])
+}
+
+// The total of a turf.
+pub fn total(mixtures: &[u32], gas: &[f32], gases: usize, row: usize) -> f32
+    requires { ⌜ (row < length (now mixtures)) × Holds (now gas) gases (getD (now mixtures) row 0) ⌝ }
+    ensures { λ r. ⌜ ((b : Board) → b .mixtures ≡ now (mixtures .entry) → b .gases ≡ gases → r ≡ total b (now (gas .entry)) row) ⌝ }
+{
+    total_mix(gas, gases, mixtures[row] as usize)
+}
+
 // The ratio of a removal: at 1 or more it is 1.
 fn ratio(amount: f32, total: f32) -> f32
     ensures { λ r. ⌜ r ≡ ratio amount total ⌝ }
@@ -31,11 +48,72 @@ fn ratio(amount: f32, total: f32) -> f32
     if 1.0 <= q { 1.0 } else { q }
 }
 
+fn set_if(change: bool, gas: &mut [f32], i: usize, x: f32)
+    requires { ⌜ i < length (now gas) ⌝ }
+    ensures { λ _. ⌜ now (gas .exit) ≡ setIf change i x (now (gas .entry)) ⌝ }
+{
+    if change {
+        gas[i] = x;
+    }
+}
+
+// One gas: of the giver's amount at i a share goes to the taker's at j, and a share stays. An immutable mixture neither loses nor gains.
+fn move_gas(gas: &mut [f32], i: usize, j: usize, goes: f32, stays: f32, loses: bool, gains: bool)
+    requires { ⌜ (i < length (now gas)) × (j < length (now gas)) ⌝ }
+    ensures { λ _. ⌜ now (gas .exit) ≡ moveGas loses gains goes stays i j (now (gas .entry)) ⌝ }
+{
+    let x = gas[i];
+    set_if(loses, gas, i, x * stays);
+    let y = gas[j];
+    set_if(gains, gas, j, y + x * goes);
+}
+
+// Removes the amount from one mixture and merges what was removed into another one, gas by gas.
+pub fn move_air(
+    immutable: &[u8],
+    gas: &mut [f32],
+    gases: usize,
+    giver: usize,
+    taker: usize,
+    amount: f32,
+)
+    requires { ⌜ (giver < length (now immutable)) × (taker < length (now immutable)) ⌝ }
+    requires { ⌜ Holds (now gas) gases giver × Holds (now gas) gases taker ⌝ }
+    requires { ⌜ (giver ≡ taker → ⊥) ⌝ }
+    ensures { λ _. ⌜ ((b : Board) → b .immutable ≡ now (immutable .entry) → b .gases ≡ gases → now (gas .exit) ≡ moveAir b giver taker amount (now (gas .entry))) ⌝ }
+{
+    let total = total_mix(gas, gases, giver);
+    let goes = ratio(amount, total);
+    let stays = 1.0 - goes;
+    let loses = immutable[giver] == 0;
+    let gains = immutable[taker] == 0;
+    let from = giver * gases;
+    let to = taker * gases;
+    let mut i = 0;
+    while i < gases {
+        move_gas(gas, from + i, to + i, goes, stays, loses, gains);
+        i += 1;
+    }
+}
+
+// Sets every amount of a mixture to 0, unless it is immutable.
+pub fn clear_air(immutable: &[u8], gas: &mut [f32], gases: usize, mix: usize)
+    requires { ⌜ (mix < length (now immutable)) × Holds (now gas) gases mix ⌝ }
+    ensures { λ _. ⌜ ((b : Board) → b .immutable ≡ now (immutable .entry) → b .gases ≡ gases → now (gas .exit) ≡ clearAir b mix (now (gas .entry))) ⌝ }
+{
+    if immutable[mix] != 0 {
+        return;
+    }
+    let from = mix * gases;
+    let to = from + gases;
+    basics::clear_floats(&mut gas[from..to], gases);
+}
+
 // Finite with the sign bit clear: refusal 5 of the threshold.
 pub fn finite_sign_clear(x: f32) -> bool
     ensures { λ r. ⌜ r ≡ finiteSignClear x ⌝ }
 {
-    if x <= 3.4028235e38 {
+    if x < f32::from_bits(0x7f80_0000) {
         f32::to_bits(x) < 0x8000_0000
     } else {
         false
@@ -47,7 +125,7 @@ fn amount_fits(x: f32) -> bool
     ensures { λ r. ⌜ r ≡ amountFits x ⌝ }
 {
     if x <= 1099511627776.0 {
-        f32::to_bits(x) < 0x8000_0000
+        finite_sign_clear(x)
     } else {
         false
     }

@@ -8,8 +8,6 @@ use borrow.Author.Needs.{needs}
 use borrow.Author.Fill.{fill-more}
 use Rattle.basics.proofs.clear.Statement.{statement}
 use Rattle.basics.proofs.clear.Tie as tie
-use Rattle.basics.proofs.clear.Reads as reads
-use Rattle.basics.proofs.clear.Lts as lts
 
 abbrev Inv-loop : tie.InvT-loop
 Inv-loop words₀ k i₀ words i = (i ≤ k) × ((length words ≡ length words₀) × (words ≡ replicate i 0 ++ drop i words₀))
@@ -17,38 +15,30 @@ Inv-loop words₀ k i₀ words i = (i ≤ k) × ((length words ≡ length words�
 abbrev μ-loop : tie.MeasureT-loop
 μ-loop words₀ k i₀ words i = k - i
 
--- src/lib.rt:13:5
 loop-holds : tie.Need-loop-holds Inv-loop μ-loop
 loop-holds c = search needs
 
--- src/lib.rt:14:9
 mul-words : tie.Need-mul-words Inv-loop μ-loop
 mul-words c = search needs
 
--- src/lib.rt:14:9
 slice-write-words : tie.Need-slice-write-words Inv-loop μ-loop
 slice-write-words c = search needs
 
--- src/lib.rt:15:9
 add-i : tie.Need-add-i Inv-loop μ-loop
 add-i c = search needs
 
--- src/lib.rt:13:5
 loop-less : tie.Need-loop-less Inv-loop μ-loop
 loop-less c = search needs
 
--- src/lib.rt:13:5
 loop-again : tie.Need-loop-again Inv-loop μ-loop
 loop-again c =
     let l = c .before .loop in
     let w₀ = now (c .before .before .args .words) in
     (omega arith, (simp length-set (l .inv .1 .0), ap (λ w. set w (l .i) 0) (l .inv .1 .1) ∙ fill-more (l .i) 0 w₀ (omega arith)))
 
--- src/lib.rt:8:1
 same-length : tie.Need-same-length Inv-loop μ-loop
 same-length c = search needs
 
--- src/lib.rt:8:1
 returns : tie.Need-returns Inv-loop μ-loop
 returns c =
     let l = c .before .loop in

@@ -1,50 +1,48 @@
+-- Each amount that fits leaves the test of the rest. Assumes nothing.
+use Prim.Native.Nat.{_≤_, _-_}
+use mathlib.Core.Path.{_≡_, refl, _∙_, sym}
+use lib.ListN.{length, drop}
+use borrow.Author.Tests.{not-true, not-false}
+use Rattle.basics.specs.Loops.{every}
+use Rattle.basics.proofs.Tests.{every-next, every-fails, every-end}
+use lib.Ieee.{nan}
+use Rattle.mixture.specs.Mixture.{amountFits}
+use borrow.Author.Needs.{needs}
 use Rattle.mixture.proofs.amounts_fit.Statement.{statement}
 use Rattle.mixture.proofs.amounts_fit.Tie as tie
-use Rattle.mixture.proofs.amounts_fit.Reads as reads
-use Rattle.mixture.proofs.amounts_fit.Lts as lts
-use Rattle.mixture.proofs.amount_fits.Reads as amount-fits-reads
 
 abbrev Inv-loop : tie.InvT-loop
-Inv-loop gas i₀ i = ?
+Inv-loop gas i₀ i = (i ≤ length gas) × (every amountFits (drop i gas) ≡ every amountFits gas)
 
 abbrev μ-loop : tie.MeasureT-loop
-μ-loop gas i₀ i = ?
+μ-loop gas i₀ i = length gas - i
 
--- src/lib.rt:61:5
 loop-holds : tie.Need-loop-holds Inv-loop μ-loop
-loop-holds c = ?
+loop-holds c = (search needs, refl)
 
--- src/lib.rt:62:25
 mul-amount-fits : tie.Need-mul-amount-fits Inv-loop μ-loop
-mul-amount-fits c = ?
+mul-amount-fits c = search needs
 
--- src/lib.rt:62:25
 shared-slice-read-amount-fits : tie.Need-shared-slice-read-amount-fits Inv-loop μ-loop
-shared-slice-read-amount-fits c = ?
+shared-slice-read-amount-fits c = search needs
 
--- src/lib.rt:62:13
 amount-fits-requires : tie.Need-amount-fits-requires Inv-loop μ-loop
-amount-fits-requires c κs = ?
+amount-fits-requires c κs = search needs
 
--- src/lib.rt:63:13
 returns : tie.Need-returns Inv-loop μ-loop
-returns c = ?
+returns c = sym (every-fails _ _ nan _ (c .before .before .before .loop-test .taken) (sym (c .before .amount-fits .ensures) ∙ not-true _ (c .if1 .taken))) ∙ c .before .before .before .before .loop .inv .1
 
--- src/lib.rt:65:9
 add-i : tie.Need-add-i Inv-loop μ-loop
-add-i c = ?
+add-i c = search needs
 
--- src/lib.rt:61:5
 loop-less : tie.Need-loop-less Inv-loop μ-loop
-loop-less c = ?
+loop-less c = search needs
 
--- src/lib.rt:61:5
 loop-again : tie.Need-loop-again Inv-loop μ-loop
-loop-again c = ?
+loop-again c = (search needs, sym (every-next _ _ nan _ (c .before .before .before .loop-test .taken) (sym (c .before .amount-fits .ensures) ∙ not-false _ (c .if1 .left))) ∙ c .before .before .before .before .loop .inv .1)
 
--- src/lib.rt:57:1
 returns-2 : tie.Need-returns-2 Inv-loop μ-loop
-returns-2 c = ?
+returns-2 c = sym (every-end _ _ nan _ (c .loop-test .left)) ∙ c .before .loop .inv .1
 
 pub amounts-fit-spec : {M : Type 1} → statement M
 amounts-fit-spec =

@@ -1,15 +1,15 @@
+-- Both sides test the same quotient. Assumes nothing.
+use Rattle.mixture.specs.Mixture.{ratio}
 use Rattle.mixture.proofs.ratio.Statement.{statement}
 use Rattle.mixture.proofs.ratio.Tie as tie
-use Rattle.mixture.proofs.ratio.Reads as reads
-use Rattle.mixture.proofs.ratio.Lts as lts
 
--- src/lib.rt:27:1
 returns : tie.Need-returns
-returns c = ?
+unfolding ratio
+returns c = rw (c .if1 .taken)
 
--- src/lib.rt:27:1
 returns-2 : tie.Need-returns-2
-returns-2 c = ?
+unfolding ratio
+returns-2 c = rw (c .if1 .left)
 
 pub ratio-spec : {M : Type 1} → statement M
 ratio-spec = tie.close (tie.spec returns returns-2)

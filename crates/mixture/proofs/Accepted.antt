@@ -1,0 +1,22 @@
+-- Amounts that were accepted hold every mixture's. Assumes nothing.
+use Prim.Native.Nat.{ℕ, _+_, _*_, _≤_, _<_}
+use mathlib.Core.Path.{_≡_, sym, subst}
+use mathlib.Core.Bool.{true}
+use mathlib.Core.List.{List}
+use lib.ListN.{length, getD}
+use lib.Ieee.{Float, nan}
+use Rattle.basics.proofs.Tests.{every-at}
+use Rattle.turfs.specs.Board.{Board, turfCount, mixtureCount, mixOf}
+use Rattle.mixture.specs.Mixture.{amountFits}
+use Rattle.mixture.specs.Steps.{Holds, Accepted}
+use Rattle.mixture.proofs.Moves.{before}
+
+module _ (b : Board) (gas : List Float) (a : Accepted b gas) where
+  pub holds-mix : (m : ℕ) → m < mixtureCount b → Holds gas (b .gases) m
+  holds-mix m h = subst (λ (k : ℕ). m * b .gases + b .gases ≤ k) (sym (a .count)) (before (b .gases) h)
+
+  pub holds-turf : (r : ℕ) → r < turfCount b → Holds gas (b .gases) (mixOf b r)
+  holds-turf r h = holds-mix (mixOf b r) (a .tables .mixture r h)
+
+  pub amount-fits : (i : ℕ) → i < length gas → amountFits (getD gas i nan) ≡ true
+  amount-fits i h = every-at amountFits gas nan i (a .amounts) h
