@@ -1,8 +1,8 @@
 -- Laws of lists: what all have, members, numbers none of which stands twice, how many pass a test. Assumes nothing.
-use mathlib.Core.Path.{_≡_, refl, sym, ap, ap₂, _∙_, subst}
+use mathlib.Core.Path.{_≡_, refl, sym, ap, _∙_, subst}
 use mathlib.Core.Logic.{_≢_, _⊎_, inl, inr}
 use mathlib.Core.List.{List, [], _∷_, _++_, map, reverse, reverseAux}
-use mathlib.Core.Bool.{Bool, true, false, not, _&&_, _||_, cond}
+use mathlib.Core.Bool.{Bool, true, false, not, _||_}
 use Prim.Native.Nat.{ℕ, zero, suc, _+_, _≤_, _<_}
 use native.Mathlib.Nat.{le-refl}
 use native.Mathlib.Decide.{ℕ-discrete}
@@ -10,8 +10,8 @@ use native.Mathlib.Omega.{arith}
 use lib.Dec.{T, eqb, eqb→eq, eqb-refl}
 use lib.ListN.{length, getD, set, drop}
 use borrow.Author.Tests.{eqb-false, eq-eqb, ne-eqb}
-use Rattle.basics.specs.Loops.{run, keep, every, consIf, upFrom, member, snoc}
-use Rattle.basics.proofs.Loops.{All, All-imp, All-getD, keep-all}
+use Rattle.basics.specs.Loops.{keep, every, consIf, upFrom, member, snoc}
+use Rattle.basics.proofs.Loops.{All, All-imp, All-getD, keep-all, both}
 
 -- ---- what all have
 
@@ -39,10 +39,6 @@ pub all-every : {A : Type 0} (p : A → Bool) (xs : List A) → All (λ x. T (p 
 unfolding every
 all-every p [] h = tt
 all-every p (x ∷ xs) h = both (p x) (every p xs) (h .0) (all-every p xs (h .1))
-  where
-    both : (a c : Bool) → T a → T c → T (a && c)
-    both true c s t = t
-    both false c s t = s
 
 pub map-append : {A B : Type 0} (f : A → B) (xs ys : List A) → map f (xs ++ ys) ≡ map f xs ++ map f ys
 map-append f [] ys = refl

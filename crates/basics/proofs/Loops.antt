@@ -1,5 +1,5 @@
 -- Laws of the loops and searches. Assumes nothing.
-use mathlib.Core.Path.{_≡_, refl, sym, ap, _∙_, subst}
+use mathlib.Core.Path.{_≡_, refl, sym, ap, _∙_}
 use mathlib.Core.Logic.{_⊎_, inl, inr}
 use mathlib.Core.List.{List, [], _∷_, _++_, map}
 use mathlib.Core.Bool.{Bool, true, false, _&&_, cond}
@@ -50,6 +50,10 @@ and-left false b t = t
 pub and-right : (a b : Bool) → T (a && b) → T b
 and-right true b t = t
 and-right false b t = absurd t
+
+pub both : (a b : Bool) → T a → T b → T (a && b)
+both true b s t = t
+both false b s t = s
 
 module _ {A : Type 0} where
   pub All-any : (P : A → Type 0) → ((x : A) → P x) → (xs : List A) → All P xs
@@ -128,6 +132,11 @@ pub all-of : (ts : List Bool) → T (allOf ts) → All T ts
 unfolding allOf
 all-of [] h = tt
 all-of (t ∷ ts) h = (and-left t (allOf ts) h, all-of ts (and-right t (allOf ts) h))
+
+pub of-all : (ts : List Bool) → All T ts → T (allOf ts)
+unfolding allOf
+of-all [] h = tt
+of-all (t ∷ ts) h = both t (allOf ts) (h .0) (of-all ts (h .1))
 
 -- a loop over the numbers from i up to e: one turn, and the end
 module _ {S : Type 0} (f : ℕ → S → S) where

@@ -8,29 +8,30 @@ use mathlib.Core.Bool.{Bool, true, false, not, _||_, cond}
 use Prim.Native.Nat.{ℕ, zero, suc, _+_, _-_, _*_, _≤_, _<_}
 use native.Mathlib.Nat.{le-refl, le-trans}
 use native.Mathlib.Omega.{arith}
-use lib.Dec.{T, eqb, ltb, leb}
-use lib.ListN.{length, getD, set, replicate, length-append, length-replicate}
+use lib.Dec.{eqb, ltb, leb}
+use lib.ListN.{length, getD, set, replicate, length-append}
 use lib.Seq.{getD-set-other}
 use lib.Ieee.{Float, nan}
-use borrow.Author.Tests.{ltb-true, le-ltb}
-use Rattle.basics.specs.Loops.{run, times, member, snoc}
+use borrow.Author.Tests.{le-ltb}
+use Rattle.basics.specs.Loops.{run, member, snoc}
 use Rattle.basics.specs.Floats.{0f, _+f_}
 use Rattle.basics.specs.declared.Spot.{Spot}
 use Rattle.basics.specs.declared.Spot.the-variants.{At, Nowhere}
 use Rattle.basics.proofs.Loops.{All, All-any, All-imp, All-getD, run-keeps, times-keeps, times-rests, Found, cond-both}
-use Rattle.basics.proofs.Lists.{All-snoc, All-front, Apart, apart-snoc, apart-at, not-member, one, count, count-append, count-reverse, count-none, count-length}
+use Rattle.basics.proofs.Lists.{All-snoc, All-front, apart-snoc, apart-at, not-member, one, count, count-append, count-reverse, count-none, count-length}
 use Rattle.turfs.specs.Board.{Board, turfCount, idOf, mixOf, end, planetary, immutable, linksOf, rowOf}
 use Rattle.turfs.proofs.Accepted.{Accepted, row-below}
+use Rattle.turfs.proofs.Line.{Line, line-short, line-snoc}
 use Rattle.mixture.specs.Mixture.{total, clearAir}
 use Rattle.events.specs.Events.{kindOf, fieldsOf, sizeOf, wordsBytes, encode, encodeAll}
 use Rattle.events.specs.declared.Event.{Event}
 use Rattle.events.specs.declared.Event.the-variants.{Target, HighPressure, Difference, FloorRip}
-use Rattle.events.proofs.Sizes.{size, size-append, size-cons, size-snoc}
+use Rattle.events.proofs.Sizes.{size, size-append, size-snoc}
 use Rattle.lent.specs.Lent.{Lent, noExtra}
 use Rattle.lent.proofs.Passed.{passed}
 use Rattle.walks.specs.Walk as walks
 use Rattle.walks.specs.Walk.{Walk, mark, spread, walk}
-use Rattle.walks.proofs.Walks.{going, Line, line-short, line-snoc, Spread, spreads, spread-walked, walk-keeps, walk-rests}
+use Rattle.walks.proofs.Walks.{going, spreads, spread-walked, walk-keeps, walk-rests}
 use Rattle.depressurize.specs.Depressurize.{Out, Back, Depressurized, atSpace, visitSpace, outLink, outRow, outNext, outward, backTo, back, wayBack, fromWalk, fromRow, depressurize, depressurizeRoom, depressurizeNumber}
 
 target-size : (es : List Event) (i t : ℕ) → size (snoc es (Target i t)) ≡ size es + 12

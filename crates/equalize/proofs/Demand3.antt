@@ -1,26 +1,24 @@
 -- Demand 3: where a call is cancelled or answers apart, two lists of turns come to the same gas, counts and requests and, zone by zone, to the same pressure
 -- records in the same order. A cancelled run has no turns; apart zones share no changeable mixture, so each is finished as if alone. Assumes nothing.
-use mathlib.Core.Path.{_≡_, refl, sym, ap, _∙_, subst}
+use mathlib.Core.Path.{_≡_, refl, sym, ap, ap₂, _∙_}
 use mathlib.Core.Logic.{_⊎_, inl, inr}
 use mathlib.Core.List.{List, _++_}
-use mathlib.Core.Bool.{Bool, true, false, _&&_, cond}
-use Prim.Native.Nat.{ℕ, zero, suc, _+_, _<_}
+use mathlib.Core.Bool.{Bool, true, false, cond}
+use Prim.Native.Nat.{ℕ, _+_}
 use native.Mathlib.Nat.{suc-ne-zero}
-use lib.Dec.{T, eqb, ltb, leb}
-use lib.ListN.{length, drop}
+use lib.Dec.{T, ltb}
+use lib.ListN.{length, take, drop}
 use lib.Ieee.{Float}
-use borrow.Author.Tests.{eq-eqb}
-use Rattle.basics.specs.Floats.{finiteSignClear}
-use Rattle.turfs.specs.Board.{Board, mixtureCount, mixOf, end}
-use Rattle.turfs.specs.Refuse.{ascending}
+use Rattle.turfs.specs.Board.{Board, mixOf, end}
 use Rattle.turfs.proofs.Accepted.{Accepted}
-use Rattle.mixture.proofs.Parts.{Fits}
 use Rattle.events.specs.Events.{encodeAll}
 use Rattle.events.specs.declared.Event.{Event}
 use Rattle.events.proofs.Compared.{records, requests, requests-same}
 use Rattle.events.proofs.Bytes.{same-size}
-use Rattle.lent.specs.Lent.{Lent, Result, refusal, after}
-use Rattle.lent.proofs.Passed.{Passed, passed}
+use Rattle.events.proofs.ReadAll.{Readable, readAll, read-area}
+use Rattle.lent.specs.Lent.{Lent, Result, after}
+use Rattle.lent.proofs.Passed.{passed}
+use Rattle.basics.proofs.Loops.{All}
 use Rattle.basics.proofs.Lists.{member-map}
 use Rattle.finalize_eq.specs.Turns.{nodesAt, nodeCount}
 use Rattle.equalize.specs.Equalize.{Ask, Filled, Equalized, hasMix, apart, bit, fillAll, cancel, planned, played, equalize}
@@ -161,3 +159,24 @@ module _ (b : Board) (q : Ask) (turns turns′ : List ℕ) (l : Lent) where
         requests = r .requests;
         records = r .records;
       })
+
+-- ---- read off the bytes
+
+-- the events that a reader finds in what a call wrote
+abbrev pub readEvents : Result EqualizeAnswer → List Event
+readEvents x = readAll (take (x .answer .bytes) (x .lent .area))
+
+-- what demand 3 compares, read off two areas
+pub record SameRead (x y : Result EqualizeAnswer) : Type 0 where
+  pub requests : requests (readEvents x) ≡ requests (readEvents y)
+  pub records : (z : ℕ) → records z (readEvents x) ≡ records z (readEvents y)
+
+read-off : (x : Result EqualizeAnswer) (es : List Event) (t : List ℕ) → x .answer .bytes ≡ length (encodeAll es) → x .lent .area ≡ encodeAll es ++ t → All Readable es → readEvents x ≡ es
+read-off x es t n a h = ap₂ (λ (m : ℕ) (s : List ℕ). readAll (take m s)) n a ∙ read-area es t h
+
+-- Where every event can be read back, demand 3 holds of what a reader finds.
+pub same-read : (l : Lent) (x y : Result EqualizeAnswer) (es fs : List Event) → All Readable es → All Readable fs → SameCall l x y es fs → SameRead x y
+same-read l x y es fs he hf c =
+    let p : readEvents x ≡ es = read-off x es _ (c .bytes .0) (c .areas .0) he in
+    let q : readEvents y ≡ fs = read-off y fs _ (c .bytes .1) (c .areas .1) hf in
+    record { requests = ap requests p ∙ c .requests ∙ sym (ap requests q); records = λ z. ap (records z) p ∙ c .records z ∙ sym (ap (records z) q) }

@@ -1,7 +1,7 @@
 -- Every edge of a kept zone joins two nodes of that zone: a fill adds only such edges, and an ignored zone's are taken back. Assumes nothing.
-use mathlib.Core.Path.{_≡_, refl, sym, ap, _∙_, subst}
+use mathlib.Core.Path.{_≡_, refl, sym, _∙_, subst}
 use mathlib.Core.Logic.{_⊎_, inl, inr}
-use mathlib.Core.List.{List, [], _∷_, _++_}
+use mathlib.Core.List.{List, [], _∷_}
 use mathlib.Core.Bool.{Bool, true, false, cond}
 use Prim.Native.Nat.{ℕ, zero, suc, _+_, _≤_, _<_}
 use native.Mathlib.Decide.{decLt}
@@ -13,11 +13,11 @@ use lib.Ieee.{Float}
 use Rattle.basics.specs.Loops.{member, snoc}
 use Rattle.basics.specs.Floats.{0f}
 use Rattle.turfs.specs.Board.{Board, linkCount, end}
-use Rattle.flood_fill.specs.Fill.{Reach, Fill, fill}
+use Rattle.flood_fill.specs.Fill.{Reach, Fill}
 use Rattle.flood_fill.proofs.Joins.{Has, Joins, fill-joins}
 use Rattle.finalize_eq.specs.Turns.{Zone, nodesAt}
 use Rattle.equalize.specs.Equalize.{Ask, Filled, afterFill, fillFrom, fillAll}
-use Rattle.equalize.proofs.Hot.{Starts, startFilled, fill-all-keeps}
+use Rattle.equalize.proofs.Hot.{Starts, fill-all-keeps}
 
 -- nothing is owned at the start
 pub unowned : (n k : ℕ) → _≡_ {A = ℕ} (getD (replicate n 0) k 0) 0
@@ -73,3 +73,11 @@ module _ (b : Board) where
         from : (r : ℕ) (s : Filled) → Starts b gas q r s → Good s → Good (fillFrom b gas q r s)
         from r s _ g = unfold fillFrom in
             kept-good _ s g (fill-joins b (length (s .zones)) (s .owner) gas (q .limit) (q .allowance) r (s .found) (s .events) (s .tests))
+
+    -- an owned link is one of a kept zone
+    pub owner-kept : (z k : ℕ) → getD (fillAll b gas q .owner) k 0 ≡ z + 1 → z < length (fillAll b gas q .zones)
+    owner-kept z k e = go (decLt z (length (fillAll b gas q .zones)))
+      where
+        go : Dec (z < length (fillAll b gas q .zones)) → z < length (fillAll b gas q .zones)
+        go (yes l) = l
+        go (no l) = absurd (no-node (fillAll b gas q .zones) z (end b k) (omega arith) (fill-ends z k e .0))

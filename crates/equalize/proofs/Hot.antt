@@ -1,19 +1,17 @@
 -- Filling is steps over hot turfs: what every fill from a turf that isn't passed over keeps, filling keeps. Assumes nothing.
-use mathlib.Core.Path.{_≡_, refl, sym, ap, _∙_, subst}
+use mathlib.Core.Path.{_≡_, refl, subst}
 use mathlib.Core.List.{List, []}
 use mathlib.Core.Bool.{Bool, true, false, not, _||_, cond}
-use Prim.Native.Nat.{ℕ, zero, suc, _+_, _<_}
+use Prim.Native.Nat.{ℕ, _<_}
 use lib.Dec.{T, eqb, eqb→eq}
-use lib.ListN.{length, getD, replicate}
-use lib.Ieee.{Float, lt}
-use Rattle.basics.specs.Loops.{run, every}
+use lib.ListN.{getD, replicate}
+use lib.Ieee.{Float}
 use Rattle.basics.specs.declared.Spot.{Spot}
 use Rattle.basics.specs.declared.Spot.the-variants.{At, Nowhere}
-use Rattle.basics.proofs.Loops.{All, All-any, run-keeps, Found}
-use Rattle.turfs.specs.Board.{Board, turfCount, linkCount, enabled, linksOf, rowOf}
+use Rattle.basics.proofs.Loops.{All-any, run-keeps, Found}
+use Rattle.turfs.specs.Board.{Board, turfCount, linkCount, enabled, rowOf}
 use Rattle.turfs.proofs.Accepted.{row-below}
-use Rattle.mixture.specs.Mixture.{total}
-use Rattle.equalize.specs.Equalize.{Ask, Filled, 10f, near, passedOver, fillFrom, hotRow, hotId, fillAll}
+use Rattle.equalize.specs.Equalize.{Ask, Filled, passedOver, fillFrom, hotRow, hotId, fillAll}
 
 -- where filling starts
 abbrev pub startFilled : Board → Filled

@@ -1,28 +1,25 @@
 -- 20E+16N event bytes are room enough for every accepted call of equalize: 8 bytes a request, two requests a turf, and 20 bytes a link. Assumes nothing.
-use mathlib.Core.Path.{_≡_, refl, sym, ap, _∙_}
+use mathlib.Core.Path.{_≡_}
 use mathlib.Core.List.{List}
-use mathlib.Core.Bool.{Bool, true, false, cond}
 use Prim.Native.Nat.{ℕ, _+_, _*_, _≤_}
 use native.Mathlib.Nat.{le-trans}
 use native.Mathlib.Omega.{arith}
 use lib.Dec.{ltb}
-use lib.ListN.{length, replicate, length-replicate}
+use lib.ListN.{length, length-replicate}
 use lib.Ieee.{Float}
-use Rattle.basics.specs.Loops.{run, upFrom}
+use Rattle.basics.specs.Loops.{upFrom}
 use Rattle.basics.specs.Floats.{0f}
 use Rattle.basics.proofs.Loops.{All-any, run-keeps, cond-both}
 use Rattle.turfs.specs.Board.{Board, turfCount, linkCount}
 use Rattle.turfs.proofs.Accepted.{Accepted}
-use Rattle.events.specs.Events.{encodeAll}
 use Rattle.events.proofs.Sizes.{size, requests-size}
-use Rattle.lent.specs.Lent.{Lent, Result}
-use Rattle.lent.proofs.Passed.{passed, area-kept}
-use Rattle.process_zone.specs.Plan.{Plan, planZone}
+use Rattle.lent.specs.Lent.{Lent}
+use Rattle.lent.proofs.Passed.{passed}
 use Rattle.process_zone.proofs.Sizes.{plan-sized}
-use Rattle.finalize_eq.specs.Turns.{Zone, zoneAt, nodesAt, nodeCount}
+use Rattle.finalize_eq.specs.Turns.{zoneAt, nodesAt, nodeCount}
 use Rattle.finalize_eq.proofs.Room.{records-room}
 use Rattle.equalize.specs.Equalize.{Ask, Filled, Equalized, fillAll, planAll, planned, cancel, played, equalize}
-use Rattle.equalize.specs.Result.{equalizeRoom, equalizeNumber, equalizeResult}
+use Rattle.equalize.specs.Result.{equalizeRoom, equalizeNumber}
 use Rattle.equalize.proofs.Zones.{zoned, request-room}
 
 pub weights-sized : (b : Board) (gas : List Float) (s : Filled) → length (planAll b gas s .weight) ≡ linkCount b

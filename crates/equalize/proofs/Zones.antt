@@ -1,28 +1,29 @@
 -- What filling comes to on an accepted board: at most N zones, each with a node, N+E nodes in all, 2N requests; no fill runs past the clock unnoticed. Each fill
 -- marks its first turf, owns only links that no zone owned, and asks only where it marks. Assumes nothing.
-use mathlib.Core.Path.{_≡_, refl, sym, ap, _∙_, subst}
-use mathlib.Core.List.{List, [], _∷_, _++_}
+use mathlib.Core.Path.{_≡_, sym, subst}
+use mathlib.Core.List.{List, [], _∷_}
 use mathlib.Core.Bool.{Bool, true, false, cond}
-use Prim.Native.Nat.{ℕ, zero, suc, _+_, _*_, _≤_, _<_}
-use native.Mathlib.Nat.{le-refl, le-trans}
+use Prim.Native.Nat.{ℕ, _+_, _*_, _≤_, _<_}
 use native.Mathlib.Omega.{arith}
 use lib.Dec.{T}
-use lib.ListN.{length, getD, set, replicate, length-append, length-replicate}
+use lib.ListN.{length, getD, set, length-append, length-replicate}
 use lib.Ieee.{Float}
+use Rattle.basics.specs.Floats.{0f}
 use Rattle.basics.specs.Loops.{run, snoc}
-use Rattle.basics.proofs.Loops.{All, run-append}
-use Rattle.basics.proofs.Lists.{All-snoc, count}
+use Rattle.basics.proofs.Loops.{All, All-getD, run-append}
+use Rattle.basics.proofs.Lists.{All-snoc}
 use Rattle.turfs.specs.Board.{Board, turfCount, linkCount}
 use Rattle.turfs.proofs.Accepted.{Accepted, source}
-use Rattle.events.specs.declared.Event.{Event}
+use Rattle.turfs.proofs.Line.{Line}
 use Rattle.events.proofs.Compared.{isRequest}
-use Rattle.flood_fill.specs.Fill.{Reach, Fill, isOver, fill}
-use Rattle.flood_fill.proofs.Counts.{isMark, marked, marked-length, mark-new, was-new, Counted, fill-counts}
+use Rattle.flood_fill.specs.Fill.{Fill, fill}
+use Rattle.flood_fill.proofs.Counts.{marked, marked-length, mark-new, was-new, Counted, fill-counts}
+use Rattle.flood_fill.proofs.Joins.{Rows, fill-rows}
 use Rattle.flood_fill.proofs.Owned.{Fresh, fill-fresh}
 use Rattle.flood_fill.proofs.Rest.{Clocked, fill-clocked}
-use Rattle.finalize_eq.specs.Turns.{Zone, nodeCount}
+use Rattle.finalize_eq.specs.Turns.{Zone, nodesAt, nodeCount}
 use Rattle.equalize.specs.Equalize.{Ask, Filled, afterFill, fillFrom, fillAll}
-use Rattle.equalize.proofs.Hot.{Starts, startFilled, fill-all-keeps}
+use Rattle.equalize.proofs.Hot.{Starts, fill-all-keeps}
 use Rattle.equalize.proofs.Ends.{unowned}
 
 pub count-snoc : (zs : List Zone) (z : Zone) → nodeCount (snoc zs z) ≡ nodeCount zs + length (z .nodes)
@@ -36,7 +37,7 @@ module _ (b : Board) {n : ℕ} (h : Accepted b n) (gas : List Float) (q : Ask) w
     pub free : (k : ℕ) → getD found (source (b .starts) k) 0 ≡ 0 → getD owner k 0 ≡ 0
     pub zones : length zs ≤ marked found
     pub nodes : nodeCount zs ≤ length zs + marked owner
-    pub some : All (λ z. 1 ≤ length (z .nodes)) zs
+    pub some : All (λ z. (1 ≤ length (z .nodes)) × Line b (z .nodes)) zs
 
   pub record Zoned (s : Filled) : Type 0 where
     pub marks : length (s .found) ≡ turfCount b
@@ -72,6 +73,9 @@ module _ (b : Board) {n : ℕ} (h : Accepted b n) (gas : List Float) (q : Ask) w
       w : Clocked b gas (q .limit) (q .allowance) (length (s .zones)) t
       w = fill-clocked b gas (q .limit) (q .allowance) (length (s .zones)) r (s .found) (s .owner) (s .events) (s .tests) (g .inTime (i .going))
 
+      w′ : Rows b (h .ends) (t .reach)
+      w′ = fill-rows b (h .ends) gas (q .limit) (q .allowance) (length (s .zones)) r (s .found) (s .owner) (s .events) (s .tests) (i .row)
+
       m : marked (set (s .found) r 1) ≡ marked (s .found) + 1
       m = mark-new (s .found) r inside (i .new)
 
@@ -85,7 +89,7 @@ module _ (b : Board) {n : ℕ} (h : Accepted b n) (gas : List Float) (q : Ask) w
         free = f .unowned;
         zones = omega (arith, length-append (s .zones) (last ∷ []), c .grown, m, g .kept .zones);
         nodes = omega (arith, length-append (s .zones) (last ∷ []), count-snoc (s .zones) last, f .nodes, g .kept .nodes);
-        some = All-snoc (λ z. 1 ≤ length (z .nodes)) (s .zones) last (g .kept .some) (c .first .1);
+        some = All-snoc (λ z. (1 ≤ length (z .nodes)) × Line b (z .nodes)) (s .zones) last (g .kept .some) (c .first .1, w′ .nodes);
       }
 
   pub zoned : Zoned (fillAll b gas q)
@@ -111,3 +115,7 @@ module _ (b : Board) {n : ℕ} (h : Accepted b n) (gas : List Float) (q : Ask) w
   -- 2N requests
   pub request-room : length (fillAll b gas q .events) ≤ 2 * turfCount b
   request-room = omega (arith, zoned .asked, zoned .marks, marked-length (fillAll b gas q .found))
+
+  -- a kept zone has a node, its first turf; its nodes are turfs of the board, none twice
+  pub zone-has : (z : ℕ) → z < length (fillAll b gas q .zones) → (1 ≤ length (nodesAt (fillAll b gas q .zones) z)) × Line b (nodesAt (fillAll b gas q .zones) z)
+  zone-has z l = All-getD (λ y. (1 ≤ length (y .nodes)) × Line b (y .nodes)) (fillAll b gas q .zones) z (record { nodes = []; moles = 0f }) (zoned .kept .some) l

@@ -1,14 +1,15 @@
--- Finishing in one zone: it changes nothing outside the zone, and what it does turns on nothing outside it. Assumes nothing.
-use mathlib.Core.Path.{_≡_, refl, sym, ap, ap₂, _∙_, subst}
+-- Finishing in one zone changes nothing outside the zone, and what it does turns on nothing outside it: it reads and stores only weights of the zone's edges, and
+-- amounts of mixtures at their ends. Assumes nothing.
+use mathlib.Core.Path.{_≡_, refl, sym, ap, _∙_, subst}
 use mathlib.Core.Logic.{_≢_}
-use mathlib.Core.List.{List, [], _∷_, _++_, map}
-use mathlib.Core.Bool.{Bool, true, false, not, _&&_, _||_, cond}
+use mathlib.Core.List.{List, []}
+use mathlib.Core.Bool.{Bool, true, false, _&&_, cond}
 use Prim.Native.Nat.{ℕ, zero, suc, _+_, _<_}
 use lib.Dec.{T, eqb, eqb→eq}
 use lib.ListN.{length, getD, set, length-set}
 use lib.Seq.{getD-set-other}
 use lib.Ieee.{Float, nan, lt}
-use Rattle.basics.specs.Loops.{run, keep, snoc, first}
+use Rattle.basics.specs.Loops.{run, keep}
 use Rattle.basics.specs.Floats.{0f}
 use Rattle.basics.specs.declared.Spot.{Spot}
 use Rattle.basics.specs.declared.Spot.the-variants.{At, Nowhere}
@@ -16,7 +17,6 @@ use Rattle.basics.proofs.Loops.{All, All-map, All-imp, All-any, keep-all, map-l
 use Rattle.turfs.specs.Board.{Board, mixtureCount, idOf, mixOf, immutableMix, end, linksOf}
 use Rattle.mixture.specs.Mixture.{amounts, total, totalMix, sum, moveAir}
 use Rattle.mixture.proofs.Parts.{Fits, move-fits, move-apart, move-like}
-use Rattle.events.specs.declared.Event.{Event}
 use Rattle.events.proofs.Compared.{records, others, other-record, same-record, no-other}
 use Rattle.process_zone.specs.Edges.{edgesOf, edge, alter}
 use Rattle.process_zone.proofs.Sizes.{alter-size}

@@ -1,13 +1,13 @@
 -- How deep finishing goes: a call that finishes givers has lifted a positive weight, so any count of levels above the positive weights gives one result.
 -- A cycle of two functions ends by the same count: twice it for a turf, twice it and one for the givers. Assumes nothing.
-use mathlib.Core.Path.{_≡_, refl, ap, _∙_}
+use mathlib.Core.Path.{_≡_, refl, ap}
 use mathlib.Core.List.{List, [], _∷_, map}
-use mathlib.Core.Bool.{Bool, cond}
-use Prim.Native.Nat.{ℕ, zero, suc, _+_, _≤_, _<_}
+use mathlib.Core.Bool.{cond}
+use Prim.Native.Nat.{ℕ, zero, suc, _≤_, _<_}
 use native.Mathlib.Nat.{le-refl, le-trans}
 use native.Mathlib.Omega.{arith}
 use lib.ListN.{length, getD}
-use lib.Ieee.{Float, nan, lt}
+use lib.Ieee.{nan, lt}
 use Rattle.basics.specs.Loops.{run}
 use Rattle.basics.proofs.Loops.{All-any, run-keeps, run-same}
 use Rattle.basics.proofs.Lists.{count, count-length}

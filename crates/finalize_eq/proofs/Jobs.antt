@@ -1,23 +1,22 @@
--- Any two lists of jobs that give each zone the same turfs in the same order come to the same gas, weights, others, and records of each zone. Assumes nothing.
-use mathlib.Core.Path.{_≡_, refl, sym, ap, ap₂, _∙_, subst}
+-- Any two lists of jobs that give each zone the same turfs in the same order come to the same gas, records of each zone and other
+-- records: seen by a zone, the run of all the jobs is the run of its own. Assumes nothing.
+use mathlib.Core.Path.{_≡_, refl, sym, ap, _∙_, subst}
 use mathlib.Core.Logic.{_≢_, _⊎_, inl, inr}
-use mathlib.Core.List.{List, [], _∷_, _++_, map}
-use mathlib.Core.Bool.{Bool, true, false, not, _&&_, _||_, cond}
+use mathlib.Core.List.{List, [], _∷_, map}
 use Prim.Native.Nat.{ℕ, zero, suc, _+_, _*_, _/_, _%_, _<_}
-use native.Mathlib.Nat.{suc-inj, mod-lt, div-lt-iff-lt-mul, div-add-mod'}
+use native.Mathlib.Nat.{mod-lt, div-add-mod'}
 use native.Mathlib.Decide.{ℕ-discrete}
 use native.Mathlib.Omega.{arith}
-use lib.Dec.{T, eqb, eqb→eq}
-use lib.ListN.{length, getD, set, take, drop}
+use lib.Dec.{T, eqb}
+use lib.ListN.{getD, drop}
 use lib.Seq.{ext-getD, getD-take, getD-drop}
 use lib.Ieee.{Float, nan}
 use borrow.Author.Tests.{eq-eqb, ne-eqb}
-use Rattle.basics.specs.Loops.{run, keep, consIf}
+use Rattle.basics.specs.Loops.{run, keep}
 use Rattle.basics.proofs.Loops.{All, run-keeps}
 use Rattle.turfs.specs.Board.{Board, linkCount, mixtureCount, mixOf, immutableMix, end}
 use Rattle.mixture.specs.Mixture.{amounts, part}
 use Rattle.mixture.proofs.Parts.{Fits}
-use Rattle.events.specs.declared.Event.{Event}
 use Rattle.events.proofs.Compared.{records, others}
 use Rattle.finalize_eq.specs.Finish.{Done, finish}
 use Rattle.finalize_eq.specs.Turns.{Job, work}

@@ -1,21 +1,21 @@
--- The jobs that a list of turns makes: each zone has its nodes, in order, once, whatever the turns. Assumes nothing.
-use mathlib.Core.Path.{_≡_, refl, sym, ap, ap₂, _∙_, subst}
+-- The jobs that a list of turns makes: each zone has its nodes, in order, once, whatever the turns, since a turn takes the next node of one zone. Assumes nothing.
+use mathlib.Core.Path.{_≡_, refl, sym, ap, ap₂, _∙_}
 use mathlib.Core.Logic.{_≢_, _⊎_, inl, inr}
 use mathlib.Core.List.{List, [], _∷_, _++_, map, append-nil}
-use mathlib.Core.Bool.{Bool, true, false, not, _&&_, _||_, cond}
+use mathlib.Core.Bool.{Bool, true, false, cond}
 use Prim.Native.Nat.{ℕ, zero, suc, _+_, _%_, _≤_, _<_, zero-le}
-use native.Mathlib.Nat.{mod-lt, add-zero, zero-add, add-suc, suc-add}
+use native.Mathlib.Nat.{mod-lt}
 use native.Mathlib.Decide.{ℕ-discrete}
 use native.Mathlib.Omega.{arith}
-use lib.Dec.{T, eqb, ltb, ltb→lt}
-use lib.ListN.{length, getD, set, drop, replicate, length-set, length-replicate, getD-replicate, List·getD-eq-default}
+use lib.Dec.{eqb, ltb, ltb→lt}
+use lib.ListN.{length, getD, set, drop, replicate, length-set, length-replicate, List·getD-eq-default}
 use lib.Seq.{drop-cons, getD-set-same, getD-set-other}
 use borrow.Author.Tests.{eqb-false}
-use Rattle.basics.specs.Loops.{keep, upFrom, consIf}
+use Rattle.basics.specs.Loops.{keep, upFrom}
 use Rattle.basics.specs.Floats.{0f}
 use Rattle.basics.proofs.Loops.{All, All-imp, All-getD, All-map, keep-all, keep-append}
 use Rattle.basics.proofs.Lists.{All-append, All-drop, map-append, upFrom-below}
-use Rattle.finalize_eq.specs.Turns.{Zone, zoneAt, nodesAt, Job, unfinished, jobsLeft, inOrder, pick, nextJob, order, turnOrder}
+use Rattle.finalize_eq.specs.Turns.{Zone, nodesAt, Job, unfinished, jobsLeft, inOrder, pick, nextJob, order, turnOrder}
 use Rattle.finalize_eq.proofs.Jobs.{rowsOf, rows-mine, rows-other}
 
 rows-append : (z : ℕ) (js ks : List Job) → rowsOf z (js ++ ks) ≡ rowsOf z js ++ rowsOf z ks

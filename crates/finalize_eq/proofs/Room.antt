@@ -1,12 +1,12 @@
 -- Finishing writes at most a record for each weight above 0, since a record's weight was lifted: 20 bytes a link. Assumes nothing.
-use mathlib.Core.Path.{_≡_, refl, ap, _∙_}
-use mathlib.Core.List.{List, [], _∷_, map}
-use mathlib.Core.Bool.{Bool, cond}
+use mathlib.Core.Path.{_≡_, refl}
+use mathlib.Core.List.{List, [], _∷_}
+use mathlib.Core.Bool.{cond}
 use Prim.Native.Nat.{ℕ, zero, suc, _+_, _*_, _≤_}
 use native.Mathlib.Nat.{le-refl}
 use native.Mathlib.Omega.{arith}
 use lib.ListN.{length}
-use lib.Ieee.{Float, lt}
+use lib.Ieee.{lt}
 use Rattle.basics.specs.Loops.{run}
 use Rattle.basics.specs.Floats.{0f}
 use Rattle.basics.proofs.Loops.{All-any, run-keeps}
@@ -14,7 +14,6 @@ use Rattle.basics.proofs.Lists.{count, count-length}
 use Rattle.turfs.specs.Board.{Board, linkCount, idOf}
 use Rattle.mixture.specs.Mixture.{total}
 use Rattle.events.specs.Events.{kindOf, sizeOf}
-use Rattle.events.specs.declared.Event.{Event}
 use Rattle.events.specs.declared.Event.the-variants.{Pressure}
 use Rattle.events.proofs.Sizes.{size, size-snoc}
 use Rattle.process_zone.specs.Edges.{edgesOf, edge, alter}

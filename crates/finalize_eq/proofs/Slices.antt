@@ -4,7 +4,7 @@ use mathlib.Core.Path.{_≡_, refl, sym, ap, _∙_, subst}
 use mathlib.Core.Logic.{_⊎_, inl, inr}
 use mathlib.Core.List.{List, [], _∷_, map}
 use mathlib.Core.Bool.{Bool, true, false, not, cond}
-use Prim.Native.Nat.{ℕ, zero, suc, _+_, _≤_, _<_}
+use Prim.Native.Nat.{ℕ, zero, suc, _<_}
 use native.Mathlib.Decide.{ℕ-discrete, decLt}
 use native.Mathlib.Omega.{arith}
 use lib.Dec.{T, eqb, eqb→eq, eqb-refl}
@@ -14,10 +14,11 @@ use lib.Ieee.{Float, nan, lt}
 use Rattle.basics.specs.Loops.{run, keep, every, member}
 use Rattle.basics.specs.Floats.{0f}
 use Rattle.basics.proofs.Loops.{All, All-any, All-imp, All-map, run-keeps, run-both, run-keep, run-map, every-all}
-use Rattle.basics.proofs.Lists.{members, member-has, or-left, or-right, or-cases, all-every, keep-none}
-use Rattle.turfs.specs.Board.{Board, end}
+use Rattle.basics.proofs.Lists.{All-keep, members, member-has, or-left, or-right, or-cases, all-every, keep-none}
+use Rattle.turfs.specs.Board.{Board, end, linksOf}
+use Rattle.turfs.proofs.Accepted.{Accepted, source, sources}
 use Rattle.mixture.specs.Mixture.{total}
-use Rattle.process_zone.specs.Edges.{edgesOf, edge, alter}
+use Rattle.process_zone.specs.Edges.{owned, edgesOf, edge}
 use Rattle.process_zone.proofs.Sizes.{alter-size}
 use Rattle.finalize_eq.specs.Finish.{Done, Pair, zeroLifted, positive, negative, pairs, finishGivers, send, finishPair, finish}
 use Rattle.finalize_eq.proofs.Weights.{above, lift-size, Below, lift-below, alter-below, lift-zero}
@@ -27,6 +28,7 @@ pub record Held : Type 0 where
   pub done : Done
   pub lifted : List Float
 
+-- the weights of the places ks copied into the second slice
 unfoldable pub save : List ℕ → List Float → List Float → List Float
 save ks w l = run (λ k v. set v k (getD w k nan)) ks l
 
@@ -35,27 +37,31 @@ module _ (b : Board) (owner : List ℕ) (z : ℕ) where
   unfoldable pub quiet : ℕ → List Float → Bool
   quiet r w = every (λ k. not (above (getD w k nan))) (edgesOf b owner z r)
 
+  -- the turf's weights lifted: 0 is left
   abbrev pub cleared : ℕ → Done → Done
   cleared r s = record { gas = s .gas; weight = zeroLifted (edgesOf b owner z r) (s .weight); events = s .events }
 
-  -- finish the neighbours whose lifted weight is negative
-  unfoldable pub giversS : (ℕ → Held → Held) → ℕ → Held → Held
-  giversS f r h = run (λ j g. cond (lt (getD (g .lifted) j nan) 0f) (f (end b j) g) g) (edgesOf b owner z r) h
+  -- `finalize_eq_neighbors`: finish the neighbours whose lifted weight is negative
+  unfoldable pub giversHeld : (ℕ → Held → Held) → ℕ → Held → Held
+  giversHeld f r h = run (λ j g. cond (lt (getD (g .lifted) j nan) 0f) (f (end b j) g) g) (edgesOf b owner z r) h
 
-  abbrev pub sendS : ℕ → ℕ → Float → Held → Held
-  sendS r k x g = record { done = send b owner z r (record { to = end b k; amount = x }) (g .done); lifted = g .lifted }
+  -- the rest of the work on the edge k, whose lifted weight is x
+  abbrev pub sendHeld : ℕ → ℕ → Float → Held → Held
+  sendHeld r k x g = record { done = send b owner z r (record { to = end b k; amount = x }) (g .done); lifted = g .lifted }
 
-  unfoldable pub pairS : (ℕ → Held → Held) → ℕ → ℕ → Held → Held
-  pairS f r k h =
+  -- one edge of the turf r: a positive lifted weight is sent, its givers finished first where the turf is short
+  unfoldable pub pairHeld : (ℕ → Held → Held) → ℕ → ℕ → Held → Held
+  pairHeld f r k h =
       let x = getD (h .lifted) k nan in
-      cond (above x) (sendS r k x (cond (lt (total b (h .done .gas) r) x) (giversS f r h) h)) h
+      cond (above x) (sendHeld r k x (cond (lt (total b (h .done .gas) r) x) (giversHeld f r h) h)) h
 
-  unfoldable pub finishS : ℕ → ℕ → Held → Held
-  finishS zero r h = h
-  finishS (suc n) r h =
+  -- `finalize_eq`: a turf with no positive weight saves nothing
+  unfoldable pub finishHeld : ℕ → ℕ → Held → Held
+  finishHeld zero r h = h
+  finishHeld (suc n) r h =
       cond (quiet r (h .done .weight))
       (record { done = cleared r (h .done); lifted = h .lifted })
-      (run (pairS (λ a g. finishS n a g) r) (edgesOf b owner z r) (record { done = cleared r (h .done); lifted = save (edgesOf b owner z r) (h .done .weight) (h .lifted) }))
+      (run (pairHeld (λ a g. finishHeld n a g) r) (edgesOf b owner z r) (record { done = cleared r (h .done); lifted = save (edgesOf b owner z r) (h .done .weight) (h .lifted) }))
 
 save-other : (ks : List ℕ) (w l : List Float) (k : ℕ) → (T (member k ks) → ⊥) → getD (save ks w l) k nan ≡ getD l k nan
 unfolding save run member
@@ -139,22 +145,22 @@ module _ (b : Board) (owner : List ℕ) (z : ℕ) (src : ℕ → ℕ) (srcs : (r
     cond-holds true g h a d = a
     cond-holds false g h a d = d
 
-    givers-hold : (f : ℕ → Held → Held) → ((a : ℕ) (h : Held) → H h → H (f a h)) → (r : ℕ) (h : Held) → H h → H (giversS b owner z f r h)
-    unfolding giversS
+    givers-hold : (f : ℕ → Held → Held) → ((a : ℕ) (h : Held) → H h → H (f a h)) → (r : ℕ) (h : Held) → H h → H (giversHeld b owner z f r h)
+    unfolding giversHeld
     givers-hold f i r h q = run-keeps (λ j. Unit {0}) H _ (λ j g u e. cond-holds (lt (getD (g .lifted) j nan) 0f) (f (end b j) g) g (i (end b j) g e) e)
         (edgesOf b owner z r) h (All-any _ (λ j. tt) (edgesOf b owner z r)) q
 
-    pair-holds : (f : ℕ → Held → Held) → ((a : ℕ) (h : Held) → H h → H (f a h)) → (r k : ℕ) (h : Held) → H h → H (pairS b owner z f r k h)
-    unfolding pairS send
+    pair-holds : (f : ℕ → Held → Held) → ((a : ℕ) (h : Held) → H h → H (f a h)) → (r k : ℕ) (h : Held) → H h → H (pairHeld b owner z f r k h)
+    unfolding pairHeld send
     pair-holds f i r k h q =
         let x = getD (h .lifted) k nan in
-        let g = cond (lt (total b (h .done .gas) r) x) (giversS b owner z f r h) h in
-        let e : H g = cond-holds (lt (total b (h .done .gas) r) x) (giversS b owner z f r h) h (givers-hold f i r h q) q in
-        cond-holds (above x) (sendS b owner z r k x g) h
+        let g = cond (lt (total b (h .done .gas) r) x) (giversHeld b owner z f r h) h in
+        let e : H g = cond-holds (lt (total b (h .done .gas) r) x) (giversHeld b owner z f r h) h (givers-hold f i r h q) q in
+        cond-holds (above x) (sendHeld b owner z r k x g) h
         (record { below = alter-below (edge b owner z (end b k) r) (g .done .weight) w₀ (e .below); kept = e .kept }) q
 
-    pub finish-holds : (n r : ℕ) (h : Held) → H h → H (finishS b owner z n r h)
-    unfolding finishS
+    pub finish-holds : (n r : ℕ) (h : Held) → H h → H (finishHeld b owner z n r h)
+    unfolding finishHeld
     finish-holds zero r h q = q
     finish-holds (suc n) r h q = go (quiet b owner z r (h .done .weight)) refl (λ a g e. finish-holds n a g e)
       where
@@ -164,11 +170,11 @@ module _ (b : Board) (owner : List ℕ) (z : ℕ) (src : ℕ → ℕ) (srcs : (r
         loud : quiet b owner z r (h .done .weight) ≡ false → T (member K es) → ⊥
         loud e m = subst T e (is-quiet r (h .done .weight) (λ k i. q .below k (safe r m k i)))
 
-        go : (t : Bool) → quiet b owner z r (h .done .weight) ≡ t → ((a : ℕ) (g : Held) → H g → H (finishS b owner z n a g))
+        go : (t : Bool) → quiet b owner z r (h .done .weight) ≡ t → ((a : ℕ) (g : Held) → H g → H (finishHeld b owner z n a g))
             → H (cond t (record { done = cleared b owner z r (h .done); lifted = h .lifted })
-            (run (pairS b owner z (λ a g. finishS b owner z n a g) r) es (record { done = cleared b owner z r (h .done); lifted = save es (h .done .weight) (h .lifted) })))
+            (run (pairHeld b owner z (λ a g. finishHeld b owner z n a g) r) es (record { done = cleared b owner z r (h .done); lifted = save es (h .done .weight) (h .lifted) })))
         go true e ih = record { below = lift-below es (h .done .weight) w₀ (q .below); kept = q .kept }
-        go false e ih = run-keeps (λ k. Unit {0}) H (pairS b owner z (λ a g. finishS b owner z n a g) r) (λ k g u i. pair-holds (λ a g′. finishS b owner z n a g′) ih r k g i) es _
+        go false e ih = run-keeps (λ k. Unit {0}) H (pairHeld b owner z (λ a g. finishHeld b owner z n a g) r) (λ k g u i. pair-holds (λ a g′. finishHeld b owner z n a g′) ih r k g i) es _
             (All-any _ (λ k. tt) es) (record { below = lift-below es (h .done .weight) w₀ (q .below); kept = save-other es (h .done .weight) (h .lifted) K (loud e) ∙ q .kept })
 
   -- ---- sizes
@@ -184,8 +190,8 @@ module _ (b : Board) (owner : List ℕ) (z : ℕ) (src : ℕ → ℕ) (srcs : (r
   unfolding save
   save-size ks w l e h = run-keeps (λ k. Unit {0}) (λ v. length v ≡ e) (λ k v. set v k (getD w k nan)) (λ k v u i. length-set v k (getD w k nan) ∙ i) ks l (All-any _ (λ k. tt) ks) h
 
-  pair-sized : (e : ℕ) (f : ℕ → Held → Held) → ((a : ℕ) (h : Held) → Sized e h → Sized e (f a h)) → (r k : ℕ) (h : Held) → Sized e h → Sized e (pairS b owner z f r k h)
-  unfolding pairS send giversS
+  pair-sized : (e : ℕ) (f : ℕ → Held → Held) → ((a : ℕ) (h : Held) → Sized e h → Sized e (f a h)) → (r k : ℕ) (h : Held) → Sized e h → Sized e (pairHeld b owner z f r k h)
+  unfolding pairHeld send giversHeld
   pair-sized e f i r k h q =
       let x = getD (h .lifted) k nan in
       let gs = run (λ j g. cond (lt (getD (g .lifted) j nan) 0f) (f (end b j) g) g) (edgesOf b owner z r) h in
@@ -193,17 +199,17 @@ module _ (b : Board) (owner : List ℕ) (z : ℕ) (src : ℕ → ℕ) (srcs : (r
       let s : Sized e g = cond-sized e (lt (total b (h .done .gas) r) x) gs h
       (run-keeps (λ j. Unit {0}) (Sized e) (λ j u. cond (lt (getD (u .lifted) j nan) 0f) (f (end b j) u) u)
       (λ j u v w. cond-sized e (lt (getD (u .lifted) j nan) 0f) (f (end b j) u) u (i (end b j) u w) w) (edgesOf b owner z r) h (All-any _ (λ j. tt) (edgesOf b owner z r)) q) q in
-      cond-sized e (above x) (sendS b owner z r k x g) h (s .0, alter-size (edge b owner z (end b k) r) (λ x. 0f) (g .done .weight) ∙ s .1) q
+      cond-sized e (above x) (sendHeld b owner z r k x g) h (s .0, alter-size (edge b owner z (end b k) r) (λ x. 0f) (g .done .weight) ∙ s .1) q
 
-  finish-sized : (e n r : ℕ) (h : Held) → Sized e h → Sized e (finishS b owner z n r h)
-  unfolding finishS
+  finish-sized : (e n r : ℕ) (h : Held) → Sized e h → Sized e (finishHeld b owner z n r h)
+  unfolding finishHeld
   finish-sized e zero r h q = q
   finish-sized e (suc n) r h q =
       let es = edgesOf b owner z r in
       let up : Held = record { done = cleared b owner z r (h .done); lifted = save es (h .done .weight) (h .lifted) } in
-      cond-sized e (quiet b owner z r (h .done .weight)) (record { done = cleared b owner z r (h .done); lifted = h .lifted }) (run (pairS b owner z (λ a g. finishS b owner z n a g) r) es up)
+      cond-sized e (quiet b owner z r (h .done .weight)) (record { done = cleared b owner z r (h .done); lifted = h .lifted }) (run (pairHeld b owner z (λ a g. finishHeld b owner z n a g) r) es up)
       (q .0, lift-size es (h .done .weight) ∙ q .1)
-      (run-keeps (λ k. Unit {0}) (Sized e) (pairS b owner z (λ a g. finishS b owner z n a g) r) (λ k g u i. pair-sized e (λ a g′. finishS b owner z n a g′) (λ a g′ j. finish-sized e n a g′ j) r k g i)
+      (run-keeps (λ k. Unit {0}) (Sized e) (pairHeld b owner z (λ a g. finishHeld b owner z n a g) r) (λ k g u i. pair-sized e (λ a g′. finishHeld b owner z n a g′) (λ a g′ j. finish-sized e n a g′ j) r k g i)
       es up (All-any _ (λ k. tt) es) (save-size es (h .done .weight) (h .lifted) e (q .0), lift-size es (h .done .weight) ∙ q .1))
 
   -- ---- the two agree
@@ -229,9 +235,9 @@ module _ (b : Board) (owner : List ℕ) (z : ℕ) (src : ℕ → ℕ) (srcs : (r
     cond-midway true g g′ t t′ a d = a
     cond-midway false g g′ t t′ a d = d
 
-    module _ (n : ℕ) (same : (a : ℕ) (h : Held) → Sized e h → finishS b owner z n a h .done ≡ finish b owner z n a (h .done)) where
+    module _ (n : ℕ) (same : (a : ℕ) (h : Held) → Sized e h → finishHeld b owner z n a h .done ≡ finish b owner z n a (h .done)) where
       abbrev f : ℕ → Held → Held
-      f a h = finishS b owner z n a h
+      f a h = finishHeld b owner z n a h
 
       abbrev f′ : ℕ → Done → Done
       f′ a t = finish b owner z n a t
@@ -248,10 +254,10 @@ module _ (b : Board) (owner : List ℕ) (z : ℕ) (src : ℕ → ℕ) (srcs : (r
           held k m = finish-holds k (g .done .weight) (getD (g .lifted) k nan) (λ r′ m′ j i. q .still j (subst (λ (x : ℕ). Mine x j) (one-row r′ r k m′ m) i)) n a g
               (record { below = λ j i. i; kept = refl })
 
-      givers-midway : (g : Held) (t : Done) → Midway g t → Midway (giversS b owner z f r g) (run f′ (negative ps) t)
-      unfolding giversS
+      givers-midway : (g : Held) (t : Done) → Midway g t → Midway (giversHeld b owner z f r g) (run f′ (negative ps) t)
+      unfolding giversHeld
       givers-midway g t q =
-          subst (Midway (giversS b owner z f r g))
+          subst (Midway (giversHeld b owner z f r g))
           (sym (run-map (λ p. p .to) f′ (keep (λ p. lt (p .amount) 0f) ps) t ∙ run-keep (λ p. lt (p .amount) 0f) (λ p u. f′ (p .to) u) ps t
           ∙ run-map pair (λ p u. cond (lt (p .amount) 0f) (f′ (p .to) u) u) es t))
           (run-both (Mine r) Midway (λ j u. cond (lt (getD (u .lifted) j nan) 0f) (f (end b j) u) u) (λ j u. cond (lt (getD w j nan) 0f) (f′ (end b j) u) u)
@@ -259,7 +265,7 @@ module _ (b : Board) (owner : List ℕ) (z : ℕ) (src : ℕ → ℕ) (srcs : (r
           (cond-midway (lt (getD w j nan) 0f) (f (end b j) u) u (f′ (end b j) v) v (call (end b j) u v i) i))
           es g t (members es) q)
 
-      send-midway : (k : ℕ) (g : Held) (t : Done) → Midway g t → Midway (sendS b owner z r k (getD w k nan) g) (send b owner z r (pair k) t)
+      send-midway : (k : ℕ) (g : Held) (t : Done) → Midway g t → Midway (sendHeld b owner z r k (getD w k nan) g) (send b owner z r (pair k) t)
       unfolding send
       send-midway k g t q = record {
         agree = ap (send b owner z r (pair k)) (q .agree);
@@ -268,25 +274,25 @@ module _ (b : Board) (owner : List ℕ) (z : ℕ) (src : ℕ → ℕ) (srcs : (r
         sized = (q .sized .0, alter-size (edge b owner z (end b k) r) (λ x. 0f) (g .done .weight) ∙ q .sized .1);
       }
 
-      pair-midway : (k : ℕ) (g : Held) (t : Done) → Mine r k → Midway g t → Midway (pairS b owner z f r k g) (cond (above (getD w k nan)) (finishPair b owner z f′ r ps (pair k) t) t)
-      unfolding pairS finishPair finishGivers
+      pair-midway : (k : ℕ) (g : Held) (t : Done) → Mine r k → Midway g t → Midway (pairHeld b owner z f r k g) (cond (above (getD w k nan)) (finishPair b owner z f′ r ps (pair k) t) t)
+      unfolding pairHeld finishPair finishGivers
       pair-midway k g t m q =
-          subst (λ (x : Float). Midway (cond (above x) (sendS b owner z r k x (cond (lt (total b (g .done .gas) r) x) (giversS b owner z f r g) g)) g) (cond (above (getD w k nan)) (finishPair b owner z f′ r ps (pair k) t) t))
+          subst (λ (x : Float). Midway (cond (above x) (sendHeld b owner z r k x (cond (lt (total b (g .done .gas) r) x) (giversHeld b owner z f r g) g)) g) (cond (above (getD w k nan)) (finishPair b owner z f′ r ps (pair k) t) t))
           (sym (q .stand k m))
-          (cond-midway (above (getD w k nan)) (sendS b owner z r k (getD w k nan) (cond (lt (total b (g .done .gas) r) (getD w k nan)) (giversS b owner z f r g) g)) g
+          (cond-midway (above (getD w k nan)) (sendHeld b owner z r k (getD w k nan) (cond (lt (total b (g .done .gas) r) (getD w k nan)) (giversHeld b owner z f r g) g)) g
           (finishPair b owner z f′ r ps (pair k) t) t
-          (send-midway k (cond (lt (total b (g .done .gas) r) (getD w k nan)) (giversS b owner z f r g) g) (run f′ (negative (cond (lt (total b (t .gas) r) (getD w k nan)) ps [])) t)
-          (subst (λ (d : Done). Midway (cond (lt (total b (g .done .gas) r) (getD w k nan)) (giversS b owner z f r g) g) (run f′ (negative (cond (lt (total b (d .gas) r) (getD w k nan)) ps [])) t)) (q .agree)
+          (send-midway k (cond (lt (total b (g .done .gas) r) (getD w k nan)) (giversHeld b owner z f r g) g) (run f′ (negative (cond (lt (total b (t .gas) r) (getD w k nan)) ps [])) t)
+          (subst (λ (d : Done). Midway (cond (lt (total b (g .done .gas) r) (getD w k nan)) (giversHeld b owner z f r g) g) (run f′ (negative (cond (lt (total b (d .gas) r) (getD w k nan)) ps [])) t)) (q .agree)
           (short (lt (total b (g .done .gas) r) (getD w k nan)))))
           q)
         where
-          short : (c : Bool) → Midway (cond c (giversS b owner z f r g) g) (run f′ (negative (cond c ps [])) t)
+          short : (c : Bool) → Midway (cond c (giversHeld b owner z f r g) g) (run f′ (negative (cond c ps [])) t)
           short true = givers-midway g t q
           short false = unfold run keep in q
 
   -- Finishing with the lifted weights in a slice is finishing.
-  pub same-done : (n r : ℕ) (h : Held) (e : ℕ) → Sized e h → finishS b owner z n r h .done ≡ finish b owner z n r (h .done)
-  unfolding finishS finish pairs run
+  pub same-done : (n r : ℕ) (h : Held) (e : ℕ) → Sized e h → finishHeld b owner z n r h .done ≡ finish b owner z n r (h .done)
+  unfolding finishHeld finish pairs run
   same-done zero r h e q = refl
   same-done (suc n) r h e q = go (quiet b owner z r (h .done .weight)) refl (λ a g s. same-done n a g e s)
     where
@@ -302,13 +308,13 @@ module _ (b : Board) (owner : List ℕ) (z : ℕ) (src : ℕ → ℕ) (srcs : (r
       none : Quiet r w → All (λ p. above (p .amount) ≡ false) (ps r w e)
       none u = All-map (λ p. above (p .amount) ≡ false) (pair r w e) (es r w e) (All-imp (Mine r) _ (es r w e) (λ k m. u k m) (members (es r w e)))
 
-      go : (t : Bool) → quiet b owner z r w ≡ t → ((a : ℕ) (g : Held) → Sized e g → finishS b owner z n a g .done ≡ finish b owner z n a (g .done))
-          → cond t (record { done = cleared b owner z r (h .done); lifted = h .lifted }) (run (pairS b owner z (λ a g. finishS b owner z n a g) r) (es r w e) up) .done ≡ goal
+      go : (t : Bool) → quiet b owner z r w ≡ t → ((a : ℕ) (g : Held) → Sized e g → finishHeld b owner z n a g .done ≡ finish b owner z n a (g .done))
+          → cond t (record { done = cleared b owner z r (h .done); lifted = h .lifted }) (run (pairHeld b owner z (λ a g. finishHeld b owner z n a g) r) (es r w e) up) .done ≡ goal
       go true t ih =
           ap (λ (qs : List Pair). run (finishPair b owner z (λ a u. finish b owner z n a u) r (ps r w e)) qs (cleared b owner z r (h .done)))
           (sym (keep-none (λ p. above (p .amount)) (ps r w e) (none (quiet-is r w (subst T (sym t) tt)))))
       go false t ih =
-          run-both (Mine r) (Midway r w e) (pairS b owner z (λ a g. finishS b owner z n a g) r) (λ k u. cond (above (getD w k nan)) (finishPair b owner z (λ a t′. finish b owner z n a t′) r (ps r w e) (pair r w e k) u) u)
+          run-both (Mine r) (Midway r w e) (pairHeld b owner z (λ a g. finishHeld b owner z n a g) r) (λ k u. cond (above (getD w k nan)) (finishPair b owner z (λ a t′. finish b owner z n a t′) r (ps r w e) (pair r w e k) u) u)
           (λ k g u m i. pair-midway r w e n ih k g u m i) (es r w e) up (cleared b owner z r (h .done)) (members (es r w e))
           (record {
             agree = refl;
@@ -318,3 +324,9 @@ module _ (b : Board) (owner : List ℕ) (z : ℕ) (src : ℕ → ℕ) (srcs : (r
           }) .agree
           ∙ sym (run-keep (λ p. above (p .amount)) (finishPair b owner z (λ a t′. finish b owner z n a t′) r (ps r w e)) (ps r w e) (cleared b owner z r (h .done))
           ∙ run-map (pair r w e) (λ p u. cond (above (p .amount)) (finishPair b owner z (λ a t′. finish b owner z n a t′) r (ps r w e) p u) u) (es r w e) (cleared b owner z r (h .done)))
+
+-- The same on an accepted board, whose links are of one turf each.
+pub held-done : (b : Board) {g : ℕ} → Accepted b g → (owner : List ℕ) (z n r : ℕ) (h : Held) → length (h .lifted) ≡ length (h .done .weight)
+    → finishHeld b owner z n r h .done ≡ finish b owner z n r (h .done)
+held-done b a owner z n r h e =
+    same-done b owner z (source (b .starts)) (λ q. unfold edgesOf in All-keep (λ k. source (b .starts) k ≡ q) (owned b owner z) (linksOf b q) (sources b a q)) n r h (length (h .done .weight)) (e, refl)

@@ -1,5 +1,5 @@
 -- Weights that finishing sets to 0: their number stays, none comes above 0, and lifting takes exactly the positive ones of its places out. Assumes nothing.
-use mathlib.Core.Path.{_≡_, refl, sym, ap, ap₂, _∙_, subst}
+use mathlib.Core.Path.{_≡_, refl, ap, ap₂, _∙_}
 use mathlib.Core.Logic.{_≢_, _⊎_, inl, inr}
 use mathlib.Core.List.{List, [], _∷_, map}
 use mathlib.Core.Bool.{Bool, true, false}
@@ -20,7 +20,7 @@ use Rattle.basics.proofs.Lists.{or-cases, Apart, keep-apart, one, count}
 use Rattle.turfs.specs.Board.{Board, end, linksOf}
 use Rattle.turfs.proofs.Accepted.{links-apart}
 use Rattle.process_zone.specs.Edges.{alter, edgesOf}
-use Rattle.finalize_eq.specs.Finish.{Pair, zeroLifted, positive}
+use Rattle.finalize_eq.specs.Finish.{zeroLifted, positive}
 
 -- above 0
 abbrev pub above : Float → Bool

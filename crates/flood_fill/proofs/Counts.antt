@@ -1,29 +1,26 @@
 -- What a fill counts: a turf is pushed, and asks for at most two requests, only when it is newly marked, so the queue and the requests are bounded by the marks;
 -- no turf is pushed twice, so as many pops as there are turfs bring a fill to rest. Assumes nothing.
 use mathlib.Core.Path.{_≡_, refl, sym, ap, _∙_, subst}
-use mathlib.Core.Logic.{_⊎_, inl, inr}
 use mathlib.Core.List.{List, [], _∷_, _++_}
 use mathlib.Core.Bool.{Bool, true, false, not, _&&_, _||_, cond}
-use Prim.Native.Nat.{ℕ, zero, suc, _+_, _*_, _≤_, _<_}
+use Prim.Native.Nat.{ℕ, _+_, _*_, _≤_, _<_}
 use native.Mathlib.Nat.{le-refl}
-use native.Mathlib.Decide.{ℕ-discrete, decLt}
+use native.Mathlib.Decide.{ℕ-discrete}
 use native.Mathlib.Omega.{arith}
-use lib.Dec.{T, eqb, ltb}
+use lib.Dec.{T, eqb}
 use lib.ListN.{length, getD, set, length-set, length-append, List·getD-append}
-use lib.Seq.{getD-set-same, getD-set-other, set-out}
+use lib.Seq.{getD-set-same, getD-set-other}
 use lib.Ieee.{Float}
-use borrow.Author.Tests.{eqb-true, eqb-false, ltb-true, ltb-false, le-ltb}
-use Rattle.basics.specs.Loops.{run, times, member, snoc}
-use Rattle.basics.proofs.Loops.{All, times-keeps, times-rests, cond-both}
+use borrow.Author.Tests.{eqb-true}
+use Rattle.basics.specs.Loops.{member, snoc}
+use Rattle.basics.proofs.Loops.{All}
 use Rattle.basics.proofs.Lists.{All-append, one, count, count-set, count-length}
-use Rattle.turfs.specs.Board.{Board, turfCount, idOf, end, enabled, planetary, immutable, firelock, linksOf}
+use Rattle.turfs.specs.Board.{Board, turfCount, idOf, end, enabled, planetary, immutable, firelock}
 use Rattle.events.specs.declared.Event.{Event}
 use Rattle.events.specs.declared.Event.the-variants.{DepressurizeWanted, PlanetWanted}
 use Rattle.events.proofs.Compared.{isRequest}
-use Rattle.flood_fill.specs.Fill.{Reach, Fill, isOn, insert, reachLink, expand, endFill, pop, popNext, fill}
-use Rattle.flood_fill.specs.declared.Going.{Going}
-use Rattle.flood_fill.specs.declared.Going.the-variants.{On, Broken, Over}
-use Rattle.flood_fill.proofs.Steps.{startReach, startFill, Keeps, fill-keeps}
+use Rattle.flood_fill.specs.Fill.{Reach, Fill, insert, reachLink, fill}
+use Rattle.flood_fill.proofs.Steps.{Keeps, fill-keeps}
 
 -- ---- marks
 

@@ -1,9 +1,10 @@
--- A fill gives its zone only edges that join two of the zone's nodes, and leaves every other link as it was owned. Assumes nothing.
+-- A fill gives its zone only edges that join two of the zone's nodes, and leaves every other link as it was owned: a turf in the queue is a node, and so is the
+-- end of an edge. Assumes nothing.
 use mathlib.Core.Path.{_≡_, refl, sym, ap, _∙_, subst}
 use mathlib.Core.Logic.{_⊎_, inl, inr}
-use mathlib.Core.List.{List, [], _∷_, _++_}
-use mathlib.Core.Bool.{Bool, true, false, not, _&&_, _||_, cond}
-use Prim.Native.Nat.{ℕ, zero, suc, _+_, _<_}
+use mathlib.Core.List.{List, [], _∷_}
+use mathlib.Core.Bool.{Bool, true, false, _&&_, cond}
+use Prim.Native.Nat.{ℕ, _+_, _<_}
 use native.Mathlib.Decide.{ℕ-discrete, decLt}
 use native.Mathlib.Omega.{arith}
 use lib.Dec.{T, eqb, eqb-refl}
@@ -11,12 +12,13 @@ use lib.ListN.{length, getD, set}
 use lib.Seq.{getD-set-same, getD-set-other, set-out}
 use lib.Ieee.{Float}
 use Rattle.basics.specs.Loops.{member, snoc}
-use Rattle.basics.proofs.Loops.{All, All-imp, All-getD, cond-both}
+use Rattle.basics.proofs.Loops.{All, All-imp, cond-both}
 use Rattle.basics.proofs.Lists.{All-snoc, or-left, member-has, member-front, member-last}
-use Rattle.turfs.specs.Board.{Board, idOf, end, enabled, planetary, immutable, firelock, linksOf}
+use Rattle.turfs.specs.Board.{Board, turfCount, end, enabled, linksOf}
+use Rattle.turfs.proofs.Line.{Line, line-snoc}
 use Rattle.events.specs.declared.Event.{Event}
-use Rattle.flood_fill.specs.Fill.{Reach, Fill, insert, reachLink, fill}
-use Rattle.flood_fill.proofs.Steps.{startReach, Keeps, fill-keeps}
+use Rattle.flood_fill.specs.Fill.{Reach, insert, reachLink, fill}
+use Rattle.flood_fill.proofs.Steps.{Keeps, fill-keeps}
 
 pub inserted : (x : ℕ) (xs : List ℕ) → T (member x (insert x xs))
 unfolding insert
@@ -93,3 +95,29 @@ module _ (b : Board) where
       pub fill-joins : Joins (fill b gas limit allowance z r found owner₀ events tests .reach)
       unfolding member
       fill-joins = fill-keeps b z Joins link-joins gas limit allowance r found owner₀ events tests (record { edges = λ k. inl refl; queued = (or-left (eqb r r) false (eqb-refl r), tt) })
+
+-- ---- the nodes and the queue are turfs of the board, no node twice
+
+module _ (b : Board) (ends : (k : ℕ) → end b k < turfCount b) where
+  pub record Rows (s : Reach) : Type 0 where
+    pub nodes : Line b (s .nodes)
+    pub queue : All (λ x. x < turfCount b) (s .queue)
+
+  link-rows : (z : ℕ) → Keeps b z Rows
+  unfolding reachLink insert
+  link-rows z r k s queued ours q = record {
+    nodes = node (enabled b a) (member a (s .nodes)) refl;
+    queue = cond-both (All (λ x. x < turfCount b)) (eqb (getD (s .found) a 0) 0 && enabled b a) (snoc (s .queue) a) (s .queue) (All-snoc (λ x. x < turfCount b) (s .queue) a (q .queue) (ends k)) (q .queue);
+  }
+    where
+      a : ℕ
+      a = end b k
+
+      node : (t m : Bool) → member a (s .nodes) ≡ m → Line b (cond t (cond m (s .nodes) (snoc (s .nodes) a)) (s .nodes))
+      node true true e = q .nodes
+      node true false e = line-snoc b (s .nodes) a (ends k) e (q .nodes)
+      node false m e = q .nodes
+
+  pub fill-rows : (gas : List Float) (limit allowance z r : ℕ) (found owner : List ℕ) (events : List Event) (tests : ℕ) → r < turfCount b → Rows (fill b gas limit allowance z r found owner events tests .reach)
+  fill-rows gas limit allowance z r found owner events tests i =
+      fill-keeps b z Rows (link-rows z) gas limit allowance r found owner events tests (record { nodes = record { apart = (tt, tt); rows = (i, tt) }; queue = (i, tt) })

@@ -1,10 +1,10 @@
 -- A turf is popped by one zone only, and a link is of one turf, so a fill owns only links that no zone owned; a node is its first turf or is inserted by such a
 -- link, so the nodes beyond the first are at most the links newly owned. Assumes nothing.
 use mathlib.Core.Path.{_≡_, refl, sym, ap, _∙_, subst}
-use mathlib.Core.Logic.{_≢_, _⊎_, inl, inr}
-use mathlib.Core.List.{List, [], _∷_, _++_}
+use mathlib.Core.Logic.{_≢_}
+use mathlib.Core.List.{List, [], _∷_}
 use mathlib.Core.Bool.{Bool, true, false, not, _&&_, _||_, cond}
-use Prim.Native.Nat.{ℕ, zero, suc, _+_, _≤_, _<_}
+use Prim.Native.Nat.{ℕ, _+_, _≤_, _<_}
 use native.Mathlib.Nat.{le-refl}
 use native.Mathlib.Decide.{ℕ-discrete, decLt}
 use native.Mathlib.Omega.{arith}
@@ -12,17 +12,16 @@ use lib.Dec.{T, eqb, ltb, ltb→lt}
 use lib.ListN.{length, getD, set, length-set, length-append, List·getD-append}
 use lib.Seq.{getD-set-same, getD-set-other, getD-at}
 use lib.Ieee.{Float}
-use borrow.Author.Tests.{eqb-true, ne-eqb, ltb-true, not-true}
-use Rattle.basics.specs.Loops.{run, times, member, snoc}
+use borrow.Author.Tests.{eqb-true, ne-eqb}
+use Rattle.basics.specs.Loops.{run, member, snoc}
 use Rattle.basics.proofs.Loops.{All, All-imp, All-getD, times-keeps, and-right}
 use Rattle.basics.proofs.Lists.{All-snoc, Apart, apart-snoc, apart-at}
 use Rattle.turfs.specs.Board.{Board, turfCount, linkCount, end, enabled, planetary, linksOf}
 use Rattle.turfs.proofs.Accepted.{Accepted, source, sources, links-below, links-apart}
 use Rattle.events.specs.declared.Event.{Event}
 use Rattle.flood_fill.specs.Fill.{Reach, Fill, isOn, insert, reachLink, expand, endFill, pop, popNext, fill}
-use Rattle.flood_fill.specs.declared.Going.{Going}
-use Rattle.flood_fill.specs.declared.Going.the-variants.{On, Broken, Over}
-use Rattle.flood_fill.proofs.Steps.{startReach, startFill}
+use Rattle.flood_fill.specs.declared.Going.the-variants.{Broken, Over}
+use Rattle.flood_fill.proofs.Steps.{startFill}
 use Rattle.flood_fill.proofs.Counts.{isMark, marked, mark-put, was-new}
 
 -- a mark that is set stays

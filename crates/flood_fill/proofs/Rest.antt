@@ -3,19 +3,18 @@
 use mathlib.Core.Path.{_≡_, refl, sym, ap, _∙_, subst}
 use mathlib.Core.Logic.{_⊎_, inl, inr}
 use mathlib.Core.List.{List}
-use mathlib.Core.Bool.{Bool, true, false, not, _&&_, _||_, cond}
-use Prim.Native.Nat.{ℕ, zero, suc, _+_, _≤_, _<_}
+use mathlib.Core.Bool.{Bool, true, false, _&&_, _||_, cond}
+use Prim.Native.Nat.{ℕ, _+_, _≤_, _<_}
 use native.Mathlib.Omega.{arith}
 use lib.Dec.{T, ltb}
 use lib.ListN.{length, getD}
 use lib.Ieee.{Float}
 use borrow.Author.Tests.{ltb-true, ltb-false, le-ltb}
-use Rattle.basics.specs.Loops.{times}
 use Rattle.basics.proofs.Loops.{All, times-keeps, times-rests}
 use Rattle.turfs.specs.Board.{Board, turfCount, end, planetary}
 use Rattle.events.specs.declared.Event.{Event}
 use Rattle.events.proofs.Compared.{isRequest}
-use Rattle.flood_fill.specs.Fill.{Reach, Fill, isOn, isOver, expand, endFill, pop, popNext, fill}
+use Rattle.flood_fill.specs.Fill.{Fill, isOn, isOver, expand, endFill, pop, popNext, fill}
 use Rattle.flood_fill.specs.declared.Going.{Going}
 use Rattle.flood_fill.specs.declared.Going.the-variants.{On, Broken, Over}
 use Rattle.flood_fill.proofs.Steps.{startFill}

@@ -1,19 +1,18 @@
 -- A fill is steps over links: what every link of a turf that stands in the queue keeps, a fill keeps. Assumes nothing.
-use mathlib.Core.Path.{_≡_, refl, sym, ap, _∙_, subst}
+use mathlib.Core.Path.{_≡_, refl, sym, subst}
 use mathlib.Core.List.{List, [], _∷_}
-use mathlib.Core.Bool.{Bool, true, false, not, _&&_, _||_, cond}
-use Prim.Native.Nat.{ℕ, zero, suc, _+_}
-use lib.Dec.{T, eqb, ltb, eqb-refl, ltb→lt}
+use mathlib.Core.Bool.{Bool, true, false, _&&_, _||_, cond}
+use Prim.Native.Nat.{ℕ, _+_}
+use lib.Dec.{T, eqb, ltb, ltb→lt}
 use lib.ListN.{length, getD, set}
 use lib.Ieee.{Float}
-use Rattle.basics.specs.Loops.{run, times, member, snoc}
+use Rattle.basics.specs.Loops.{run, member, snoc}
 use Rattle.basics.specs.Floats.{0f}
-use Rattle.basics.proofs.Loops.{All, All-getD, run-keeps, times-keeps, cond-both, and-right}
-use Rattle.basics.proofs.Lists.{members, member-front, or-left}
+use Rattle.basics.proofs.Loops.{All-getD, run-keeps, times-keeps, cond-both, and-right}
+use Rattle.basics.proofs.Lists.{members, member-front}
 use Rattle.turfs.specs.Board.{Board, turfCount, end, enabled, planetary, linksOf}
 use Rattle.events.specs.declared.Event.{Event}
 use Rattle.flood_fill.specs.Fill.{Reach, Fill, isOn, reachLink, expand, endFill, pop, popNext, fill}
-use Rattle.flood_fill.specs.declared.Going.{Going}
 use Rattle.flood_fill.specs.declared.Going.the-variants.{On, Broken, Over}
 
 -- where a fill from the turf r starts

@@ -1,14 +1,13 @@
 -- What a call that isn't refused was lent: each requirement in turn, since the first that fails gives a number above 0. Assumes nothing.
-use mathlib.Core.Path.{_≡_, refl, sym, ap, _∙_}
-use mathlib.Core.List.{List, [], _∷_, _++_}
+use mathlib.Core.Path.{_≡_, _∙_}
+use mathlib.Core.List.{List, [], _∷_}
 use mathlib.Core.Bool.{Bool, true, false, cond}
-use Prim.Native.Nat.{ℕ, zero, suc, _+_, _-_, _≤_, _<_}
+use Prim.Native.Nat.{ℕ, zero, _≤_, _<_}
 use native.Mathlib.Omega.{arith}
-use lib.Dec.{T, leb, leb→le}
-use lib.ListN.{length, drop, replicate, length-append, length-drop, length-replicate}
+use lib.Dec.{T, leb→le}
+use lib.ListN.{length, drop, length-append, length-drop}
 use lib.Ieee.{Float}
 use Rattle.basics.specs.Loops.{every}
-use Rattle.basics.specs.Floats.{0f}
 use Rattle.basics.proofs.Loops.{All, all-of}
 use Rattle.turfs.specs.Board.{Board}
 use Rattle.turfs.proofs.Accepted.{Accepted, accepted}

@@ -1,24 +1,22 @@
 -- The planet walk visits each turf once at most and ends by itself; 12N event bytes are room enough for it, a firelock for each turf but the first. Assumes nothing.
-use mathlib.Core.Path.{_≡_, refl, sym, ap, _∙_}
-use mathlib.Core.List.{List, []}
-use mathlib.Core.Bool.{Bool, true, false, not, _||_, cond}
-use Prim.Native.Nat.{ℕ, zero, _+_, _*_, _≤_, _<_}
+use mathlib.Core.Path.{_≡_, refl}
+use mathlib.Core.Bool.{true, false, not, _||_}
+use Prim.Native.Nat.{ℕ, _+_, _*_, _≤_, _<_}
 use native.Mathlib.Nat.{le-trans}
 use native.Mathlib.Omega.{arith}
-use lib.Dec.{eqb}
 use lib.ListN.{length, getD}
-use Rattle.basics.specs.Loops.{upFrom, first}
 use Rattle.basics.specs.declared.Spot.{Spot}
 use Rattle.basics.specs.declared.Spot.the-variants.{At, Nowhere}
-use Rattle.basics.proofs.Loops.{All, Found, cond-both}
-use Rattle.turfs.specs.Board.{Board, turfCount, idOf, planetary, immutable, rowOf}
+use Rattle.basics.proofs.Loops.{Found, cond-both}
+use Rattle.turfs.specs.Board.{Board, turfCount, planetary, immutable, rowOf}
 use Rattle.turfs.proofs.Accepted.{Accepted, row-below}
+use Rattle.turfs.proofs.Line.{Line, line-short}
 use Rattle.events.specs.Events.{encodeAll}
 use Rattle.events.proofs.Sizes.{size}
 use Rattle.lent.specs.Lent.{Lent, noExtra}
 use Rattle.lent.proofs.Passed.{passed}
 use Rattle.walks.specs.Walk.{Walk, count, mark, spread, walk}
-use Rattle.walks.proofs.Walks.{going, Line, line-short, Spread, spreads, spread-walked, walk-keeps, walk-rests}
+use Rattle.walks.proofs.Walks.{going, spreads, spread-walked, walk-keeps, walk-rests}
 use Rattle.planet_walk.specs.Planet.{visitPlanet, planetFrom, planetWalk, planetRoom, planetNumber}
 
 module _ (b : Board) {n : ℕ} (h : Accepted b n) (limit : ℕ) where

@@ -1,12 +1,12 @@
 -- Planning keeps the number of weights: it only stores at their places. Assumes nothing.
-use mathlib.Core.Path.{_≡_, refl, sym, ap, _∙_}
-use mathlib.Core.List.{List, [], _∷_, reverse}
-use mathlib.Core.Bool.{Bool, true, false, not, _&&_, _||_, cond}
-use Prim.Native.Nat.{ℕ, _+_, _-_}
+use mathlib.Core.Path.{_≡_, refl, _∙_}
+use mathlib.Core.List.{List}
+use mathlib.Core.Bool.{not, _&&_, _||_}
+use Prim.Native.Nat.{ℕ, _-_}
 use lib.Dec.{eqb, ltb}
 use lib.ListN.{length, getD, length-set}
-use lib.Ieee.{Float, nan, lt, ne}
-use Rattle.basics.specs.Loops.{run, times, member}
+use lib.Ieee.{Float, nan, ne}
+use Rattle.basics.specs.Loops.{run, member}
 use Rattle.basics.specs.Floats.{0f, _+f_, _-f_, _/f_}
 use Rattle.basics.specs.declared.Spot.{Spot}
 use Rattle.basics.specs.declared.Spot.the-variants.{At, Nowhere}

@@ -3,3 +3,4 @@ pub mod Lookup
 pub mod Refused
 pub mod Tables
 pub mod Accepted
+pub mod Line

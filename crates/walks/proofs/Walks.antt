@@ -1,24 +1,24 @@
 -- A walk from a turf: no turf joins the queue twice, so it comes to rest within as many steps as there are turfs; a firelock is written only for a turf that joins.
 -- Assumes nothing.
 use mathlib.Core.Path.{_≡_, refl, sym, ap, _∙_, subst}
-use mathlib.Core.Logic.{_≢_, _⊎_, inl, inr}
-use mathlib.Core.List.{List, [], _∷_, _++_}
+use mathlib.Core.Logic.{_⊎_, inl, inr}
+use mathlib.Core.List.{[], _∷_}
 use mathlib.Core.Bool.{Bool, true, false, not, _&&_, cond}
-use Prim.Native.Nat.{ℕ, zero, suc, _+_, _*_, _≤_, _<_}
+use Prim.Native.Nat.{ℕ, _+_, _*_, _≤_, _<_}
 use native.Mathlib.Nat.{le-refl}
 use native.Mathlib.Omega.{arith}
 use lib.Dec.{T, ltb, leb, ltb→lt}
 use lib.ListN.{length, getD, length-append, List·getD-append}
 use borrow.Author.Tests.{le-ltb}
-use Rattle.basics.specs.Loops.{run, times, member, snoc}
-use Rattle.basics.proofs.Loops.{All, All-any, run-keeps, times-keeps, times-rests, and-right}
-use Rattle.basics.proofs.Lists.{All-snoc, Apart, apart-snoc, not-member, pigeonhole}
+use Rattle.basics.specs.Loops.{times, member, snoc}
+use Rattle.basics.proofs.Loops.{All-any, run-keeps, times-keeps, times-rests, and-right}
 use Rattle.turfs.specs.Board.{Board, turfCount, idOf, end, enabled, firelock, linksOf}
+use Rattle.turfs.proofs.Line.{Line, line-snoc}
 use Rattle.events.specs.Events.{kindOf, sizeOf}
 use Rattle.events.specs.declared.Event.{Event}
 use Rattle.events.specs.declared.Event.the-variants.{Firelock}
 use Rattle.events.proofs.Sizes.{size, size-snoc}
-use Rattle.walks.specs.Walk.{Walk, count, mark, walkLink, spread, walkNext, walk}
+use Rattle.walks.specs.Walk.{Walk, count, walkLink, spread, walkNext, walk}
 
 -- where a walk from r starts
 abbrev pub startWalk : ℕ → Walk
@@ -27,21 +27,6 @@ startWalk r = record { queue = r ∷ []; walked = 0; space = []; planet = false;
 -- a walk that goes on has a turf to visit
 abbrev pub going : Walk → Bool
 going s = not (s .ended) && ltb (s .walked) (length (s .queue))
-
--- a queue of different turfs of the board
-pub record Line (b : Board) (queue : List ℕ) : Type 0 where
-  pub apart : Apart queue
-  pub rows : All (λ x. x < turfCount b) queue
-
--- as many as there are turfs at most
-pub line-short : (b : Board) (queue : List ℕ) → Line b queue → length queue ≤ turfCount b
-line-short b queue l = pigeonhole (turfCount b) queue (l .apart) (l .rows)
-
-pub line-snoc : (b : Board) (queue : List ℕ) (a : ℕ) → a < turfCount b → member a queue ≡ false → Line b queue → Line b (snoc queue a)
-line-snoc b queue a i e l = record {
-  apart = apart-snoc queue a (l .apart) (not-member a queue e);
-  rows = All-snoc (λ x. x < turfCount b) queue a (l .rows) i;
-}
 
 module _ (b : Board) (ends : (k : ℕ) → end b k < turfCount b) where
   -- from s to t the queue grew at its end, and the events by at most a firelock a turf; the rest is as it was
