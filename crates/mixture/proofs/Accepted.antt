@@ -8,7 +8,8 @@ use lib.Ieee.{Float, nan}
 use Rattle.basics.proofs.Tests.{every-at}
 use Rattle.turfs.specs.Board.{Board, turfCount, mixtureCount, mixOf}
 use Rattle.mixture.specs.Mixture.{amountFits}
-use Rattle.mixture.specs.Steps.{Holds, Accepted}
+use Rattle.mixture.specs.Moves.{Holds}
+use Rattle.mixture.specs.Accepted.{Accepted}
 use Rattle.mixture.proofs.Moves.{before}
 
 module _ (b : Board) (gas : List Float) (a : Accepted b gas) where

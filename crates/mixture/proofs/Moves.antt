@@ -15,7 +15,7 @@ use Rattle.basics.specs.Floats.{0f, 1f, _+f_, _*f_, _-f_}
 use Rattle.basics.proofs.Stores.{Far, paste-far, paste-set, paste-next, paste-all}
 use Rattle.turfs.specs.Board.{Board, immutableMix}
 use Rattle.mixture.specs.Mixture.{sum, scale, plus, ratio, remove, part, putPart, amounts, change, totalMix, moveAir, clearAir}
-use Rattle.mixture.specs.Steps.{Holds, setIf, moveGas}
+use Rattle.mixture.specs.Moves.{Holds, setIf, moveGas}
 
 scale-at : (q : Float) (xs : List Float) (i : ℕ) → i < length xs → getD (scale q xs) i nan ≡ getD xs i nan *f q
 unfolding scale

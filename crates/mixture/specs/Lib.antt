@@ -1,3 +1,5 @@
 pub mod Mixture
 pub mod Worked
 pub mod Steps
+pub mod Moves
+pub mod Accepted

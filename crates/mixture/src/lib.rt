@@ -7,7 +7,7 @@ ghost use Rattle.basics.specs.Loops.{every};
 ghost use Rattle.basics.specs.Floats.{finiteSignClear};
 ghost use Rattle.turfs.specs.Board.{Board};
 ghost use Rattle.mixture.specs.Mixture.{sum, ratio, total, totalMix, moveAir, clearAir, amountFits};
-ghost use Rattle.mixture.specs.Steps.{Holds, setIf, moveGas};
+ghost use Rattle.mixture.specs.Moves.{Holds, setIf, moveGas};
 
 // The sum of the amounts from the left.
 fn sum(amounts: &[f32]) -> f32

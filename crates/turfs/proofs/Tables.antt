@@ -52,6 +52,10 @@ module _ (b : Board) where
   unfolding tablesFit
   amounts-of amounts e = eqb-true _ _ (each _ 5 e (omega arith))
 
+  pub starts-of : (amounts : ℕ) → tablesFit b amounts ≡ true → length (b .starts) ≡ turfCount b + 1
+  unfolding tablesFit
+  starts-of amounts e = eqb-true _ _ (each _ 3 e (omega arith))
+
   pub tables-of : (amounts : ℕ) → sizesFit b ≡ true → tablesFit b amounts ≡ true → idsFit b ≡ true → linksFit b ≡ true → Tables b
   unfolding tablesFit linksFit
   tables-of amounts s t i l =
@@ -64,7 +68,7 @@ module _ (b : Board) where
         mixtures = mix;
         linkFlags = eqb-true _ _ (each _ 4 t (omega arith));
         ascend = i;
-        parts = parts-of (turfCount b) (b .starts) (b .neighbours) (sizes .turfs) (eqb-true _ _ (each _ 3 t (omega arith))) (each _ 0 l (omega arith)) (eqb-true _ _ (each _ 2 l (omega arith)));
+        parts = parts-of (turfCount b) (b .starts) (b .neighbours) (sizes .turfs) (starts-of amounts t) (each _ 0 l (omega arith)) (eqb-true _ _ (each _ 2 l (omega arith)));
         neighbour = λ k h. ltb-true _ _ (every-at _ (b .neighbours) 0 k (each _ 3 l (omega arith)) h);
         mixture = λ r h. ltb-true _ _ (every-at _ (b .mixtures) 0 r (each _ 4 l (omega arith)) (omega arith));
         apart = λ r h. ap (rowFits b) (sym (zero-add r)) ∙ every-up-at (rowFits b) 0 (turfCount b) r (each _ 5 l (omega arith)) h;

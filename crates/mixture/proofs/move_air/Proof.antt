@@ -41,8 +41,7 @@ loop-holds : tie.Need-loop-holds Inv-loop μ-loop
 loop-holds c =
     let a = c .before .before .before .before .before .before .before .args in
     let q = c .before .before .ratio .result in
-    let changes : ℕ → Bool = λ m. eqb (getD (now (a .immutable)) m 0) 0 in
-    (search needs, (refl, sym (moved-none (now (a .gas)) (a .gases) (a .giver) (a .taker) q (1f -f q) (changes (a .giver)) (changes (a .taker)))))
+    (search needs, (refl, sym (moved-none (now (a .gas)) (a .gases) (a .giver) (a .taker) q _ _ _)))
 
 add-move-gas : tie.Need-add-move-gas Inv-loop μ-loop
 add-move-gas c = search needs
@@ -63,14 +62,13 @@ loop-again : tie.Need-loop-again Inv-loop μ-loop
 loop-again c =
     let a = c .before .before .before .before .before .before .before .before .before .before .before .before .before .args in
     let q = c .before .before .before .before .before .before .before .before .ratio .result in
-    let changes : ℕ → Bool = λ m. eqb (getD (now (a .immutable)) m 0) 0 in
     let l = c .before .before .before .before .before .loop in
     let p = c .before .before .before .before .before .before .before .before .before .before .before .before .before .pre in
     let i = l .i in
-    let e : c .before .before .move-gas .last .0 ≡ moved (now (a .gas)) (a .gases) (a .giver) (a .taker) q (1f -f q) (changes (a .giver)) (changes (a .taker)) (i + 1) =
-    moved-next (now (a .gas)) (a .gases) (a .giver) (a .taker) q (1f -f q) (changes (a .giver)) (changes (a .taker)) (p .1 .0 .0) (p .1 .0 .1) (p .1 .1) i (omega arith)
+    let e : c .before .before .move-gas .last .0 ≡ moved (now (a .gas)) (a .gases) (a .giver) (a .taker) q _ _ _ (i + 1) =
+    moved-next (now (a .gas)) (a .gases) (a .giver) (a .taker) q _ _ _ (p .1 .0 .0) (p .1 .0 .1) (p .1 .1) i (omega arith)
     (l .gas) (c .before .before .move-gas .last .0) (l .inv .1 .1) (c .before .before .move-gas .ensures) in
-    (omega arith, (ap length e ∙ moved-length (now (a .gas)) (a .gases) (a .giver) (a .taker) q (1f -f q) (changes (a .giver)) (changes (a .taker)) (p .1 .0 .0) (p .1 .0 .1) (i + 1) (omega arith), e))
+    (omega arith, (ap length e ∙ moved-length (now (a .gas)) (a .gases) (a .giver) (a .taker) q _ _ _ (p .1 .0 .0) (p .1 .0 .1) (i + 1) (omega arith), e))
 
 same-length : tie.Need-same-length Inv-loop μ-loop
 same-length c =
@@ -81,13 +79,12 @@ returns c =
     λ b i e.
     let a = c .before .before .before .before .before .before .before .before .before .args in
     let q = c .before .before .before .before .ratio .result in
-    let changes : ℕ → Bool = λ m. eqb (getD (now (a .immutable)) m 0) 0 in
     let l = c .before .loop in
     let p = c .before .before .before .before .before .before .before .before .before .pre in
     let n : l .i ≡ a .gases = omega arith in
     l .inv .1 .1
-    ∙ ap (moved (now (a .gas)) (a .gases) (a .giver) (a .taker) q (1f -f q) (changes (a .giver)) (changes (a .taker))) n
-    ∙ moved-all (now (a .gas)) (a .gases) (a .giver) (a .taker) q (1f -f q) (changes (a .giver)) (changes (a .taker)) (p .1 .0 .0) (p .1 .0 .1) b (a .amount) e
+    ∙ ap (moved (now (a .gas)) (a .gases) (a .giver) (a .taker) q _ _ _) n
+    ∙ moved-all (now (a .gas)) (a .gases) (a .giver) (a .taker) q _ _ _ (p .1 .0 .0) (p .1 .0 .1) b (a .amount) e
     (changeable b (a .giver) (now (a .immutable)) i) (changeable b (a .taker) (now (a .immutable)) i)
     (c .before .before .before .before .ratio .ensures ∙ ap (ratio (a .amount)) (total-is b (now (a .gas)) (a .gases) (a .giver) _ e (c .before .before .before .before .before .total-mix .ensures b e))) refl
 

@@ -4,7 +4,7 @@ use mathlib.Core.List.{List}
 use lib.ListN.{getD}
 use lib.Ieee.{Float, nan}
 use Rattle.basics.specs.Floats.{_+f_, _*f_}
-use Rattle.mixture.specs.Steps.{setIf}
+use Rattle.mixture.specs.Moves.{setIf}
 use denote.Ref.{now}
 use borrow.Author.Needs.{needs}
 use Rattle.mixture.proofs.move_gas.Statement.{statement}

@@ -1,15 +1,11 @@
--- One gas of a move of air, and the tables and amounts that the refusals 1 to 5 let pass.
+-- One gas of a move of air.
 use mathlib.Core.List.{List}
-use mathlib.Core.Bool.{Bool, true}
-use mathlib.Core.Path.{_≡_}
+use mathlib.Core.Bool.{Bool}
 use Prim.Native.Nat.{ℕ, _+_, _*_, _≤_}
 use lib.ListN.{length, getD, set}
 use lib.Ieee.{Float, nan}
-use Rattle.basics.specs.Loops.{every, if_then_else_}
+use Rattle.basics.specs.Loops.{if_then_else_}
 use Rattle.basics.specs.Floats.{_+f_, _*f_}
-use Rattle.turfs.specs.Board.{Board, mixtureCount}
-use Rattle.turfs.specs.Tables.{Tables}
-use Rattle.mixture.specs.Mixture.{amountFits}
 
 -- the list holds a mixture's amounts, of g to a mixture
 abbrev pub Holds : List Float → ℕ → ℕ → Type 0
@@ -25,9 +21,3 @@ moveGas loses gains goes stays i j w =
     let x = getD w i nan in
     let left = setIf loses i (x *f stays) w in
     setIf gains j (getD left j nan +f x *f goes) left
-
--- what a call goes on with: the refusals 1 to 5 let the tables and the amounts pass
-pub record Accepted (b : Board) (gas : List Float) : Type 0 where
-  pub tables : Tables b
-  pub count : length gas ≡ mixtureCount b * b .gases
-  pub amounts : every amountFits gas ≡ true
