@@ -11,7 +11,11 @@ pub fn contains(a: u32, count: usize, n: usize, queue: usize, places: usize, wor
     ensures { λ r. ⌜ r ≡ member a (take count (array n queue (now (words .entry)))) ⌝ }
 {
     let p = words[places + a as usize] as usize;
-    if p < count { words[queue + p] == a } else { false }
+    if p < count {
+        words[queue + p] == a
+    } else {
+        false
+    }
 }
 
 // The row a joins the `count` rows of the set.
