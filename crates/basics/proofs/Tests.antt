@@ -5,9 +5,10 @@ use native.Mathlib.Numerals.{add-one}
 use native.Mathlib.Nat.{not-suc-le-zero, le-of-suc-le-suc}
 use mathlib.Core.Path.{_≡_, refl, ap, _∙_, sym}
 use mathlib.Core.List.{List, [], _∷_}
-use mathlib.Core.Bool.{Bool, true, false, _&&_}
+use mathlib.Core.Bool.{Bool, true, false, not, _&&_}
 use lib.ListN.{length, getD, drop, drop-of-length-le}
 use lib.Seq.{drop-cons}
+use borrow.Author.Tests.{not-true, not-false}
 use Rattle.basics.specs.Loops.{every, allOf, upFrom, snoc}
 
 pub differ : true ≡ false → ⊥
@@ -98,3 +99,10 @@ all-none = refl
 pub all-hold : (t : Bool) (l : List Bool) → t ≡ true → allOf l ≡ true → allOf (t ∷ l) ≡ true
 unfolding allOf
 all-hold t l e h = rw e h
+
+-- what the answer of a test says of its definition
+pub yes : {r : Bool} (t : Bool) → r ≡ t → not r ≡ false → t ≡ true
+yes {r} t e n = sym e ∙ not-false r n
+
+pub no : {r : Bool} (t : Bool) → r ≡ t → not r ≡ true → t ≡ false
+no {r} t e n = sym e ∙ not-true r n

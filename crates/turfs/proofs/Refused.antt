@@ -10,8 +10,7 @@ use lib.Seq.{drop-cons, take-all}
 use borrow.Author.Tests.{eq-eqb, ne-eqb}
 use Rattle.basics.specs.Loops.{member}
 use Rattle.turfs.specs.Board.{Board}
-use Rattle.turfs.specs.Refuse.{pairwise, distinct, rowFits, sizesFit, linksFit}
-use Rattle.turfs.specs.Tables.{board}
+use Rattle.turfs.specs.Refuse.{pairwise, distinct, rowFits}
 
 two : (l : List ℕ) (i : ℕ) → i + 1 < length l → drop i l ≡ getD l i 0 ∷ getD l (i + 1) 0 ∷ drop (suc (i + 1)) l
 two l i h =
@@ -77,13 +76,3 @@ pub row-test : (b : Board) (r from to : ℕ) (t : Bool) → t ≡ (not (member r
     → from ≡ getD (b .starts) r 0 → to ≡ getD (b .starts) (r + 1) 0 → rowFits b r ≡ t
 unfolding rowFits
 row-test b r from to t e f g = rw (← f, ← g) (sym e)
-
--- a test looks at its own tables alone
-module _ (b : Board) where
-  pub sizes-alone : sizesFit (board (b .ids) [] [] [] [] (b .neighbours) [] (b .immutable) (b .gases)) ≡ sizesFit b
-  unfolding sizesFit
-  sizes-alone = refl
-
-  pub links-alone : linksFit (board (b .ids) [] [] (b .mixtures) (b .starts) (b .neighbours) [] (b .immutable) 0) ≡ linksFit b
-  unfolding linksFit rowFits
-  links-alone = refl

@@ -40,10 +40,8 @@ module _ (b : Board) where
       let m = within-of 1 4096 (mixtureCount b) (each _ 1 e (omega arith)) in
       let g = within-of 1 64 (b .gases) (each _ 3 e (omega arith)) in
       record {
+        small = record { turfs = n .1; links = leb-true (linkCount b) 24576 (each _ 2 e (omega arith)); mixtures = m .1 };
         some = n .0;
-        turfs = n .1;
-        mixtures = m .1;
-        links = leb-true (linkCount b) 24576 (each _ 2 e (omega arith));
         gas = g .0;
         gases = g .1;
       }
@@ -68,7 +66,7 @@ module _ (b : Board) where
         mixtures = mix;
         linkFlags = eqb-true _ _ (each _ 4 t (omega arith));
         ascend = i;
-        parts = parts-of (turfCount b) (b .starts) (b .neighbours) (sizes .turfs) (starts-of amounts t) (each _ 0 l (omega arith)) (eqb-true _ _ (each _ 2 l (omega arith)));
+        parts = parts-of (turfCount b) (b .starts) (b .neighbours) (sizes .small .turfs) (starts-of amounts t) (each _ 0 l (omega arith)) (eqb-true _ _ (each _ 2 l (omega arith)));
         neighbour = λ k h. ltb-true _ _ (every-at _ (b .neighbours) 0 k (each _ 3 l (omega arith)) h);
         mixture = λ r h. ltb-true _ _ (every-at _ (b .mixtures) 0 r (each _ 4 l (omega arith)) (omega arith));
         apart = λ r h. ap (rowFits b) (sym (zero-add r)) ∙ every-up-at (rowFits b) 0 (turfCount b) r (each _ 5 l (omega arith)) h;

@@ -7,7 +7,7 @@ use lib.ListN.{length, getD}
 use Rattle.turfs.specs.Board.{Board, turfCount, linkCount, mixtureCount}
 use Rattle.turfs.specs.Refuse.{ascending, rowFits}
 
--- in the order of the C interface
+-- the tables in the order of the C interface
 abbrev pub board : List ℕ → List ℕ → List ℕ → List ℕ → List ℕ → List ℕ → List ℕ → List ℕ → ℕ → Board
 board ids flags planetary mixtures starts neighbours linkFlags immutable gases = record {
   ids = ids;
@@ -21,7 +21,7 @@ board ids flags planetary mixtures starts neighbours linkFlags immutable gases =
   gases = gases;
 }
 
--- every number of xs below x stands before `from`, every other one from `to` on
+-- what a search by halves keeps: every number of xs below x stands before `from`, every other one from `to` on
 pub record Bracket (xs : List ℕ) (x : ℕ) (from to : ℕ) : Type 0 where
   pub order : from ≤ to
   pub within : to ≤ length xs
@@ -35,12 +35,16 @@ pub record Parts (n : ℕ) (starts neighbours : List ℕ) : Type 0 where
   pub rise : (r : ℕ) → r < n → getD starts r 0 ≤ getD starts (r + 1) 0
   pub end : (r : ℕ) → r < n → getD starts (r + 1) 0 ≤ length neighbours
 
+-- the counts are within their limits, which keeps every sum of them small
+pub record Small (b : Board) : Type 0 where
+  pub turfs : turfCount b ≤ 4096
+  pub links : linkCount b ≤ 24576
+  pub mixtures : mixtureCount b ≤ 4096
+
 -- sizes that refusal 1 lets pass
 pub record Sizes (b : Board) : Type 0 where
+  pub small : Small b
   pub some : 1 ≤ turfCount b
-  pub turfs : turfCount b ≤ 4096
-  pub mixtures : mixtureCount b ≤ 4096
-  pub links : linkCount b ≤ 24576
   pub gas : 1 ≤ b .gases
   pub gases : b .gases ≤ 64
 

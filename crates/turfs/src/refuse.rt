@@ -1,13 +1,13 @@
 // The tests of the refusals 1 to 4: each answers the Bool of its definition. A table that a test doesn't look at is empty in its contract.
 ghost use mathlib.Core.Path.{_≡_};
-ghost use mathlib.Core.Bool.{true, not, _&&_};
+ghost use mathlib.Core.Bool.{not, _&&_};
 ghost use mathlib.Core.List.{[]};
 ghost use Prim.Native.Nat.{_+_, _≤_};
 ghost use lib.Dec.{ltb};
-ghost use lib.ListN.{length, getD};
+ghost use lib.ListN.{length};
 ghost use Rattle.basics.specs.Loops.{every, member, upFrom};
 ghost use Rattle.turfs.specs.Tables.{board, Parts};
-ghost use Rattle.turfs.specs.Refuse.{within, ascending, rising, distinct, rowFits, sizesFit, tablesFit, idsFit, linksFit};
+ghost use Rattle.turfs.specs.Refuse.{within, ascending, rising, distinct, rowFits, sizesFit, tablesFit, linksFit};
 
 fn within(lo: usize, hi: usize, n: usize) -> bool
     ensures { λ r. ⌜ r ≡ within lo hi n ⌝ }

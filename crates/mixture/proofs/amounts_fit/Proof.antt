@@ -2,9 +2,8 @@
 use Prim.Native.Nat.{_≤_, _-_}
 use mathlib.Core.Path.{_≡_, refl, _∙_, sym}
 use lib.ListN.{length, drop}
-use borrow.Author.Tests.{not-true, not-false}
 use Rattle.basics.specs.Loops.{every}
-use Rattle.basics.proofs.Tests.{every-next, every-fails, every-end}
+use Rattle.basics.proofs.Tests.{every-next, every-fails, every-end, yes, no}
 use lib.Ieee.{nan}
 use Rattle.mixture.specs.Mixture.{amountFits}
 use borrow.Author.Needs.{needs}
@@ -30,7 +29,7 @@ amount-fits-requires : tie.Need-amount-fits-requires Inv-loop μ-loop
 amount-fits-requires c κs = search needs
 
 returns : tie.Need-returns Inv-loop μ-loop
-returns c = sym (every-fails _ _ nan _ (c .before .before .before .loop-test .taken) (sym (c .before .amount-fits .ensures) ∙ not-true _ (c .if1 .taken))) ∙ c .before .before .before .before .loop .inv .1
+returns c = sym (every-fails _ _ nan _ (c .before .before .before .loop-test .taken) (no _ (c .before .amount-fits .ensures) (c .if1 .taken))) ∙ c .before .before .before .before .loop .inv .1
 
 add-i : tie.Need-add-i Inv-loop μ-loop
 add-i c = search needs
@@ -39,7 +38,7 @@ loop-less : tie.Need-loop-less Inv-loop μ-loop
 loop-less c = search needs
 
 loop-again : tie.Need-loop-again Inv-loop μ-loop
-loop-again c = (search needs, sym (every-next _ _ nan _ (c .before .before .before .loop-test .taken) (sym (c .before .amount-fits .ensures) ∙ not-false _ (c .if1 .left))) ∙ c .before .before .before .before .loop .inv .1)
+loop-again c = (search needs, sym (every-next _ _ nan _ (c .before .before .before .loop-test .taken) (yes _ (c .before .amount-fits .ensures) (c .if1 .left))) ∙ c .before .before .before .before .loop .inv .1)
 
 returns-2 : tie.Need-returns-2 Inv-loop μ-loop
 returns-2 c = sym (every-end _ _ nan _ (c .loop-test .left)) ∙ c .before .loop .inv .1

@@ -1,12 +1,10 @@
 -- Each turn moves one gas more. Assumes nothing.
-use Prim.Native.Nat.{ℕ, _+_, _-_, _≤_}
+use Prim.Native.Nat.{_+_, _-_, _≤_}
 use mathlib.Core.Path.{_≡_, refl, _∙_, ap, sym}
-use mathlib.Core.Bool.{Bool}
 use native.Mathlib.Omega.{arith}
-use lib.ListN.{getD, length}
-use lib.Dec.{eqb}
+use lib.ListN.{length}
 use denote.Ref.{now}
-use Rattle.basics.specs.Floats.{1f, _-f_}
+use Rattle.basics.specs.Floats.{_-f_}
 use Rattle.mixture.specs.Mixture.{ratio}
 use Rattle.mixture.proofs.Moves.{moved, moved-none, moved-length, moved-next, moved-all, changeable, total-is}
 use borrow.Author.Needs.{needs}

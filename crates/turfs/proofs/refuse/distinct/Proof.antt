@@ -1,9 +1,9 @@
 -- Each number that the rest lacks leaves the test of the rest. Assumes nothing.
+use Rattle.basics.proofs.Tests.{yes, no}
 use Prim.Native.Nat.{_≤_, _-_}
 use mathlib.Core.Path.{_≡_, refl, _∙_, sym}
 use lib.ListN.{length, drop}
 use borrow.Author.Needs.{needs}
-use borrow.Author.Tests.{not-true, not-false}
 use Rattle.turfs.specs.Refuse.{distinct}
 use Rattle.turfs.proofs.Refused.{distinct-next, distinct-fails, distinct-end}
 use Rattle.turfs.proofs.refuse.distinct.Statement.{statement}
@@ -43,13 +43,13 @@ lacks-requires : tie.Need-lacks-requires Inv-loop μ-loop
 lacks-requires c κs = search needs
 
 returns : tie.Need-returns Inv-loop μ-loop
-returns c = sym (distinct-fails _ _ (c .before .before .before .before .loop-test .taken) (sym (c .before .lacks .ensures) ∙ not-true _ (c .if1 .taken))) ∙ c .before .before .before .before .before .loop .inv .1
+returns c = sym (distinct-fails _ _ (c .before .before .before .before .loop-test .taken) (no _ (c .before .lacks .ensures) (c .if1 .taken))) ∙ c .before .before .before .before .before .loop .inv .1
 
 loop-less : tie.Need-loop-less Inv-loop μ-loop
 loop-less c = search needs
 
 loop-again : tie.Need-loop-again Inv-loop μ-loop
-loop-again c = (search needs, sym (distinct-next _ _ (c .before .before .before .before .loop-test .taken) (sym (c .before .lacks .ensures) ∙ not-false _ (c .if1 .left))) ∙ c .before .before .before .before .before .loop .inv .1)
+loop-again c = (search needs, sym (distinct-next _ _ (c .before .before .before .before .loop-test .taken) (yes _ (c .before .lacks .ensures) (c .if1 .left))) ∙ c .before .before .before .before .before .loop .inv .1)
 
 returns-2 : tie.Need-returns-2 Inv-loop μ-loop
 returns-2 c = sym (distinct-end _ _ (c .loop-test .left)) ∙ c .before .loop .inv .1

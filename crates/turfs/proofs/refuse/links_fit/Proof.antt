@@ -4,8 +4,8 @@ use mathlib.Core.List.{[], _∷_}
 use lib.ListN.{length}
 use denote.Ref.{now}
 use native.Mathlib.Omega.{arith}
-use borrow.Author.Tests.{eq-eqb, ne-eqb, not-true, not-false}
-use Rattle.basics.proofs.Tests.{one-fails, last-is, all-hold, all-none}
+use borrow.Author.Tests.{eq-eqb, ne-eqb}
+use Rattle.basics.proofs.Tests.{one-fails, last-is, all-hold, all-none, yes, no}
 use Rattle.turfs.specs.Refuse.{linksFit, rowFits}
 use Rattle.turfs.proofs.Tables.{parts-of}
 use borrow.Author.Needs.{needs}
@@ -17,7 +17,7 @@ rising-requires c κs = search needs
 
 returns : tie.Need-returns
 unfolding linksFit
-returns c = sym (one-fails _ 0 (sym (c .before .rising .ensures) ∙ not-true _ (c .if1 .taken)))
+returns c = sym (one-fails _ 0 (no _ (c .before .rising .ensures) (c .if1 .taken)))
 
 shared-slice-read-if2 : tie.Need-shared-slice-read-if2
 shared-slice-read-if2 c = search needs
@@ -44,17 +44,17 @@ all-below-requires c κs = search needs
 
 returns-4 : tie.Need-returns-4
 unfolding linksFit
-returns-4 c = sym (one-fails _ 3 (sym (c .before .all-below .ensures) ∙ not-true _ (c .if4 .taken)))
+returns-4 c = sym (one-fails _ 3 (no _ (c .before .all-below .ensures) (c .if4 .taken)))
 
 all-below-requires-2 : tie.Need-all-below-requires-2
 all-below-requires-2 c κs = search needs
 
 returns-5 : tie.Need-returns-5
 unfolding linksFit
-returns-5 c = sym (one-fails _ 4 (sym (c .before .all-below2 .ensures) ∙ not-true _ (c .if5 .taken)))
+returns-5 c = sym (one-fails _ 4 (no _ (c .before .all-below2 .ensures) (c .if5 .taken)))
 
 rows-fit-requires : tie.Need-rows-fit-requires
-rows-fit-requires c κs = parts-of _ _ _ (c .before .before .before .before .before .before .before .before .before .before .before .before .before .before .before .pre .0) (c .before .before .before .before .before .before .before .before .before .before .before .before .before .before .before .pre .1) (sym (c .before .before .before .before .before .before .before .before .before .rising .ensures) ∙ not-false _ (c .before .before .before .before .before .before .before .before .if1 .left)) (c .before .before .before .before .if3 .left)
+rows-fit-requires c κs = parts-of _ _ _ (c .before .before .before .before .before .before .before .before .before .before .before .before .before .before .before .pre .0) (c .before .before .before .before .before .before .before .before .before .before .before .before .before .before .before .pre .1) (yes _ (c .before .before .before .before .before .before .before .before .before .rising .ensures) (c .before .before .before .before .before .before .before .before .if1 .left)) (c .before .before .before .before .if3 .left)
 
 returns-6 : tie.Need-returns-6
 unfolding linksFit rowFits
@@ -62,11 +62,11 @@ returns-6 c =
     c .rows-fit .ensures
     ∙ sym
     (last-is (_ ∷ _ ∷ _ ∷ _ ∷ _ ∷ []) _
-    (all-hold _ _ (sym (c .before .before .before .before .before .before .before .before .before .before .rising .ensures) ∙ not-false _ (c .before .before .before .before .before .before .before .before .before .if1 .left))
+    (all-hold _ _ (yes _ (c .before .before .before .before .before .before .before .before .before .before .rising .ensures) (c .before .before .before .before .before .before .before .before .before .if1 .left))
     (all-hold _ _ (eq-eqb _ _ (c .before .before .before .before .before .before .before .if2 .left))
     (all-hold _ _ (eq-eqb _ _ (c .before .before .before .before .before .if3 .left))
-    (all-hold _ _ (sym (c .before .before .before .before .all-below .ensures) ∙ not-false _ (c .before .before .before .if4 .left))
-    (all-hold _ _ (sym (c .before .before .all-below2 .ensures) ∙ not-false _ (c .before .if5 .left)) all-none))))))
+    (all-hold _ _ (yes _ (c .before .before .before .before .all-below .ensures) (c .before .before .before .if4 .left))
+    (all-hold _ _ (yes _ (c .before .before .all-below2 .ensures) (c .before .if5 .left)) all-none))))))
 
 pub links-fit-spec : {M : Type 1} → statement M
 links-fit-spec =

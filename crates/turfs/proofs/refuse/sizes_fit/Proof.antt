@@ -1,8 +1,8 @@
 -- The first size out of its limits decides. Assumes nothing.
 use mathlib.Core.Path.{_∙_, sym}
 use mathlib.Core.List.{[], _∷_}
-use borrow.Author.Tests.{lt-leb, le-leb, not-true, not-false}
-use Rattle.basics.proofs.Tests.{one-fails, last-is, all-hold, all-none}
+use borrow.Author.Tests.{lt-leb, le-leb}
+use Rattle.basics.proofs.Tests.{one-fails, last-is, all-hold, all-none, yes, no}
 use Rattle.turfs.specs.Refuse.{sizesFit}
 use borrow.Author.Needs.{needs}
 use Rattle.turfs.proofs.refuse.sizes_fit.Statement.{statement}
@@ -13,14 +13,14 @@ within-requires c κs = search needs
 
 returns : tie.Need-returns
 unfolding sizesFit
-returns c = sym (one-fails _ 0 (sym (c .before .within .ensures) ∙ not-true _ (c .if1 .taken)))
+returns c = sym (one-fails _ 0 (no _ (c .before .within .ensures) (c .if1 .taken)))
 
 within-requires-2 : tie.Need-within-requires-2
 within-requires-2 c κs = search needs
 
 returns-2 : tie.Need-returns-2
 unfolding sizesFit
-returns-2 c = sym (one-fails _ 1 (sym (c .before .within2 .ensures) ∙ not-true _ (c .if2 .taken)))
+returns-2 c = sym (one-fails _ 1 (no _ (c .before .within2 .ensures) (c .if2 .taken)))
 
 returns-3 : tie.Need-returns-3
 unfolding sizesFit
@@ -35,8 +35,8 @@ returns-4 c =
     c .within3 .ensures
     ∙ sym
     (last-is (_ ∷ _ ∷ _ ∷ []) _
-    (all-hold _ _ (sym (c .before .before .before .before .before .within .ensures) ∙ not-false _ (c .before .before .before .before .if1 .left))
-    (all-hold _ _ (sym (c .before .before .before .within2 .ensures) ∙ not-false _ (c .before .before .if2 .left))
+    (all-hold _ _ (yes _ (c .before .before .before .before .before .within .ensures) (c .before .before .before .before .if1 .left))
+    (all-hold _ _ (yes _ (c .before .before .before .within2 .ensures) (c .before .before .if2 .left))
     (all-hold _ _ (le-leb _ _ (c .before .if3 .left)) all-none))))
 
 pub sizes-fit-spec : {M : Type 1} → statement M

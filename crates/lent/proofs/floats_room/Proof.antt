@@ -1,0 +1,22 @@
+-- The same sum. Assumes nothing.
+use mathlib.Core.Path.{refl}
+use Rattle.lent.specs.Lent.{floatsRoom}
+use borrow.Author.Needs.{needs}
+use Rattle.lent.proofs.floats_room.Statement.{statement}
+use Rattle.lent.proofs.floats_room.Tie as tie
+
+mul-result : tie.Need-mul-result
+mul-result c = search needs
+
+mul-result-2 : tie.Need-mul-result-2
+mul-result-2 c = search needs
+
+add-result : tie.Need-add-result
+add-result c = search needs
+
+returns : tie.Need-returns
+unfolding floatsRoom
+returns c = refl
+
+pub floats-room-spec : {M : Type 1} → statement M
+floats-room-spec = tie.close (tie.spec mul-result mul-result-2 add-result returns)

@@ -1,0 +1,33 @@
+-- The same sum. Assumes nothing.
+use mathlib.Core.Path.{refl}
+use Rattle.lent.specs.Lent.{wordsRoom}
+use borrow.Author.Needs.{needs}
+use Rattle.lent.proofs.words_room.Statement.{statement}
+use Rattle.lent.proofs.words_room.Tie as tie
+
+mul-result : tie.Need-mul-result
+mul-result c = search needs
+
+mul-result-2 : tie.Need-mul-result-2
+mul-result-2 c = search needs
+
+add-result : tie.Need-add-result
+add-result c = search needs
+
+mul-result-3 : tie.Need-mul-result-3
+mul-result-3 c = search needs
+
+add-result-2 : tie.Need-add-result-2
+add-result-2 c = search needs
+
+add-result-3 : tie.Need-add-result-3
+add-result-3 c = search needs
+
+returns : tie.Need-returns
+unfolding wordsRoom
+returns c = refl
+
+pub words-room-spec : {M : Type 1} → statement M
+words-room-spec =
+    tie.close
+    (tie.spec mul-result mul-result-2 add-result mul-result-3 add-result-2 add-result-3 returns)

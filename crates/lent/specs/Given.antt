@@ -1,0 +1,33 @@
+-- What the code of a call hands to the refusals, and what it knows once none was met.
+use mathlib.Core.List.{List, [], _++_}
+use Prim.Native.Nat.{ℕ, _≤_}
+use lib.ListN.{length, drop, replicate}
+use lib.Ieee.{Float}
+use Rattle.turfs.specs.Board.{Board}
+use Rattle.turfs.specs.Tables.{board}
+use Rattle.mixture.specs.Accepted.{Accepted}
+use Rattle.lent.specs.Lent.{Lent, Extra, wordsRoom, floatsRoom}
+use Rattle.lent.specs.declared.ExtraTests.{ExtraTests}
+
+-- a board of which no more than the counts is looked at
+abbrev pub counted : List ℕ → List ℕ → List ℕ → Board
+counted ids neighbours immutable = board ids [] [] [] [] neighbours [] immutable 0
+
+-- the first n cells hold z, the rest is as it was
+abbrev pub cleared : {A : Type 0} → A → ℕ → List A → List A
+cleared z n xs = replicate n z ++ drop n xs
+
+-- the areas, in the order of the C interface
+abbrev pub lent : List Float → List ℕ → List ℕ → List Float → Lent
+lent gas area words floats = record { gas = gas; area = area; words = words; floats = floats }
+
+-- the code's answers to what only equalize is lent
+abbrev pub extraOf : ExtraTests → Extra
+extraOf x = record { sizes = x .sizes; threshold = x .threshold; hot = x .hot }
+
+-- a call that is not refused
+pub record Given (b : Board) (l : Lent) (room : ℕ) : Type 0 where
+  pub accepted : Accepted b (l .gas)
+  pub area : room ≤ length (l .area)
+  pub words : wordsRoom b ≤ length (l .words)
+  pub floats : floatsRoom b ≤ length (l .floats)
