@@ -13,7 +13,6 @@ use Rattle.basics.specs.Regions.{cut, region, base}
 use Rattle.basics.proofs.Loops.{cond-both}
 use Rattle.basics.proofs.Regions.{cut-set, cut-length}
 use Rattle.turfs.specs.Board.{Board, turfCount, idOf, planetary, immutable, enabled, firelock, linksOf}
-use Rattle.turfs.specs.Tables.{Tables}
 use Rattle.events.specs.Events.{encode, kindOf, sizeOf}
 use Rattle.events.specs.Area.{Wrote}
 use Rattle.events.specs.declared.Event.{Event}
@@ -112,9 +111,6 @@ module _ (b : Board) (row : ℕ) where
   pub not-planetary : getD (b .planetary) row 0 ≡ 0 → false ≡ planetary b row
   unfolding planetary
   not-planetary h = sym (ap not (eq-eqb (getD (b .planetary) row 0) 0 h))
-
-pub linked-of : (b : Board) → Tables b → Linked (grid (b .ids) (b .flags) (b .starts) (b .neighbours) (b .linkFlags))
-linked-of b t = record { flags = t .flags; linkFlags = t .linkFlags; parts = t .parts; neighbour = t .neighbour }
 
 module _ (b : Board) (limit row : ℕ) where
   abbrev ground : Board

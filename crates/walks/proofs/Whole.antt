@@ -6,23 +6,23 @@ use mathlib.Core.Path.{_≡_, refl, ap, _∙_, sym, subst}
 use mathlib.Core.List.{List, [], _∷_, _++_}
 use mathlib.Core.Bool.{Bool, true, false, not, _&&_}
 use lib.Dec.{ltb}
-use lib.ListN.{length, getD, take, set}
-use lib.Seq.{length-take-le, getD-take}
+use lib.ListN.{length, getD, take, drop, set}
+use lib.Seq.{length-take-le, getD-take, drop-drop}
 use borrow.Author.Tests.{ltb-true}
 use Rattle.basics.specs.Loops.{times, member}
 use Rattle.basics.specs.Regions.{cut, region, base}
 use Rattle.basics.proofs.Loops.{times-still}
-use Rattle.basics.proofs.Regions.{cut-length}
+use Rattle.basics.proofs.Regions.{cut-length, cut-rest}
 use Rattle.basics.proofs.Tests.{both}
-use Rattle.turfs.specs.Board.{Board, turfCount, firelock, lockBit}
-use Rattle.turfs.specs.Tables.{Tables}
+use Rattle.turfs.specs.Board.{Board, turfCount, lockBit, enabled, planetary, immutable, firelock, linksOf}
+use Rattle.turfs.specs.Tables.{board, Tables}
 use Rattle.events.specs.declared.Event.{Event}
 use Rattle.index_set.specs.Line.{Below, Apart, Line}
 use Rattle.index_set.proofs.Queue.{Below-at}
-use Rattle.walks.specs.Walk.{Walk, count, walkLink, walkNext, walk}
-use Rattle.walks.specs.Visit.{visitPlanet, visitSpace, visit}
+use Rattle.walks.specs.Walk.{Walk, count, walkLink, spread, walkNext, walk}
+use Rattle.walks.specs.Visit.{visitPlanet, atSpace, visitSpace, visit}
 use Rattle.walks.specs.Does.{Does}
-use Rattle.walks.specs.Reached.{State, at, sizes, walkOf, Rest, Fit, walking, links, Near, perTurf, Visits, visitNext, Walked}
+use Rattle.walks.specs.Reached.{State, at, sizes, walkOf, Rest, Fit, walking, links, Near, Ground, perTurf, Visits, visitNext, Walked}
 use Rattle.walks.specs.declared.Kind.{Kind}
 use Rattle.walks.specs.declared.Kind.the-variants.{Planet, Space}
 use Rattle.walks.specs.declared.Reach.{Reach}
@@ -168,3 +168,34 @@ module _ (b : Board) (row : ℕ) (w e : List ℕ) (small : turfCount b ≤ 4096)
         wrote = all .wrote;
         same = ends;
       }
+
+-- ---- what a call knows of its tables
+
+-- the tables alone
+abbrev pub bare : Board → Board
+bare b = board (b .ids) (b .flags) (b .planetary) (b .mixtures) (b .starts) (b .neighbours) (b .linkFlags) (b .immutable) 0
+
+pub ground-of : (b : Board) → Tables b → Ground (bare b)
+ground-of b t = record {
+  small = t .sizes .small .turfs;
+  linked = record { flags = t .flags; linkFlags = t .linkFlags; parts = t .parts; neighbour = t .neighbour };
+  planetary = t .planetary;
+  mixtures = t .mixtures;
+  mixture = t .mixture;
+}
+
+-- no walk looks at the number of gases
+pub gasless : (b : Board) (kind : Kind) (limit row : ℕ)
+    → walk (bare b)
+    (visit (bare b) kind limit) row
+    ≡ walk b (visit b kind limit) row
+unfolding walk walkNext visitPlanet visitSpace atSpace spread walkLink enabled planetary immutable firelock linksOf
+gasless b Planet limit row = refl
+gasless b Space limit row = refl
+
+-- areas that agree past the arrays agree from any later place on
+pub later-same : {A : Type 0} (sizes : List ℕ) (m : ℕ) (w w′ : List A) → base sizes (length sizes) ≤ m → region sizes (length sizes) w′ ≡ region sizes (length sizes) w → drop m w′ ≡ drop m w
+later-same sizes m w w′ h e =
+    let k : ℕ = base sizes (length sizes) in
+    let q : m ≡ k + (m - k) = omega arith in
+    rw q (sym (drop-drop (m - k) k w′) ∙ ap (drop (m - k)) (sym (cut-rest sizes w′) ∙ e ∙ cut-rest sizes w) ∙ drop-drop (m - k) k w)

@@ -5,7 +5,7 @@ use mathlib.Core.Bool.{false}
 use Prim.Native.Nat.{ℕ, _+_, _*_, _≤_, _<_}
 use lib.ListN.{length, getD, take}
 use Rattle.basics.specs.Regions.{cut, region}
-use Rattle.turfs.specs.Board.{Board, turfCount, linkCount, end}
+use Rattle.turfs.specs.Board.{Board, turfCount, linkCount, mixtureCount, mixOf, end}
 use Rattle.turfs.specs.Tables.{board, Parts}
 use Rattle.events.specs.Events.{encodeAll}
 use Rattle.events.specs.Area.{Wrote}
@@ -90,6 +90,14 @@ pub record Linked (b : Board) : Type 0 where
   pub linkFlags : length (b .linkFlags) ≡ linkCount b
   pub parts : Parts (turfCount b) (b .starts) (b .neighbours)
   pub neighbour : (k : ℕ) → k < linkCount b → end b k < turfCount b
+
+-- what a walk needs of the tables
+pub record Ground (b : Board) : Type 0 where
+  pub small : turfCount b ≤ 4096
+  pub linked : Linked (grid (b .ids) (b .flags) (b .starts) (b .neighbours) (b .linkFlags))
+  pub planetary : length (b .planetary) ≡ turfCount b
+  pub mixtures : length (b .mixtures) ≡ turfCount b
+  pub mixture : (r : ℕ) → r < turfCount b → mixOf b r < mixtureCount b
 
 -- how many event bytes for each turf a walk may write
 abbrev pub perTurf : Kind → ℕ

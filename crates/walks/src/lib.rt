@@ -11,11 +11,11 @@ ghost use lib.ListN.{length, getD};
 ghost use Rattle.basics.specs.Loops.{run, times, upFrom};
 ghost use Rattle.turfs.specs.Board as tables;
 ghost use Rattle.turfs.specs.Board.{Board};
-ghost use Rattle.turfs.specs.Tables.{board, Tables};
+ghost use Rattle.turfs.specs.Tables.{board};
 ghost use Rattle.walks.specs.Walk.{walkLink, spread, walkNext};
 ghost use Rattle.walks.specs.Visit.{visitPlanet, atSpace, visitSpace, visit};
 ghost use Rattle.walks.specs.Does.{Does};
-ghost use Rattle.walks.specs.Reached.{at, Fit, walking, links, Near, grid, Linked, perTurf, Visits, visitNext, Walked};
+ghost use Rattle.walks.specs.Reached.{at, Fit, walking, links, Near, grid, Linked, Ground, perTurf, Visits, visitNext, Walked};
 
 // Which walk it is: what differs is what a visit does.
 pub enum Kind {
@@ -233,7 +233,7 @@ fn visit_planet(
     events: &mut [u8],
     words: &mut [u32],
 ) -> Reach
-    requires { ⌜ Fit (length (now ids)) (at s (now words) (now events)) × Tables (board (now ids) (now flags) (now planetary) (now mixtures) (now starts) (now neighbours) (now «link_flags») (now immutable) 0) ⌝ }
+    requires { ⌜ Fit (length (now ids)) (at s (now words) (now events)) × Ground (board (now ids) (now flags) (now planetary) (now mixtures) (now starts) (now neighbours) (now «link_flags») (now immutable) 0) ⌝ }
     requires { ⌜ Visits Kind.Planet (board (now ids) (now flags) (now planetary) (now mixtures) (now starts) (now neighbours) (now «link_flags») (now immutable) 0) row (at s (now words) (now events)) ⌝ }
     ensures { λ r. ⌜ Does (walking (length (now (ids .entry)))) (visitPlanet (board (now (ids .entry)) (now (flags .entry)) (now (planetary .entry)) (now (mixtures .entry)) (now (starts .entry)) (now (neighbours .entry)) (now («link_flags» .entry)) (now (immutable .entry)) 0) limit row) (at s (now (words .entry)) (now (events .entry))) (at r (now (words .exit)) (now (events .exit))) ⌝ }
 {
@@ -282,7 +282,7 @@ fn visit_space(
     events: &mut [u8],
     words: &mut [u32],
 ) -> Reach
-    requires { ⌜ Fit (length (now ids)) (at s (now words) (now events)) × Tables (board (now ids) (now flags) (now planetary) (now mixtures) (now starts) (now neighbours) (now «link_flags») (now immutable) 0) ⌝ }
+    requires { ⌜ Fit (length (now ids)) (at s (now words) (now events)) × Ground (board (now ids) (now flags) (now planetary) (now mixtures) (now starts) (now neighbours) (now «link_flags») (now immutable) 0) ⌝ }
     requires { ⌜ Visits Kind.Space (board (now ids) (now flags) (now planetary) (now mixtures) (now starts) (now neighbours) (now «link_flags») (now immutable) 0) row (at s (now words) (now events)) ⌝ }
     ensures { λ r. ⌜ Does (walking (length (now (ids .entry)))) (visitSpace (board (now (ids .entry)) (now (flags .entry)) (now (planetary .entry)) (now (mixtures .entry)) (now (starts .entry)) (now (neighbours .entry)) (now («link_flags» .entry)) (now (immutable .entry)) 0) limit row) (at s (now (words .entry)) (now (events .entry))) (at r (now (words .exit)) (now (events .exit))) ⌝ }
 {
@@ -323,7 +323,7 @@ fn walk_next(
     events: &mut [u8],
     words: &mut [u32],
 ) -> Reach
-    requires { ⌜ Fit (length (now ids)) (at s (now words) (now events)) × Tables (board (now ids) (now flags) (now planetary) (now mixtures) (now starts) (now neighbours) (now «link_flags») (now immutable) 0) ⌝ }
+    requires { ⌜ Fit (length (now ids)) (at s (now words) (now events)) × Ground (board (now ids) (now flags) (now planetary) (now mixtures) (now starts) (now neighbours) (now «link_flags») (now immutable) 0) ⌝ }
     requires { ⌜ (s .walked < s .count) × (perTurf kind * length (now ids) ≤ length (now events)) ⌝ }
     ensures { λ r. ⌜ Does (walking (length (now (ids .entry)))) (visitNext (board (now (ids .entry)) (now (flags .entry)) (now (planetary .entry)) (now (mixtures .entry)) (now (starts .entry)) (now (neighbours .entry)) (now («link_flags» .entry)) (now (immutable .entry)) 0) kind limit) (at s (now (words .entry)) (now (events .entry))) (at r (now (words .exit)) (now (events .exit))) ⌝ }
 {
@@ -380,7 +380,7 @@ fn walk_on(
     events: &mut [u8],
     words: &mut [u32],
 ) -> Reach
-    requires { ⌜ Fit (length (now ids)) (at s (now words) (now events)) × Tables (board (now ids) (now flags) (now planetary) (now mixtures) (now starts) (now neighbours) (now «link_flags») (now immutable) 0) ⌝ }
+    requires { ⌜ Fit (length (now ids)) (at s (now words) (now events)) × Ground (board (now ids) (now flags) (now planetary) (now mixtures) (now starts) (now neighbours) (now «link_flags») (now immutable) 0) ⌝ }
     requires { ⌜ (s .walked ≡ 0) × (perTurf kind * length (now ids) ≤ length (now events)) ⌝ }
     ensures { λ r. ⌜ Does (walking (length (now (ids .entry)))) (times (walkNext (board (now (ids .entry)) (now (flags .entry)) (now (planetary .entry)) (now (mixtures .entry)) (now (starts .entry)) (now (neighbours .entry)) (now («link_flags» .entry)) (now (immutable .entry)) 0) (visit (board (now (ids .entry)) (now (flags .entry)) (now (planetary .entry)) (now (mixtures .entry)) (now (starts .entry)) (now (neighbours .entry)) (now («link_flags» .entry)) (now (immutable .entry)) 0) kind limit)) (length (now (ids .entry)))) (at s (now (words .entry)) (now (events .entry))) (at r (now (words .exit)) (now (events .exit))) ⌝ }
 {
@@ -421,7 +421,7 @@ pub fn walk(
     events: &mut [u8],
     words: &mut [u32],
 ) -> Reach
-    requires { ⌜ Tables (board (now ids) (now flags) (now planetary) (now mixtures) (now starts) (now neighbours) (now «link_flags») (now immutable) 0) × (row < length (now ids)) ⌝ }
+    requires { ⌜ Ground (board (now ids) (now flags) (now planetary) (now mixtures) (now starts) (now neighbours) (now «link_flags») (now immutable) 0) × (row < length (now ids)) ⌝ }
     requires { ⌜ (perTurf kind * length (now ids) ≤ length (now events)) × (3 * length (now ids) ≤ length (now words)) ⌝ }
     ensures { λ r. ⌜ Walked kind (board (now (ids .entry)) (now (flags .entry)) (now (planetary .entry)) (now (mixtures .entry)) (now (starts .entry)) (now (neighbours .entry)) (now («link_flags» .entry)) (now (immutable .entry)) 0) limit row r (now (words .entry)) (now (words .exit)) (now (events .entry)) (now (events .exit)) ⌝ }
 {

@@ -1,6 +1,6 @@
 -- The marks, and then the spread. Assumes nothing.
 use mathlib.Core.Path.{_∙_, sym, refl}
-use Rattle.walks.proofs.Visits.{marked-fit, linked-of, planet-still, planet-on}
+use Rattle.walks.proofs.Visits.{marked-fit, planet-still, planet-on}
 use borrow.Author.Needs.{needs}
 use Rattle.walks.proofs.visit_planet.Statement.{statement}
 use Rattle.walks.proofs.visit_planet.Tie as tie
@@ -17,7 +17,7 @@ met-requires c κs = search needs
 
 -- src/lib.rt:241:8
 is-immutable-requires : tie.Need-is-immutable-requires
-is-immutable-requires c κs = search needs
+is-immutable-requires c κs = (rw (c .before .before .before .before .before .before .before .before .before .before .before .pre .0 .1 .mixtures) (c .before .before .before .before .before .before .before .before .before .before .before .pre .1 .inside), c .before .before .before .before .before .before .before .before .before .before .before .pre .0 .1 .mixture _ (c .before .before .before .before .before .before .before .before .before .before .before .pre .1 .inside))
 
 -- src/lib.rt:242:9
 mark-requires : tie.Need-mark-requires
@@ -33,7 +33,7 @@ mark-requires-2 c κs = search needs
 
 -- src/lib.rt:244:5
 spread-requires : tie.Need-spread-requires
-spread-requires c κs = (marked-fit _ _ _ _ (c .before .before .before .before .before .before .before .before .before .before .before .before .before .before .before .before .pre .0 .0) _ _ _ (c .before .before .mark2 .ensures), (linked-of _ (c .before .before .before .before .before .before .before .before .before .before .before .before .before .before .before .before .pre .0 .1), c .before .before .before .before .before .before .before .before .before .before .before .before .before .before .before .before .pre .1 .inside))
+spread-requires c κs = (marked-fit _ _ _ _ (c .before .before .before .before .before .before .before .before .before .before .before .before .before .before .before .before .pre .0 .0) _ _ _ (c .before .before .mark2 .ensures), (c .before .before .before .before .before .before .before .before .before .before .before .before .before .before .before .before .pre .0 .1 .linked, c .before .before .before .before .before .before .before .before .before .before .before .before .before .before .before .before .pre .1 .inside))
 
 -- src/lib.rt:221:1
 same-length : tie.Need-same-length

@@ -1,6 +1,6 @@
 -- The mark, the space list, or the spread. Assumes nothing.
 use mathlib.Core.Path.{_∙_, sym, refl}
-use Rattle.walks.proofs.Visits.{linked-of, is-planetary, not-planetary, space-planet, space-open, space-on}
+use Rattle.walks.proofs.Visits.{is-planetary, not-planetary, space-planet, space-open, space-on}
 use borrow.Author.Needs.{needs}
 use Rattle.walks.proofs.visit_space.Statement.{statement}
 use Rattle.walks.proofs.visit_space.Tie as tie
@@ -25,7 +25,7 @@ returns c = space-planet _ _ _ _ _ _ _ (c .before .before .before .before .befor
 
 -- src/lib.rt:293:8
 is-immutable-requires : tie.Need-is-immutable-requires
-is-immutable-requires c κs = search needs
+is-immutable-requires c κs = (rw (c .before .before .before .before .before .before .before .before .before .before .before .before .pre .0 .1 .mixtures) (c .before .before .before .before .before .before .before .before .before .before .before .before .pre .1 .inside), c .before .before .before .before .before .before .before .before .before .before .before .before .pre .0 .1 .mixture _ (c .before .before .before .before .before .before .before .before .before .before .before .before .pre .1 .inside))
 
 -- src/lib.rt:294:9
 at-space-requires : tie.Need-at-space-requires
@@ -45,7 +45,7 @@ returns-2 c = space-open _ _ _ _ _ _ _ (c .before .before .before .before .befor
 
 -- src/lib.rt:296:5
 spread-requires : tie.Need-spread-requires
-spread-requires c κs = search needs
+spread-requires c κs = (c .before .before .before .before .before .before .before .before .before .before .before .before .before .before .before .before .pre .0 .0, (c .before .before .before .before .before .before .before .before .before .before .before .before .before .before .before .before .pre .0 .1 .linked, c .before .before .before .before .before .before .before .before .before .before .before .before .before .before .before .before .pre .1 .inside))
 
 -- src/lib.rt:270:1
 same-length-3 : tie.Need-same-length-3

@@ -1,7 +1,8 @@
 -- The next turf is counted, and visited as the kind of walk says. Assumes nothing.
 use mathlib.Core.Path.{refl}
 use Rattle.walks.specs.declared.Kind.the-variants.{Planet, Space}
-use Rattle.walks.proofs.Whole.{counted-fit, next-visits, next-does}
+use Rattle.walks.proofs.Whole.{next-row, counted-fit, next-visits, next-does}
+use native.Mathlib.Omega.{arith}
 use borrow.Author.Needs.{needs}
 use Rattle.walks.proofs.walk_next.Statement.{statement}
 use Rattle.walks.proofs.walk_next.Tie as tie
@@ -29,7 +30,7 @@ enum-told c = search needs
 
 -- src/lib.rt:335:96
 cast-visit-planet : tie.Need-cast-visit-planet
-cast-visit-planet c = search needs
+cast-visit-planet c = omega (arith, next-row _ _ _ _ (c .before .before .before .before .before .before .before .before .before .before .before .before .before .before .pre .0 .0) (c .before .before .before .before .before .before .before .before .before .before .before .before .before .before .pre .1 .0), c .before .before .before .before .before .before .before .before .before .before .before .before .before .before .pre .0 .1 .small)
 
 -- src/lib.rt:334:25
 visit-planet-requires : tie.Need-visit-planet-requires
