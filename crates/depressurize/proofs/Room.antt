@@ -31,8 +31,9 @@ use Rattle.lent.specs.Lent.{Lent, noExtra}
 use Rattle.lent.proofs.Passed.{passed}
 use Rattle.walks.specs.Walk as walks
 use Rattle.walks.specs.Walk.{Walk, mark, spread, walk}
+use Rattle.walks.specs.Visit.{atSpace, visitSpace}
 use Rattle.walks.proofs.Walks.{going, spreads, spread-walked, walk-keeps, walk-rests}
-use Rattle.depressurize.specs.Depressurize.{Out, Back, Depressurized, atSpace, visitSpace, outLink, outRow, outNext, outward, backTo, back, wayBack, fromWalk, fromRow, depressurize, depressurizeRoom, depressurizeNumber}
+use Rattle.depressurize.specs.Depressurize.{Out, Back, Depressurized, outLink, outRow, outNext, outward, backTo, back, wayBack, fromWalk, fromRow, depressurize, depressurizeRoom, depressurizeNumber}
 use Rattle.depressurize.specs.Worked as worked  -- checked before the laws
 
 target-size : (es : List Event) (i t : ℕ) → size (snoc es (Target i t)) ≡ size es + 12

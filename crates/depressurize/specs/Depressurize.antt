@@ -9,13 +9,14 @@ use Rattle.basics.specs.Loops.{run, times, member, snoc, if_then_else_}
 use Rattle.basics.specs.Floats.{0f, _+f_}
 use Rattle.basics.specs.declared.Spot.{Spot}
 use Rattle.basics.specs.declared.Spot.the-variants.{At, Nowhere}
-use Rattle.turfs.specs.Board.{Board, turfCount, idOf, mixOf, end, planetary, immutable, linksOf, rowOf}
+use Rattle.turfs.specs.Board.{Board, turfCount, idOf, mixOf, end, immutable, linksOf, rowOf}
 use Rattle.mixture.specs.Mixture.{total, clearAir}
 use Rattle.events.specs.Events.{encodeAll}
 use Rattle.events.specs.declared.Event.{Event}
 use Rattle.events.specs.declared.Event.the-variants.{Target, HighPressure, Difference, FloorRip}
 use Rattle.lent.specs.Lent.{Lent, Result, noExtra, refusal, after}
-use Rattle.walks.specs.Walk.{Walk, mark, spread, walk}
+use Rattle.walks.specs.Walk.{Walk, walk}
+use Rattle.walks.specs.Visit.{visitSpace}
 use Rattle.depressurize.specs.declared.DepressurizeAnswer.{DepressurizeAnswer}
 
 -- the second floodfill
@@ -40,26 +41,6 @@ pub record Depressurized : Type 0 where
   pub events : List Event
 
 module _ (b : Board) where
-  -- ---- to space
-
-  -- an immutable turf is its own target
-  unfoldable pub atSpace : ℕ → Walk → Walk
-  atSpace r s = record {
-    queue = s .queue;
-    walked = s .walked;
-    space = snoc (s .space) r;
-    planet = s .planet;
-    ended = s .ended;
-    events = snoc (s .events) (Target (idOf b r) (idOf b r));
-  }
-
-  -- a planetary turf ends all
-  unfoldable pub visitSpace : ℕ → ℕ → Walk → Walk
-  visitSpace limit r s =
-      if planetary b r then mark true true s
-      else if immutable b r then atSpace r s
-      else spread b limit r s
-
   -- ---- out from space
 
   -- every new neighbour that isn't immutable, enabled or not: its direction is back, its target inherited
@@ -137,7 +118,7 @@ module _ (b : Board) where
   -- an unknown id: outcome 0
   unfoldable pub fromRow : List Float → ℕ → Spot → Depressurized
   fromRow gas limit Nowhere = record { outcome = 0; gas = gas; events = [] }
-  fromRow gas limit (At r) = fromWalk gas limit (walk b (visitSpace limit) r)
+  fromRow gas limit (At r) = fromWalk gas limit (walk b (visitSpace b limit) r)
 
   -- from the turf `id`
   unfoldable pub depressurize : List Float → ℕ → ℕ → Depressurized

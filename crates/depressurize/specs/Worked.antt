@@ -16,7 +16,8 @@ use Rattle.events.specs.declared.Event.the-variants.{Firelock, Target, HighPres
 use Rattle.lent.specs.Lent.{wordsRoom, floatsRoom, firstFailed, refusal, after}
 use Rattle.lent.specs.Worked.{lend, left}
 use Rattle.walks.specs.Walk.{walkLink, spread, walkNext, walk}
-use Rattle.depressurize.specs.Depressurize.{atSpace, visitSpace, outLink, outRow, outNext, outward, backTo, back, wayBack, fromWalk, fromRow, depressurize, depressurizeRoom, depressurizeNumber, depressurizeDone, depressurizeResult}
+use Rattle.walks.specs.Visit.{atSpace, visitSpace}
+use Rattle.depressurize.specs.Depressurize.{outLink, outRow, outNext, outward, backTo, back, wayBack, fromWalk, fromRow, depressurize, depressurizeRoom, depressurizeNumber, depressurizeDone, depressurizeResult}
 
 -- limit, id, gas; then outcome and bytes, the gas and the events afterwards
 unfoldable pub depressurizes : Board → ℕ → ℕ → List ℕ → ℕ → ℕ → List ℕ → List Event → Bool

@@ -18,8 +18,9 @@ use Rattle.equalize.specs.Equalize.{afterFill, near, passedOver, fillFrom, hotR
 use Rattle.equalize.specs.Result.{equalizeNumber, equalizeDone, equalizeResult}
 use Rattle.equalize.specs.Worked.{numbers}
 use Rattle.walks.specs.Walk.{walkLink, spread, walkNext, walk}
-use Rattle.planet_walk.specs.Planet.{visitPlanet, planetFrom, planetWalk, planetNumber, planetDone, planetResult}
-use Rattle.depressurize.specs.Depressurize.{atSpace, visitSpace, outLink, outRow, outNext, outward, backTo, back, wayBack, fromWalk, fromRow, depressurize, depressurizeNumber, depressurizeDone, depressurizeResult}
+use Rattle.walks.specs.Visit.{visitPlanet, atSpace, visitSpace}
+use Rattle.planet_walk.specs.Planet.{planetFrom, planetWalk, planetNumber, planetDone, planetResult}
+use Rattle.depressurize.specs.Depressurize.{outLink, outRow, outNext, outward, backTo, back, wayBack, fromWalk, fromRow, depressurize, depressurizeNumber, depressurizeDone, depressurizeResult}
 use Rattle.judged.specs.Judge.{lends, meets, equalizes, depressurizes, walksPlanet}
 use Rattle.judged.specs.Rows.{rows}
 

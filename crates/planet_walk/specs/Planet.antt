@@ -1,30 +1,25 @@
 -- `planet_equalize`: the firelocks on the way from a turf, and the whole of a call.
 use mathlib.Core.List.{List, []}
-use mathlib.Core.Bool.{Bool, true, not, _||_, cond}
+use mathlib.Core.Bool.{Bool, true, cond}
 use Prim.Native.Nat.{ℕ, _*_}
 use lib.Dec.{eqb}
 use lib.ListN.{length}
 use Rattle.basics.specs.Loops.{if_then_else_}
 use Rattle.basics.specs.declared.Spot.{Spot}
 use Rattle.basics.specs.declared.Spot.the-variants.{At, Nowhere}
-use Rattle.turfs.specs.Board.{Board, turfCount, planetary, immutable, rowOf}
+use Rattle.turfs.specs.Board.{Board, turfCount, rowOf}
 use Rattle.events.specs.Events.{encodeAll}
 use Rattle.events.specs.declared.Event.{Event}
 use Rattle.lent.specs.Lent.{Lent, Result, noExtra, refusal, after}
-use Rattle.walks.specs.Walk.{Walk, mark, spread, walk}
+use Rattle.walks.specs.Walk.{walk}
+use Rattle.walks.specs.Visit.{visitPlanet}
 use Rattle.planet_walk.specs.declared.PlanetAnswer.{PlanetAnswer}
 
 module _ (b : Board) where
-  -- immutable ends the walk; any other turf expands, and the walk goes on after it only if a planetary turf was met
-  unfoldable pub visitPlanet : ℕ → ℕ → Walk → Walk
-  visitPlanet limit r s =
-      let met = s .planet || planetary b r in
-      if immutable b r then mark met true s else spread b limit r (mark met (not met) s)
-
   -- an unknown id writes none
   unfoldable pub planetFrom : ℕ → Spot → List Event
   planetFrom limit Nowhere = []
-  planetFrom limit (At r) = walk b (visitPlanet limit) r .events
+  planetFrom limit (At r) = walk b (visitPlanet b limit) r .events
 
   -- the events of the walk from the turf `id`
   unfoldable pub planetWalk : ℕ → ℕ → List Event

@@ -16,7 +16,8 @@ use Rattle.events.specs.declared.Event.the-variants.{Firelock}
 use Rattle.lent.specs.Lent.{wordsRoom, floatsRoom, firstFailed, refusal, after}
 use Rattle.lent.specs.Worked.{lend, left}
 use Rattle.walks.specs.Walk.{walkLink, spread, walkNext, walk}
-use Rattle.planet_walk.specs.Planet.{visitPlanet, planetFrom, planetWalk, planetRoom, planetNumber, planetDone, planetResult}
+use Rattle.walks.specs.Visit.{visitPlanet}
+use Rattle.planet_walk.specs.Planet.{planetFrom, planetWalk, planetRoom, planetNumber, planetDone, planetResult}
 
 -- limit, id, gas; then the bytes and the events
 unfoldable pub walksPlanet : Board → ℕ → ℕ → List ℕ → ℕ → List Event → Bool

@@ -21,9 +21,10 @@ use Rattle.equalize.specs.Equalize.{afterFill, near, passedOver, fillFrom, hotR
 use Rattle.equalize.specs.Result.{equalizeNumber, equalizeDone, equalizeResult}
 use Rattle.equalize.specs.Worked.{numbers, equalizes, refused}
 use Rattle.walks.specs.Walk.{walkLink, spread, walkNext, walk}
-use Rattle.planet_walk.specs.Planet.{visitPlanet, planetFrom, planetWalk, planetNumber, planetDone, planetResult}
+use Rattle.walks.specs.Visit.{visitPlanet, atSpace, visitSpace}
+use Rattle.planet_walk.specs.Planet.{planetFrom, planetWalk, planetNumber, planetDone, planetResult}
 use Rattle.planet_walk.specs.Worked.{walksPlanet}
-use Rattle.depressurize.specs.Depressurize.{atSpace, visitSpace, outLink, outRow, outNext, outward, backTo, back, wayBack, fromWalk, fromRow, depressurize, depressurizeNumber, depressurizeDone, depressurizeResult}
+use Rattle.depressurize.specs.Depressurize.{outLink, outRow, outNext, outward, backTo, back, wayBack, fromWalk, fromRow, depressurize, depressurizeNumber, depressurizeDone, depressurizeResult}
 use Rattle.depressurize.specs.Worked.{depressurizes}
 use Rattle.table.specs.Rows.{marks, rooms, writes, documentRows, misreadRows, ruleRows, refusalRows, rows}
 

@@ -94,11 +94,11 @@ spread-walked b limit r s =
 -- ---- the loop
 
 module _ (b : Board) (visit : ℕ → Walk → Walk) where
-  still : (s : Walk) → going s ≡ false → walkNext b visit s ≡ s
+  pub still : (s : Walk) → going s ≡ false → walkNext b visit s ≡ s
   unfolding walkNext
   still s e = rw e
 
-  visited : (s : Walk) → going s ≡ true → walkNext b visit s ≡ visit (getD (s .queue) (s .walked) 0) (count s)
+  pub visited : (s : Walk) → going s ≡ true → walkNext b visit s ≡ visit (getD (s .queue) (s .walked) 0) (count s)
   unfolding walkNext
   visited s e = rw e
 

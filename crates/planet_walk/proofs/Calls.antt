@@ -1,0 +1,97 @@
+-- The call: refused as its number says; else the walk's bytes stand at the area's start, and the scratch is cleared. Assumes nothing.
+use Prim.Native.Nat.{ℕ, _+_, _*_, _≤_, _<_}
+use native.Mathlib.Omega.{arith}
+use mathlib.Core.Path.{_≡_, refl, ap, _∙_, sym, subst}
+use mathlib.Core.List.{List, [], _∷_, _++_}
+use mathlib.Core.Bool.{true}
+use lib.ListN.{length, drop}
+use lib.Ieee.{Float}
+use borrow.Author.Tests.{eq-eqb, ne-eqb}
+use Rattle.basics.specs.Floats.{0f}
+use Rattle.basics.specs.Regions.{region, base}
+use Rattle.basics.specs.declared.Spot.{Spot}
+use Rattle.basics.specs.declared.Spot.the-variants.{At, Nowhere}
+use Rattle.basics.proofs.Loops.{Found}
+use Rattle.turfs.specs.Board.{Board, turfCount, linkCount, rowOf}
+use Rattle.turfs.specs.Refuse.{ascending}
+use Rattle.turfs.proofs.Accepted.{row-below}
+use Rattle.events.specs.Events.{encodeAll}
+use Rattle.events.specs.Area.{Wrote}
+use Rattle.events.specs.declared.Event.{Event}
+use Rattle.events.proofs.Sizes.{size}
+use Rattle.lent.specs.Lent.{Lent, Extra, Result, noExtra, wordsRoom, floatsRoom, refusal, after}
+use Rattle.lent.specs.Given.{counted, cleared, lent, Given}
+use Rattle.lent.proofs.Numbers.{given, no-links}
+use Rattle.lent.proofs.Passed.{passed}
+use Rattle.walks.specs.Walk.{Walk, walk}
+use Rattle.walks.specs.Visit.{visitPlanet, visit}
+use Rattle.walks.specs.Reached.{at, sizes, walkOf, Ground, Walked}
+use Rattle.walks.specs.declared.Kind.the-variants.{Planet}
+use Rattle.walks.specs.declared.Reach.{Reach}
+use Rattle.walks.proofs.Does.{none-wrote}
+use Rattle.walks.proofs.Whole.{bare, ground-of, gasless, later-same}
+use Rattle.planet_walk.specs.Planet.{planetFrom, planetWalk, planetRoom, planetNumber, planetDone, planetResult}
+use Rattle.planet_walk.specs.declared.PlanetAnswer.{PlanetAnswer}
+use Rattle.planet_walk.proofs.Room.{planet-room}
+
+-- ---- the events
+
+module _ (b : Board) (limit id : ℕ) where
+  pub no-turf : (o : Spot) → o ≡ rowOf b id → o ≡ Nowhere → (e : List ℕ) → Wrote (encodeAll (planetWalk b limit id)) 0 0 e e
+  unfolding planetWalk planetFrom
+  no-turf o r q e = rw (← r, q) (none-wrote 0 e (omega arith))
+
+  module _ (o : Spot) (r : o ≡ rowOf b id) (row : ℕ) (q : o ≡ At row) where
+    pub turf-row : row < turfCount b
+    turf-row = subst (Found (λ r. r < turfCount b)) (sym r ∙ q) (row-below b id)
+
+    pub from-turf : {g : Reach} {w w′ e e′ : List ℕ} → Walked Planet b limit row g w w′ e e′ → Wrote (encodeAll (planetWalk b limit id)) 0 (g .used) e e′
+    unfolding planetWalk planetFrom walkOf
+    from-turf d = rw (← r, q, ← ap (λ (v : Walk). v .events) (d .same)) (d .wrote)
+
+-- no walk looks at the number of gases
+bare-walk : (b : Board) (limit id : ℕ) → planetWalk (bare b) limit id ≡ planetWalk b limit id
+unfolding planetWalk rowOf
+bare-walk b limit id = from (rowOf b id)
+  where
+    from : (o : Spot) → planetFrom (bare b) limit o ≡ planetFrom b limit o
+    from Nowhere = unfold planetFrom in refl
+    from (At r) = unfold planetFrom in ap (λ (v : Walk). v .events) (gasless b Planet limit r)
+
+-- ---- the answers
+
+module _ (b : Board) (limit id : ℕ) (l : Lent) (x : Extra) (number : ℕ) (q : x ≡ noExtra) (r : number ≡ refusal b l (0 * linkCount b + 12 * turfCount b) x) where
+  number-is : number ≡ refusal b l (planetRoom b) noExtra
+  number-is = r ∙ rw (q, no-links (linkCount b) (12 * turfCount b))
+
+  pub refused : (number ≡ 0 → ⊥) → record { answer = record { number = number; bytes = 0 }; lent = l } ≡ planetResult b limit id l
+  unfolding planetResult planetNumber
+  refused z = rw (← number-is, ne-eqb number 0 z)
+
+  module _ (z : number ≡ 0) where
+    pub granted : Given b l (planetRoom b)
+    granted = given b l (planetRoom b) noExtra (sym number-is ∙ z)
+
+    pub ground : Ground (bare b)
+    ground = ground-of b (granted .accepted .tables)
+
+    pub words-room : 3 * turfCount b ≤ length (l .words)
+    words-room = let w : 3 * turfCount b ≤ wordsRoom b = unfold wordsRoom in omega arith in omega (arith, w, granted .words)
+
+    module _ (bytes : ℕ) (e′ : List ℕ) (wr : Wrote (encodeAll (planetWalk (bare b) limit id)) 0 bytes (l .area) e′) where
+      wrote : Wrote (encodeAll (planetWalk b limit id)) 0 bytes (l .area) e′
+      wrote = rw bare-walk at wr
+
+      pub few : bytes ≤ 49152
+      few = omega (arith, wrote .end, planet-room b (passed b l (planetRoom b) noExtra (sym number-is ∙ z) .board) limit id, granted .accepted .tables .sizes .small .turfs)
+
+      pub answered : (w₁ : List ℕ) → region (sizes (turfCount b)) 3 w₁ ≡ region (sizes (turfCount b)) 3 (l .words) → (w′ : List ℕ) (f′ : List Float)
+          → w′ ≡ cleared 0 (wordsRoom (counted (b .ids) (b .neighbours) (b .immutable))) w₁ → f′ ≡ cleared 0f (floatsRoom (counted (b .ids) (b .neighbours) [])) (l .floats)
+          → record { answer = record { number = 0; bytes = bytes }; lent = lent (l .gas) e′ w′ f′ } ≡ planetResult b limit id l
+      unfolding planetResult planetNumber planetDone after wordsRoom floatsRoom
+      answered w₁ same w′ f′ c d =
+          let n = turfCount b in
+          let m : ℕ = 16 * n + 4 * linkCount b + 2 * length (b .immutable) + 16 in
+          let s : drop m w₁ ≡ drop m (l .words) = later-same (sizes n) m (l .words) w₁ (omega arith) same in
+          let k : bytes ≡ size (planetWalk b limit id) = wrote .end ∙ omega arith in
+          rw (← number-is, eq-eqb number 0 z, c, d, s, wrote .bytes, k)

@@ -1,0 +1,101 @@
+-- The links of a turf as a part of the link list: link number i of the part is link number `from + i` of the list. Assumes nothing.
+use Prim.Native.Nat.{ℕ, zero, suc, _+_, _-_, _≤_, _<_}
+use native.Mathlib.Omega.{arith}
+use native.Mathlib.Nat.{add-suc, add-zero, sub-zero}
+use mathlib.Core.Path.{_≡_, refl, ap, _∙_, sym, subst}
+use mathlib.Core.List.{List, [], _∷_}
+use mathlib.Core.Bool.{Bool, true, false, cond}
+use lib.Dec.{leb}
+use lib.ListN.{length, getD, take, drop, length-drop}
+use lib.Seq.{length-take-le, getD-take, getD-drop}
+use borrow.Author.Tests.{le-leb, lt-leb}
+use Rattle.basics.specs.Loops.{run, upFrom}
+use Rattle.turfs.specs.Board.{Board, anyBit, enabled, firelock, linksOf}
+use Rattle.events.specs.declared.Event.{Event}
+use Rattle.index_set.specs.Line.{Below}
+use Rattle.index_set.proofs.Queue.{Below-take, Below-drop}
+use Rattle.walks.specs.Walk.{Walk, walkLink, spread}
+use Rattle.walks.specs.Reached.{State, walkOf, links, Near, grid, Linked}
+
+-- a loop from the start
+pub run-start : {S : Type 0} (f : ℕ → S → S) (e : ℕ) (s : S) → run f (upFrom 0 (e - 0)) s ≡ run f (upFrom 0 e) s
+run-start f e s = ap (λ (k : ℕ). run f (upFrom 0 k) s) (sub-zero e)
+
+-- a loop whose numbers are a less
+pub run-shift : {S : Type 0} (f g : ℕ → S → S) (a n : ℕ) → ((i : ℕ) → i < n → (s : S) → f i s ≡ g (a + i) s)
+    → (j m : ℕ) → j + m ≤ n → (s : S) → run f (upFrom j m) s ≡ run g (upFrom (a + j) m) s
+unfolding run upFrom
+run-shift f g a n h j zero l s = refl
+run-shift f g a n h j (suc m) l s =
+    run-shift f g a n h (suc j) m (omega arith) (f j s)
+    ∙ ap (λ (t : _). run g (upFrom (a + suc j) m) t) (h j (omega arith) s)
+    ∙ ap (λ (k : ℕ). run g (upFrom k m) (g (a + j) s)) (add-suc a j)
+
+pub below-of : (n : ℕ) (l : List ℕ) → ((k : ℕ) → k < length l → getD l k 0 < n) → Below n l
+unfolding Below
+below-of n [] h = tt
+below-of n (x ∷ l) h = (h 0 (omega arith), below-of n l (λ k i. h (suc k) (omega arith)))
+
+pub walked-is : (n : ℕ) (a : State) (es : List Event) → walkOf n a es .walked ≡ a .reach .walked
+unfolding walkOf
+walked-is n a es = refl
+
+module _ (b : Board) (limit row : ℕ) (v : Walk) where
+  pub spread-disabled : false ≡ anyBit (getD (b .flags) row 0) → v ≡ spread b limit row v
+  unfolding spread run enabled
+  spread-disabled t = rw (← t)
+
+  pub spread-late : true ≡ anyBit (getD (b .flags) row 0) → limit < v .walked → v ≡ spread b limit row v
+  unfolding spread run enabled
+  spread-late t h = rw (← t, lt-leb (v .walked) limit h)
+
+  spread-links : true ≡ anyBit (getD (b .flags) row 0) → v .walked ≤ limit → run (walkLink b row) (linksOf b row) v ≡ spread b limit row v
+  unfolding spread enabled
+  spread-links t h = rw (← t, le-leb (v .walked) limit h)
+
+module _ (ids flags starts neighbours linkFlags : List ℕ) (limit row : ℕ) (l : Linked (grid ids flags starts neighbours linkFlags)) (r : row < length ids)
+    (from to : ℕ) (f : from ≡ getD starts row 0) (t : to ≡ getD starts (row + 1) 0) where
+  abbrev b : Board
+  b = grid ids flags starts neighbours linkFlags
+
+  pub part-order : from ≤ to
+  part-order = rw (f, t) (l .parts .rise row r)
+
+  pub part-end : to ≤ length neighbours
+  part-end = rw t (l .parts .end row r)
+
+  pub part-end-locks : to ≤ length linkFlags
+  part-end-locks = rw (l .linkFlags) part-end
+
+  abbrev near : List ℕ
+  near = take (to - from) (drop from neighbours)
+
+  abbrev locks : List ℕ
+  locks = take (to - from) (drop from linkFlags)
+
+  part-length : (xs : List ℕ) → to ≤ length xs → length (take (to - from) (drop from xs)) ≡ to - from
+  part-length xs h = length-take-le (to - from) (drop from xs) (simp length-drop (omega arith))
+
+  pub near-part : Near (length ids) near locks row
+  near-part = record {
+    inside = r;
+    both = part-length linkFlags part-end-locks ∙ sym (part-length neighbours part-end);
+    below = Below-take (length ids) (to - from) (drop from neighbours) (Below-drop (length ids) from neighbours (below-of (length ids) neighbours (l .neighbour)));
+  }
+
+  part-at : (xs : List ℕ) (i : ℕ) → i < to - from → getD (take (to - from) (drop from xs)) i 0 ≡ getD xs (from + i) 0
+  part-at xs i h = getD-take (to - from) (drop from xs) i 0 h ∙ getD-drop from xs i 0
+
+  link-same : (i : ℕ) → i < to - from → (s : Walk) → walkLink (links ids near locks) row i s ≡ walkLink b row (from + i) s
+  unfolding walkLink firelock
+  link-same i h s = rw (part-at neighbours i h, part-at linkFlags i h)
+
+  pub spread-on : true ≡ anyBit (getD flags row 0) → (v : Walk) → v .walked ≤ limit
+      → run (walkLink (links ids near locks) row) (upFrom 0 (length near)) v ≡ spread b limit row v
+  spread-on e v h =
+      let all : run (walkLink b row) (upFrom from (to - from)) v ≡ run (walkLink b row) (linksOf b row) v = unfold linksOf in rw (f, t) in
+      ap (λ (k : ℕ). run (walkLink (links ids near locks) row) (upFrom 0 k) v) (part-length neighbours part-end)
+      ∙ run-shift (walkLink (links ids near locks) row) (walkLink b row) from (to - from) link-same 0 (to - from) (omega arith) v
+      ∙ ap (λ (k : ℕ). run (walkLink b row) (upFrom k (to - from)) v) (add-zero from)
+      ∙ all
+      ∙ spread-links b limit row v e h

@@ -1,0 +1,201 @@
+-- The walk from its first turf to its end: each turn visits the next turf of the queue, and the queue holds no more turfs than there are. Assumes nothing.
+use Prim.Native.Nat.{ℕ, suc, _+_, _-_, _*_, _≤_, _<_}
+use native.Mathlib.Omega.{arith}
+use native.Mathlib.Nat.{not-suc-le-zero, sub-zero}
+use mathlib.Core.Path.{_≡_, refl, ap, _∙_, sym, subst}
+use mathlib.Core.List.{List, [], _∷_, _++_}
+use mathlib.Core.Bool.{Bool, true, false, not, _&&_}
+use lib.Dec.{ltb}
+use lib.ListN.{length, getD, take, drop, set}
+use lib.Seq.{length-take-le, getD-take, drop-drop}
+use borrow.Author.Tests.{ltb-true}
+use Rattle.basics.specs.Loops.{times, member}
+use Rattle.basics.specs.Regions.{cut, region, base}
+use Rattle.basics.proofs.Loops.{times-still}
+use Rattle.basics.proofs.Regions.{cut-length, cut-rest}
+use Rattle.basics.proofs.Tests.{both}
+use Rattle.turfs.specs.Board.{Board, turfCount, lockBit, enabled, planetary, immutable, firelock, linksOf}
+use Rattle.turfs.specs.Tables.{board, Tables}
+use Rattle.events.specs.declared.Event.{Event}
+use Rattle.index_set.specs.Line.{Below, Apart, Line}
+use Rattle.index_set.proofs.Queue.{Below-at}
+use Rattle.walks.specs.Walk.{Walk, count, walkLink, spread, walkNext, walk}
+use Rattle.walks.specs.Visit.{visitPlanet, atSpace, visitSpace, visit}
+use Rattle.walks.specs.Does.{Does}
+use Rattle.walks.specs.Reached.{State, at, sizes, walkOf, Rest, Fit, walking, links, Near, Ground, perTurf, Visits, visitNext, Walked}
+use Rattle.walks.specs.declared.Kind.{Kind}
+use Rattle.walks.specs.declared.Kind.the-variants.{Planet, Space}
+use Rattle.walks.specs.declared.Reach.{Reach}
+use Rattle.walks.proofs.Does.{does-then}
+use Rattle.walks.proofs.Links.{joined, link-open}
+use Rattle.walks.proofs.Walks.{startWalk, going, still, visited}
+use Rattle.walks.proofs.Visits.{visit-walked}
+
+abbrev pub counted : Reach → Reach
+counted s = record { count = s .count; walked = s .walked + 1; spaces = s .spaces; planet = s .planet; ended = s .ended; used = s .used }
+
+-- ---- the queue, as the code reads it
+
+module _ (n : ℕ) (s : Reach) (w e : List ℕ) (h : Fit n (at s w e)) where
+  queue-length : length (take (s .count) (region (sizes n) 0 w)) ≡ s .count
+  queue-length = length-take-le (s .count) (region (sizes n) 0 w) (omega (arith, h .line .few, h .line .queue-n))
+
+  going-is : (es : List Event) → going (walkOf n (at s w e) es) ≡ (not (s .ended) && ltb (s .walked) (s .count))
+  unfolding walkOf
+  going-is es = rw queue-length
+
+  module _ (k : s .walked < s .count) where
+    queue-at : getD w (s .walked) 0 ≡ getD (take (s .count) (region (sizes n) 0 w)) (s .walked) 0
+    queue-at = sym (getD-take (s .count) (region (sizes n) 0 w) (s .walked) 0 k ∙ getD-take n w (s .walked) 0 (omega (arith, h .line .few)))
+
+    pub next-row : getD w (s .walked) 0 < n
+    next-row = rw queue-at (Below-at n (take (s .count) (region (sizes n) 0 w)) (s .walked) (h .line .rows) (rw queue-length k))
+
+    pub counted-fit : (t : Reach) → t ≡ counted s → Fit n (at t w e)
+    counted-fit t q = rw q (record { small = h .small; words = h .words; bytes = h .bytes; written = h .written; few = omega (arith, h .few); past = omega arith; line = h .line })
+
+    pub next-visits : (b : Board) (kind like : Kind) → kind ≡ like → turfCount b ≡ n → perTurf kind * n ≤ length e → (t : Reach) → t ≡ counted s → Visits like b (getD w (s .walked) 0) (at t w e)
+    next-visits b kind like q c room t g = rw g (record {
+      inside = rw c next-row;
+      counted = omega (arith, h .few);
+      room = rw (c, ← q) room;
+    })
+
+    -- a visit of the next turf
+    pub next-does : (b : Board) (kind like : Kind) (limit : ℕ) → kind ≡ like → (t : Reach) → t ≡ counted s → {a : State} → Does (walking n) (visit b like limit (getD w (s .walked) 0)) (at t w e) a
+        → Does (walking n) (visitNext b kind limit) (at s w e) a
+    next-does b kind like limit q t g {a} d = record {
+      fit = d .fit;
+      kept = d .kept;
+      new = d .new;
+      wrote = rw g at (d .wrote);
+      same = λ es. d .same es ∙ view es;
+    }
+      where
+        view : (es : List Event) → visit b like limit (getD w (s .walked) 0) (walkOf n (at t w e) es) ≡ visitNext b kind limit (walkOf n (at s w e) es)
+        view es = unfold walkOf in rw (g, q, queue-at)
+
+pub on-less : (s : Reach) (on : Bool) → on ≡ true → on ≡ (not (s .ended) && ltb (s .walked) (s .count)) → s .walked < s .count
+on-less s on t e = ltb-true (s .walked) (s .count) (both (not (s .ended)) (ltb (s .walked) (s .count)) (sym e ∙ t) .1)
+
+-- ---- the loop
+
+module _ (b : Board) (kind : Kind) (limit n : ℕ) where
+  abbrev step : Walk → Walk
+  step = walkNext b (visit b kind limit)
+
+  pub steps-start : (walked : ℕ) → walked ≡ 0 → (v : Walk) → times step (n - walked) v ≡ times step n v
+  steps-start walked z v = ap (λ (k : ℕ). times step k v) (ap (λ (m : ℕ). n - m) z ∙ sub-zero n)
+
+  -- a turn counts one on
+  pub turn-counts : (a a′ : State) → Does (walking n) (visitNext b kind limit) a a′ → a′ .reach .walked ≡ a .reach .walked + 1
+  unfolding walkOf
+  turn-counts a a′ d = ap (λ (v : Walk). v .walked) (d .same []) ∙ visit-walked b limit _ kind (count (walkOf n a []))
+
+  module _ (s : Reach) (w e : List ℕ) (h : Fit n (at s w e)) (on : Bool) (o : on ≡ (not (s .ended) && ltb (s .walked) (s .count))) (es : List Event) where
+    pub steps-next : on ≡ true → (walked : ℕ) → walked ≡ s .walked + 1
+        → times step (n - s .walked) (walkOf n (at s w e) es) ≡ times step (n - walked) (visitNext b kind limit (walkOf n (at s w e) es))
+    unfolding times
+    steps-next t walked q =
+        let k : n - s .walked ≡ suc (n - walked) = omega (arith, on-less s on t o, h .line .few) in
+        rw k (ap (times step (n - walked)) (visited b (visit b kind limit) (walkOf n (at s w e) es) (going-is n s w e h es ∙ sym o ∙ t)))
+
+    pub steps-end : on ≡ false → times step (n - s .walked) (walkOf n (at s w e) es) ≡ walkOf n (at s w e) es
+    steps-end t = times-still step (n - s .walked) (walkOf n (at s w e) es) (still b (visit b kind limit) (walkOf n (at s w e) es) (going-is n s w e h es ∙ sym o ∙ t))
+
+-- ---- the first turf
+
+-- a firelock's record for each turf has room in either walk
+pub per-turf : (kind : Kind) (n m : ℕ) → perTurf kind * n ≤ m → 12 * n ≤ m
+per-turf Planet n m h = h
+per-turf Space n m h = omega arith
+
+abbrev none : Reach
+none = record { count = 0; walked = 0; spaces = 0; planet = false; ended = false; used = 0 }
+
+abbrev pub one : Reach
+one = record { count = 1; walked = 0; spaces = 0; planet = false; ended = false; used = 0 }
+
+module _ (b : Board) (row : ℕ) (w e : List ℕ) (small : turfCount b ≤ 4096) (r : row < turfCount b) (room : 12 * turfCount b ≤ length e) (long : 3 * turfCount b ≤ length w) where
+  abbrev n : ℕ
+  n = turfCount b
+
+  none-fit : Fit n (at none w e)
+  unfolding Below Apart
+  none-fit = record {
+    small = small;
+    words = omega arith;
+    bytes = omega arith;
+    written = omega arith;
+    few = omega arith;
+    past = omega arith;
+    line = record {
+      queue-n = cut-length (sizes n) w 0 (omega arith) (omega arith);
+      places-n = cut-length (sizes n) w 1 (omega arith) (omega arith);
+      few = omega arith;
+      rows = tt;
+      apart = tt;
+      placed = λ i h. absurd (not-suc-le-zero h);
+    };
+  }
+
+  alone : Near n (row ∷ []) (0 ∷ []) row
+  unfolding Below
+  alone = record { inside = r; both = refl; below = (r, tt) }
+
+  module _ (w₁ : List ℕ) (put : w₁ ≡ set (set w (0 + 0) row) (n + row) 0) where
+    pub begun : Does (walking n) (walkLink (links (b .ids) (row ∷ []) (0 ∷ [])) row 0) (at none w e) (at one w₁ e)
+    begun = link-open (b .ids) (row ∷ []) (0 ∷ []) row 0 none w e none-fit alone (omega arith) (unfold member in refl) refl one w₁ refl put
+
+    module _ (kind : Kind) (limit : ℕ) (g : Reach) (w₂ e₂ : List ℕ) (d : Does (walking n) (times (walkNext b (visit b kind limit)) n) (at one w₁ e) (at g w₂ e₂)) where
+      all : Does (walking n) (λ v. times (walkNext b (visit b kind limit)) n (walkLink (links (b .ids) (row ∷ []) (0 ∷ [])) row 0 v)) (at none w e) (at g w₂ e₂)
+      all = does-then (walking n) (times (walkNext b (visit b kind limit)) n) begun d
+
+      start : walkLink (links (b .ids) (row ∷ []) (0 ∷ [])) row 0 (walkOf n (at none w e) []) ≡ startWalk row
+      unfolding walkLink walkOf member firelock
+      start = refl
+
+      ends : walkOf n (at g w₂ e₂) (all .new) ≡ walk b (visit b kind limit) row
+      unfolding walk
+      ends = all .same [] ∙ ap (times (walkNext b (visit b kind limit)) n) start
+
+      pub walked : Walked kind b limit row g w w₂ e e₂
+      walked = record {
+        fit = all .fit;
+        words = ap (λ (x : Rest). x .words) (all .kept);
+        beyond = ap (λ (x : Rest). x .beyond) (all .kept);
+        events = all .new;
+        wrote = all .wrote;
+        same = ends;
+      }
+
+-- ---- what a call knows of its tables
+
+-- the tables alone
+abbrev pub bare : Board → Board
+bare b = board (b .ids) (b .flags) (b .planetary) (b .mixtures) (b .starts) (b .neighbours) (b .linkFlags) (b .immutable) 0
+
+pub ground-of : (b : Board) → Tables b → Ground (bare b)
+ground-of b t = record {
+  small = t .sizes .small .turfs;
+  linked = record { flags = t .flags; linkFlags = t .linkFlags; parts = t .parts; neighbour = t .neighbour };
+  planetary = t .planetary;
+  mixtures = t .mixtures;
+  mixture = t .mixture;
+}
+
+-- no walk looks at the number of gases
+pub gasless : (b : Board) (kind : Kind) (limit row : ℕ)
+    → walk (bare b)
+    (visit (bare b) kind limit) row
+    ≡ walk b (visit b kind limit) row
+unfolding walk walkNext visitPlanet visitSpace atSpace spread walkLink enabled planetary immutable firelock linksOf
+gasless b Planet limit row = refl
+gasless b Space limit row = refl
+
+-- areas that agree past the arrays agree from any later place on
+pub later-same : {A : Type 0} (sizes : List ℕ) (m : ℕ) (w w′ : List A) → base sizes (length sizes) ≤ m → region sizes (length sizes) w′ ≡ region sizes (length sizes) w → drop m w′ ≡ drop m w
+later-same sizes m w w′ h e =
+    let k : ℕ = base sizes (length sizes) in
+    let q : m ≡ k + (m - k) = omega arith in
+    rw q (sym (drop-drop (m - k) k w′) ∙ ap (drop (m - k)) (sym (cut-rest sizes w′) ∙ e ∙ cut-rest sizes w) ∙ drop-drop (m - k) k w)

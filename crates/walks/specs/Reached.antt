@@ -1,0 +1,124 @@
+-- How the scratch holds a walk: the queue, each row's place in it and the space list, as many words each as there are turfs.
+use mathlib.Core.Path.{_≡_}
+use mathlib.Core.List.{List, [], _∷_}
+use mathlib.Core.Bool.{false}
+use Prim.Native.Nat.{ℕ, _+_, _*_, _≤_, _<_}
+use lib.ListN.{length, getD, take}
+use Rattle.basics.specs.Regions.{cut, region}
+use Rattle.turfs.specs.Board.{Board, turfCount, linkCount, mixtureCount, mixOf, end}
+use Rattle.turfs.specs.Tables.{board, Parts}
+use Rattle.events.specs.Events.{encodeAll}
+use Rattle.events.specs.Area.{Wrote}
+use Rattle.events.specs.declared.Event.{Event}
+use Rattle.index_set.specs.Line.{Below, Line}
+use Rattle.walks.specs.Walk.{Walk, count, walk}
+use Rattle.walks.specs.Visit.{visit}
+use Rattle.walks.specs.Does.{Held}
+use Rattle.walks.specs.declared.Kind.{Kind}
+use Rattle.walks.specs.declared.Kind.the-variants.{Planet, Space}
+use Rattle.walks.specs.declared.Reach.{Reach}
+
+-- what a function of the walk may change
+pub record State : Type 0 where
+  pub reach : Reach
+  pub words : List ℕ
+  pub area : List ℕ
+
+abbrev pub at : Reach → List ℕ → List ℕ → State
+at reach words area = record { reach = reach; words = words; area = area }
+
+-- the three arrays
+abbrev pub sizes : ℕ → List ℕ
+sizes n = n ∷ n ∷ n ∷ []
+
+abbrev pub walkIn : List (List ℕ) → Reach → List Event → Walk
+walkIn arrays g es = record {
+  queue = take (g .count) (getD arrays 0 []);
+  walked = g .walked;
+  space = take (g .spaces) (getD arrays 2 []);
+  planet = g .planet;
+  ended = g .ended;
+  events = es;
+}
+
+-- the walk that the state holds
+unfoldable pub walkOf : ℕ → State → List Event → Walk
+walkOf n a es = walkIn (cut (sizes n) (a .words)) (a .reach) es
+
+-- what a step leaves as it is
+pub record Rest : Type 0 where
+  pub words : ℕ
+  pub beyond : List ℕ
+
+-- what holds between steps
+pub record Fit (n : ℕ) (a : State) : Type 0 where
+  pub small : n ≤ 4096
+  pub words : n + n + n ≤ length (a .words)
+  pub bytes : 12 * (n + a .reach .spaces) ≤ length (a .area)
+  pub written : a .reach .used ≤ 12 * (a .reach .count + a .reach .spaces)
+  pub few : a .reach .spaces ≤ a .reach .walked
+  pub past : a .reach .walked ≤ a .reach .count
+  pub line : Line n (a .reach .count) (region (sizes n) 0 (a .words)) (region (sizes n) 1 (a .words))
+
+-- a walk over n turfs
+abbrev pub walking : ℕ → Held State Walk Rest
+walking n = record {
+  used = λ a. a .reach .used;
+  area = λ a. a .area;
+  view = walkOf n;
+  frame = λ a. record { words = length (a .words); beyond = region (sizes n) 3 (a .words) };
+  Fit = Fit n;
+}
+
+-- a board of which no more than a part of the link list is looked at
+abbrev pub links : List ℕ → List ℕ → List ℕ → Board
+links ids near locks = board ids [] [] [] [] near locks [] 0
+
+-- a part of the link list that belongs to one of n turfs
+pub record Near (n : ℕ) (near locks : List ℕ) (row : ℕ) : Type 0 where
+  pub inside : row < n
+  pub both : length locks ≡ length near
+  pub below : Below n near
+
+-- a board of which no more than the ids, the flags and the links is looked at
+abbrev pub grid : List ℕ → List ℕ → List ℕ → List ℕ → List ℕ → Board
+grid ids flags starts neighbours linkFlags = board ids flags [] [] starts neighbours linkFlags [] 0
+
+-- what a turf's links need of the tables
+pub record Linked (b : Board) : Type 0 where
+  pub flags : length (b .flags) ≡ turfCount b
+  pub linkFlags : length (b .linkFlags) ≡ linkCount b
+  pub parts : Parts (turfCount b) (b .starts) (b .neighbours)
+  pub neighbour : (k : ℕ) → k < linkCount b → end b k < turfCount b
+
+-- what a walk needs of the tables
+pub record Ground (b : Board) : Type 0 where
+  pub small : turfCount b ≤ 4096
+  pub linked : Linked (grid (b .ids) (b .flags) (b .starts) (b .neighbours) (b .linkFlags))
+  pub planetary : length (b .planetary) ≡ turfCount b
+  pub mixtures : length (b .mixtures) ≡ turfCount b
+  pub mixture : (r : ℕ) → r < turfCount b → mixOf b r < mixtureCount b
+
+-- how many event bytes for each turf a walk may write
+abbrev pub perTurf : Kind → ℕ
+perTurf Planet = 12
+perTurf Space = 24
+
+-- a turf is visited: it is counted already
+pub record Visits (kind : Kind) (b : Board) (row : ℕ) (a : State) : Type 0 where
+  pub inside : row < turfCount b
+  pub counted : a .reach .spaces < a .reach .walked
+  pub room : perTurf kind * turfCount b ≤ length (a .area)
+
+-- `walkNext` where there is a turf to visit
+abbrev pub visitNext : Board → Kind → ℕ → Walk → Walk
+visitNext b kind limit s = visit b kind limit (getD (s .queue) (s .walked) 0) (count s)
+
+-- the walk from r is done: from w and e it came to w′ and e′
+pub record Walked (kind : Kind) (b : Board) (limit r : ℕ) (g : Reach) (w w′ e e′ : List ℕ) : Type 0 where
+  pub fit : Fit (turfCount b) (at g w′ e′)
+  pub words : length w′ ≡ length w
+  pub beyond : region (sizes (turfCount b)) 3 w′ ≡ region (sizes (turfCount b)) 3 w
+  pub events : List Event
+  pub wrote : Wrote (encodeAll events) 0 (g .used) e e′
+  pub same : walkOf (turfCount b) (at g w′ e′) events ≡ walk b (visit b kind limit) r
