@@ -37,7 +37,7 @@ mark-stays xs a x l e = go (ℕ-discrete x a)
 unlike : (x y : ℕ) → isMark x ≡ true → y ≡ 0 → x ≢ y
 unlike x y e z i = subst T (sym (ap isMark (sym (i ∙ z)) ∙ e)) tt
 
-insert-length : (x : ℕ) (xs : List ℕ) → length (insert x xs) ≤ length xs + 1
+pub insert-length : (x : ℕ) (xs : List ℕ) → length (insert x xs) ≤ length xs + 1
 unfolding insert
 insert-length x xs = go (member x xs)
   where
