@@ -2,6 +2,7 @@
 use Prim.Native.Nat.{ℕ, zero, suc, _+_, _-_, _≤_, _<_}
 use native.Mathlib.Omega.{arith}
 use native.Mathlib.Numerals.{add-one}
+use native.Mathlib.Nat.{not-suc-le-zero}
 use mathlib.Core.Path.{_≡_, refl, ap, ap₂, _∙_, sym, subst}
 use mathlib.Core.Logic.{_⊎_, inl, inr}
 use mathlib.Core.List.{List, [], _∷_, _++_}
@@ -12,7 +13,7 @@ use Rattle.basics.specs.Loops.{member, snoc}
 use Rattle.basics.specs.Regions.{cut, region}
 use Rattle.basics.proofs.Regions.{cut-set, cut-get, cut-length}
 use Rattle.basics.proofs.Stores.{Far}
-use Rattle.index_set.specs.Line.{Line, array, Holds}
+use Rattle.index_set.specs.Line.{Below, Apart, Line, array, Holds}
 use Rattle.index_set.proofs.Queue.{line-more, count-below}
 use Rattle.events.specs.declared.Event.{Event}
 use Rattle.flood_fill.specs.Fill.{Reach, insert}
@@ -32,6 +33,21 @@ module _ (n at i x : ℕ) (w : List ℕ) where
 
   pub array-here : i < n → array n at (set w (at + i) x) ≡ set (array n at w) i x
   array-here h = ap (take n) (drop-set-add at w i x) ∙ take-set-lt n (drop at w) i x h
+
+-- an empty set, whatever the words hold
+pub holds-none : (n queue places : ℕ) (w : List ℕ) → (queue + n ≤ length w) × (places + n ≤ length w) → Holds n 0 queue places w
+unfolding Below Apart
+holds-none n queue places w r = record {
+  room = r;
+  line = record {
+    queue-n = length-take-le n (drop queue w) (simp length-drop (omega (arith, r .0)));
+    places-n = length-take-le n (drop places w) (simp length-drop (omega (arith, r .1)));
+    few = omega arith;
+    rows = tt;
+    apart = tt;
+    placed = λ i l. absurd (not-suc-le-zero l);
+  };
+}
 
 module _ {n count queue places : ℕ} {w : List ℕ} (h : Holds n count queue places w) where
   -- a store beside the set
@@ -119,88 +135,126 @@ pub edge-new : (m : Met) (k z : ℕ) (r : Reach) → m .on ≡ true → member (
 unfolding edgeTo insert
 edge-new m k z r o i = simp (o, i)
 
-module _ (m : Met) (k z : ℕ) (s : Reached) (kept n e : ℕ) (w : List ℕ) (h : Fit n e kept s w) (hk : k < e) where
-  pub edge-fit : Fit n e kept s (set w k (z + 1))
-  edge-fit = record {
-    sizes = h .sizes;
-    words = rw (length-set w k (z + 1)) (h .words);
-    nodes = h .nodes;
-    queue = h .queue;
-    line = holds-far (h .line) k (z + 1) (inl (omega arith)) (inl (omega arith));
+pub moves-then : {n e kept : ℕ} {f g : Reach → Reach} {s s′ s″ : Reached} {w w′ w″ : List ℕ} → Moves n e kept f s s′ w w′ → Moves n e kept g s′ s″ w′ w″ → Moves n e kept (λ r. g (f r)) s s″ w w″
+moves-then {g = g} d d′ = record { fit = d′ .fit; used = d′ .used ∙ d .used; same = λ es. d′ .same es ∙ ap (onReach g) (d .same es) }
+
+pub moves-as : {n e kept : ℕ} {f : Reach → Reach} (g : Reach → Reach) {s s′ : Reached} {w w′ : List ℕ} → Moves n e kept f s s′ w w′
+    → ((es : List Event) → f (view n e kept s w es .reach) ≡ g (view n e kept s w es .reach)) → Moves n e kept g s s′ w w′
+moves-as {n} {e} {kept} g {s} {w = w} d i = record {
+  fit = d .fit;
+  used = d .used;
+  same = λ es. d .same es ∙ ap (λ (r : Reach). onReach (λ _. r) (view n e kept s w es)) (i es);
+}
+
+-- the link k has an owner
+abbrev own : ℕ → ℕ → Reach → Reach
+own k z r = record { found = r .found; queue = r .queue; nodes = r .nodes; owner = set (r .owner) k (z + 1); ignored = r .ignored; events = r .events }
+
+-- the row a is a node
+abbrev pub join : ℕ → Reach → Reach
+join a r = record { found = r .found; queue = r .queue; nodes = snoc (r .nodes) a; owner = r .owner; ignored = r .ignored; events = r .events }
+
+module _ {s : Reached} {kept n e : ℕ} {w : List ℕ} (h : Fit n e kept s w) where
+  own-more : (k z : ℕ) → k < e → Moves n e kept (own k z) s s w (set w k (z + 1))
+  unfolding view
+  own-more k z hk = record {
+    fit = record {
+      sizes = h .sizes;
+      words = rw (length-set w k (z + 1)) (h .words);
+      nodes = h .nodes;
+      queue = h .queue;
+      line = holds-far (h .line) k (z + 1) (inl (omega arith)) (inl (omega arith));
+    };
+    used = refl;
+    same = λ es. ap (viewIn kept s es) (cut-set (sizes n e) w 0 k (z + 1) k (omega arith) hk (omega arith));
   }
 
-  owned : cut (sizes n e) (set w k (z + 1)) ≡ set (cut (sizes n e) w) 0 (set (region (sizes n e) 0 w) k (z + 1))
-  owned = cut-set (sizes n e) w 0 k (z + 1) k (omega arith) hk (omega arith)
+  -- the nodes in the view and in the words
+  in-nodes : (a : ℕ) (es : List Event) → member a (view n e kept s w es .reach .nodes) ≡ member a (take (s .nodes) (array n (nodesAt n e + kept) w))
+  unfolding view
+  in-nodes a es = sym (ap (member a) (nodes-array n e w (h .words) kept (s .nodes) (h .nodes) (h .line .line .few)))
 
+  pub join-more : (a : ℕ) → a < n → kept + s .nodes < n + e → member a (take (s .nodes) (array n (nodesAt n e + kept) w)) ≡ false
+      → Moves n e kept (join a) s (record { queued = s .queued; nodes = s .nodes + 1; ignored = s .ignored; used = s .used }) w
+      (set (set w (nodesAt n e + kept + s .nodes) a) (placesAt n e + a) (s .nodes))
+  unfolding view
+  join-more a ha room i =
+      let ns : List ℕ = region (sizes n e) 12 w in
+      let t : Reached = record { queued = s .queued; nodes = s .nodes + 1; ignored = s .ignored; used = s .used } in
+      let c₁ = cut-set (sizes n e) w 12 (kept + s .nodes) a (nodesAt n e + kept + s .nodes) (omega arith) room (omega arith) in
+      let c₂ = cut-set (sizes n e) (set w (nodesAt n e + kept + s .nodes) a) 6 a (s .nodes) (placesAt n e + a) (omega arith) ha (omega arith) in
+      let c = c₂ ∙ ap (λ (ws : List (List ℕ)). set ws 6 (set (getD ws 6 []) a (s .nodes))) c₁ in
+      let new : take (s .nodes + 1) (drop kept (set ns (kept + s .nodes) a)) ≡ snoc (take (s .nodes) (drop kept ns)) a =
+      ap (take (s .nodes + 1)) (drop-set-add kept ns (s .nodes) a) ∙ ap (λ (j : ℕ). take j (set (drop kept ns) (s .nodes) a)) (add-one (s .nodes))
+      ∙ take-suc-set (drop kept ns) (s .nodes) a (simp (length-drop, nodes-long n e w (h .words)) (omega arith)) in
+      let old : take kept (set ns (kept + s .nodes) a) ≡ take kept ns = take-set-le kept ns (kept + s .nodes) a (omega arith) in
+      record {
+        fit = record {
+          sizes = h .sizes;
+          words = simp length-set (h .words);
+          nodes = omega arith;
+          queue = h .queue;
+          line = holds-more (h .line) a ha i (omega arith);
+        };
+        used = refl;
+        same = λ es. ap (viewIn kept t es) c ∙ ap₂ (λ (x y : List ℕ). viewOf (view n e kept s w es) x y) new old;
+      }
+    where
+      viewOf : View → List ℕ → List ℕ → View
+      viewOf v x y = record {
+        reach = record { found = v .reach .found; queue = v .reach .queue; nodes = x; owner = v .reach .owner; ignored = v .reach .ignored; events = v .reach .events };
+        still = record {
+          reverse = v .still .reverse;
+          direction = v .still .direction;
+          via = v .still .via;
+          fast = v .still .fast;
+          list = v .still .list;
+          cursor = v .still .cursor;
+          live = v .still .live;
+          starts = v .still .starts;
+          before = y;
+          rest = v .still .rest;
+        };
+      }
+
+module _ (m : Met) (k z : ℕ) (s : Reached) (kept n e : ℕ) (w : List ℕ) (h : Fit n e kept s w) (hk : k < e) where
   pub edge-none : m .on ≡ false → Moves n e kept (edgeTo m k z) s s w w
   edge-none o = moves-none (edgeTo m k z) h (λ es. edge-off m k z _ o)
 
   module _ (on : m .on ≡ true) (at places : ℕ) (ea : at ≡ nodesAt n e) (ep : places ≡ placesAt n e) where
-    abbrev first : ℕ
-    first = at + kept
+    abbrev w₁ : List ℕ
+    w₁ = set w k (z + 1)
 
-    ef : first ≡ nodesAt n e + kept
-    ef = ap (λ (x : ℕ). x + kept) ea
+    owned : Moves n e kept (own k z) s s w w₁
+    owned = own-more h k z hk
 
-    pub edge-holds : Holds n (s .nodes) first places (set w k (z + 1))
-    edge-holds = rw (ef, ep) (edge-fit .line)
+    pub edge-holds : Holds n (s .nodes) (at + kept) places w₁
+    edge-holds = rw (ea, ep) (owned .fit .line)
 
-    pub edge-room : m .row < n → false ≡ member (m .row) (take (s .nodes) (array n first (set w k (z + 1)))) → kept + s .nodes < n + e
-        → (first + s .nodes < length (set w k (z + 1))) × ((places + m .row < length (set w k (z + 1))) × (s .nodes < 4096))
-    edge-room hm i room =
-        let l = edge-fit .words in
-        let c : s .nodes < n = count-below (edge-holds .line) (m .row) hm (sym i) in
-        (omega (arith, l, ef), (omega (arith, l, ep), omega (arith, h .sizes .turfs)))
+    module _ (t : Bool) (i : t ≡ member (m .row) (take (s .nodes) (array n (at + kept) w₁))) where
+      here : member (m .row) (take (s .nodes) (array n (nodesAt n e + kept) w₁)) ≡ t
+      here = sym (i ∙ ap (λ (x : ℕ). member (m .row) (take (s .nodes) (array n (x + kept) w₁))) ea)
 
-    in-nodes : (t : Bool) → t ≡ member (m .row) (take (s .nodes) (array n first (set w k (z + 1)))) → (es : List Event) → member (m .row) (view n e kept s w es .reach .nodes) ≡ t
-    unfolding view
-    in-nodes t i es =
-        sym (i ∙ ap (λ (f : ℕ). member (m .row) (take (s .nodes) (array n f (set w k (z + 1))))) ef
-        ∙ ap (λ (l : List ℕ). member (m .row) (take (s .nodes) l)) (array-far n (nodesAt n e + kept) k (z + 1) w (inl (omega arith)))
-        ∙ ap (member (m .row)) (nodes-array n e w (h .words) kept (s .nodes) (h .nodes) (h .line .line .few)))
+      before : (es : List Event) → member (m .row) (view n e kept s w es .reach .nodes) ≡ t
+      before es =
+          in-nodes h (m .row) es
+          ∙ ap (λ (l : List ℕ). member (m .row) (take (s .nodes) l)) (sym (array-far n (nodesAt n e + kept) k (z + 1) w (inl (omega arith)))) ∙ here
 
-    pub edge-old : true ≡ member (m .row) (take (s .nodes) (array n first (set w k (z + 1)))) → Moves n e kept (edgeTo m k z) s s w (set w k (z + 1))
-    unfolding view
-    edge-old i = record {
-      fit = edge-fit;
-      used = refl;
-      same = λ es. ap (viewIn kept s es) owned ∙ ap (λ (r : Reach). onReach (λ _. r) (view n e kept s w es)) (edge-known m k z _ on (in-nodes true i es));
-    }
+    pub edge-old : true ≡ member (m .row) (take (s .nodes) (array n (at + kept) w₁)) → Moves n e kept (edgeTo m k z) s s w w₁
+    edge-old i = moves-as (edgeTo m k z) owned (λ es. edge-known m k z _ on (before true i es))
 
-    pub edge-more : m .row < n → kept + s .nodes < n + e → false ≡ member (m .row) (take (s .nodes) (array n first (set w k (z + 1)))) → (w′ : List ℕ)
-        → w′ ≡ set (set (set w k (z + 1)) (first + s .nodes) (m .row)) (places + m .row) (s .nodes)
-        → Moves n e kept (edgeTo m k z) s (record { queued = s .queued; nodes = s .nodes + 1; ignored = s .ignored; used = s .used }) w w′
-    unfolding view
-    edge-more hm room i w′ ew =
-        let w₁ : List ℕ = set w k (z + 1) in
-        let a : ℕ = m .row in
-        let ns : List ℕ = region (sizes n e) 12 w in
-        let t : Reached = record { queued = s .queued; nodes = s .nodes + 1; ignored = s .ignored; used = s .used } in
-        let e₁ : w′ ≡ set (set w₁ (nodesAt n e + kept + s .nodes) a) (placesAt n e + a) (s .nodes) = ew ∙ ap₂ (λ (f p : ℕ). set (set w₁ (f + s .nodes) a) (p + a) (s .nodes)) ef ep in
-        let c₂ = cut-set (sizes n e) w₁ 12 (kept + s .nodes) a (nodesAt n e + kept + s .nodes) (omega arith) room (omega arith) in
-        let c₃ = cut-set (sizes n e) (set w₁ (nodesAt n e + kept + s .nodes) a) 6 a (s .nodes) (placesAt n e + a) (omega arith) hm (omega arith) in
-        let c : cut (sizes n e) w′ ≡ set (set (set (cut (sizes n e) w) 0 (set (region (sizes n e) 0 w) k (z + 1))) 12 (set ns (kept + s .nodes) a)) 6 (set (region (sizes n e) 6 w) a (s .nodes)) =
-        ap (cut (sizes n e)) e₁ ∙ c₃ ∙ ap (λ (ws : List (List ℕ)). set ws 6 (set (getD ws 6 []) a (s .nodes))) (c₂ ∙ ap (λ (ws : List (List ℕ)). set ws 12 (set (getD ws 12 []) (kept + s .nodes) a)) owned) in
-        let long : length ns ≡ n + e = nodes-long n e w (h .words) in
-        let new : take (s .nodes + 1) (drop kept (set ns (kept + s .nodes) a)) ≡ snoc (take (s .nodes) (drop kept ns)) a =
-        ap (take (s .nodes + 1)) (drop-set-add kept ns (s .nodes) a) ∙ ap (λ (j : ℕ). take j (set (drop kept ns) (s .nodes) a)) (add-one (s .nodes))
-        ∙ take-suc-set (drop kept ns) (s .nodes) a (simp (length-drop, long) (omega arith)) in
-        let old : take kept (set ns (kept + s .nodes) a) ≡ take kept ns = take-set-le kept ns (kept + s .nodes) a (omega arith) in
-        record {
-          fit = record {
-            sizes = h .sizes;
-            words = rw e₁ (simp length-set (h .words));
-            nodes = omega arith;
-            queue = h .queue;
-            line = rw e₁ (holds-more (edge-fit .line) a hm (sym (i ∙ ap (λ (f : ℕ). member a (take (s .nodes) (array n f w₁))) ef)) (omega arith));
-          };
-          used = refl;
-          same = λ es.
-              ap (viewIn kept t es) c
-              ∙ ap₂ (λ (x y : List ℕ). onReach (λ r. record { found = r .found; queue = r .queue; nodes = x; owner = set (r .owner) k (z + 1); ignored = r .ignored; events = r .events })
-              (record { reach = view n e kept s w es .reach; still = record { reverse = view n e kept s w es .still .reverse; direction = view n e kept s w es .still .direction; via = view n e kept s w es .still .via; fast = view n e kept s w es .still .fast; list = view n e kept s w es .still .list; cursor = view n e kept s w es .still .cursor; live = view n e kept s w es .still .live; starts = view n e kept s w es .still .starts; before = y; rest = view n e kept s w es .still .rest } })) new old
-              ∙ ap (λ (r : Reach). onReach (λ _. r) (view n e kept s w es)) (edge-new m k z _ on (in-nodes false i es));
-        }
+    module _ (hm : m .row < n) (room : kept + s .nodes < n + e) (i : false ≡ member (m .row) (take (s .nodes) (array n (at + kept) w₁))) where
+      pub edge-room : (at + kept + s .nodes < length w₁) × ((places + m .row < length w₁) × (s .nodes < 4096))
+      edge-room =
+          let l = owned .fit .words in
+          let c : s .nodes < n = count-below (owned .fit .line .line) (m .row) hm (here false i) in
+          (omega (arith, l, ea), (omega (arith, l, ep), omega (arith, h .sizes .turfs)))
+
+      pub edge-more : (w′ : List ℕ) → w′ ≡ set (set w₁ (at + kept + s .nodes) (m .row)) (places + m .row) (s .nodes)
+          → Moves n e kept (edgeTo m k z) s (record { queued = s .queued; nodes = s .nodes + 1; ignored = s .ignored; used = s .used }) w w′
+      edge-more w′ ew =
+          rw (ew ∙ ap₂ (λ (x p : ℕ). set (set w₁ (x + kept + s .nodes) (m .row)) (p + m .row) (s .nodes)) ea ep)
+          (moves-as (edgeTo m k z) (moves-then owned (join-more (owned .fit) (m .row) hm room (here false i))) (λ es. edge-new m k z _ on (before false i es)))
 
 -- ---- a push
 
@@ -258,6 +312,3 @@ module _ (a : ℕ) (s : Reached) (kept n e : ℕ) (w : List ℕ) (h : Fit n e ke
     used = refl;
     same = λ es. ap (viewIn kept s es) (cut-set (sizes n e) w 8 a 1 at (omega arith) ha (omega arith));
   }
-
-pub moves-then : {n e kept : ℕ} {f g : Reach → Reach} {s s′ s″ : Reached} {w w′ w″ : List ℕ} → Moves n e kept f s s′ w w′ → Moves n e kept g s′ s″ w′ w″ → Moves n e kept (λ r. g (f r)) s s″ w w″
-moves-then {g = g} d d′ = record { fit = d′ .fit; used = d′ .used ∙ d .used; same = λ es. d′ .same es ∙ ap (onReach g) (d .same es) }

@@ -12,9 +12,8 @@ use Rattle.index_set.specs.Line.{Holds}
 use Rattle.events.specs.Events.{encodeAll}
 use Rattle.events.specs.Area.{Wrote}
 use Rattle.events.specs.declared.Event.{Event}
-use Rattle.flood_fill.specs.Fill.{Reach, Fill}
+use Rattle.flood_fill.specs.Fill.{Reach}
 use Rattle.flood_fill.specs.declared.Reached.{Reached}
-use Rattle.flood_fill.specs.declared.Flood.{Flood}
 
 -- ---- the words
 
@@ -98,27 +97,10 @@ onReach f v = record { reach = f (v .reach); still = v .still }
 abbrev pub withEvents : Bool → List Event → Reach → Reach
 withEvents ignored es r = record { found = r .found; queue = r .queue; nodes = r .nodes; owner = r .owner; ignored = ignored; events = es }
 
--- the same with the fill that the walk is part of
-pub record FillView : Type 0 where
-  pub fill : Fill
-  pub still : Still
-
-abbrev pub fillIn : Flood → View → FillView
-fillIn t v = record {
-  fill = record { reach = v .reach; popped = t .popped; moles = t .moles; planet = t .planet; tests = t .tests; state = t .state };
-  still = v .still;
-}
-
-abbrev pub fillView : ℕ → ℕ → ℕ → Flood → List ℕ → List Event → FillView
-fillView n e kept t w es = fillIn t (view n e kept (t .reach) w es)
-
-abbrev pub onFill : (Fill → Fill) → FillView → FillView
-onFill f v = record { fill = f (v .fill); still = v .still }
-
 -- ---- what a function does
 
 -- By the step f from what `v` shows to what `v′` shows, whatever events were written before; more events are written, and every other byte is as it was.
-pub record Does {S : Type 0} (f : S → S) (v v′ : List Event → S) (used used′ : ℕ) (area area′ : List ℕ) : Type 0 where
+pub record Does {S R : Type 0} (f : S → R) (v : List Event → S) (v′ : List Event → R) (used used′ : ℕ) (area area′ : List ℕ) : Type 0 where
   pub more : List Event
   pub same : (es : List Event) → v′ (es ++ more) ≡ f (v es)
   pub wrote : Wrote (encodeAll more) used used′ area area′

@@ -36,16 +36,6 @@ pub struct Met {
     pub planet: bool,
 }
 
-// How far a fill has come.
-pub struct Flood {
-    pub reach: Reached,
-    pub popped: usize,
-    pub moles: f32,
-    pub planet: bool,
-    pub tests: usize,
-    pub state: Going,
-}
-
 // Where the arrays start that a fill works with, of n turfs and e links.
 pub fn queue_at(n: usize, e: usize) -> usize
     requires { ⌜ Sizes n e ⌝ }
@@ -258,7 +248,7 @@ fn reach(
 }
 
 // The links of the turf with this id, handed on as a part of the link list that starts at `from`.
-fn reach_links(
+pub fn reach_links(
     near: &[u32],
     from: usize,
     z: u32,

@@ -55,7 +55,7 @@ returns-2 c = edge-old _ _ _ _ _ _ _ _ (c .before .before .before .before .befor
 
 -- src/lib.rt:140:5
 insert-requires : tie.Need-insert-requires
-insert-requires c κs = edge-room (c .before .before .before .before .before .before .before .before .before .args .m) _ _ _ _ _ _ _ (c .before .before .before .before .before .before .before .before .before .pre .0) (c .before .before .before .before .before .before .before .before .before .pre .1 .0) (not-false _ (c .before .before .before .before .before .before .if1 .left)) _ _ (c .before .before .before .before .nodes-at .ensures) (c .before .before .before .before .before .places-at .ensures) (c .before .before .before .before .before .before .before .before .before .pre .1 .1 .0) (sym (c .before .if2 .left) ∙ c .before .before .contains .ensures) (c .before .before .before .before .before .before .before .before .before .pre .1 .1 .1 .1)
+insert-requires c κs = edge-room (c .before .before .before .before .before .before .before .before .before .args .m) _ _ _ _ _ _ _ (c .before .before .before .before .before .before .before .before .before .pre .0) (c .before .before .before .before .before .before .before .before .before .pre .1 .0) (not-false _ (c .before .before .before .before .before .before .if1 .left)) _ _ (c .before .before .before .before .nodes-at .ensures) (c .before .before .before .before .before .places-at .ensures) (c .before .before .before .before .before .before .before .before .before .pre .1 .1 .0) (c .before .before .before .before .before .before .before .before .before .pre .1 .1 .1 .1) (sym (c .before .if2 .left) ∙ c .before .before .contains .ensures)
 
 -- src/lib.rt:143:16
 add-t14 : tie.Need-add-t14
