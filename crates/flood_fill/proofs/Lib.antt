@@ -3,3 +3,8 @@ pub mod Joins
 pub mod Counts
 pub mod Rest
 pub mod Owned
+pub mod Does
+pub mod Stores
+pub mod Asks
+pub mod Bounds
+pub mod Links

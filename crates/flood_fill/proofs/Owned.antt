@@ -36,7 +36,7 @@ mark-stays xs a x l e = go (ℕ-discrete x a)
 unlike : (x y : ℕ) → isMark x ≡ true → y ≡ 0 → x ≢ y
 unlike x y e z i = subst T (sym (ap isMark (sym (i ∙ z)) ∙ e)) tt
 
-insert-length : (x : ℕ) (xs : List ℕ) → length (insert x xs) ≤ length xs + 1
+pub insert-length : (x : ℕ) (xs : List ℕ) → length (insert x xs) ≤ length xs + 1
 unfolding insert
 insert-length x xs = go (member x xs)
   where
@@ -240,10 +240,9 @@ module _ (b : Board) {n : ℕ} (h : Accepted b n) (z : ℕ) (owner₀ : List ℕ
             (ltb allowance (s .tests + 1)) (planet && ltb limit (length (s .reach .nodes)))
 
     -- A fill from a turf that no zone found, where links of unfound turfs aren't owned.
-    pub fill-fresh : (r : ℕ) (found : List ℕ) (events : List Event) (tests : ℕ) → length found ≡ turfCount b → length owner₀ ≡ linkCount b → r < turfCount b → getD found r 0 ≡ 0
-        → ((k : ℕ) → getD found (src k) 0 ≡ 0 → getD owner₀ k 0 ≡ 0) → FillFresh (fill b gas limit allowance z r found owner₀ events tests)
-    unfolding fill
-    fill-fresh r found events tests l m i e u = times-keeps FillFresh (popNext b gas limit allowance z) next-fresh (turfCount b) (startFill r found owner₀ events tests) (record {
+    pub pops-fresh : (pops r : ℕ) (found : List ℕ) (events : List Event) (tests : ℕ) → length found ≡ turfCount b → length owner₀ ≡ linkCount b → r < turfCount b → getD found r 0 ≡ 0
+        → ((k : ℕ) → getD found (src k) 0 ≡ 0 → getD owner₀ k 0 ≡ 0) → FillFresh (times (popNext b gas limit allowance z) pops (startFill r found owner₀ events tests))
+    pops-fresh pops r found events tests l m i e u = times-keeps FillFresh (popNext b gas limit allowance z) next-fresh pops (startFill r found owner₀ events tests) (record {
       marks = length-set found r 1 ∙ l;
       links = m;
       apart = (tt, tt);
@@ -258,3 +257,8 @@ module _ (b : Board) {n : ℕ} (h : Accepted b n) (z : ℕ) (owner₀ : List ℕ
 
         zero-only : (j : ℕ) → j < 1 → j ≡ 0
         zero-only j c = omega arith
+
+    pub fill-fresh : (r : ℕ) (found : List ℕ) (events : List Event) (tests : ℕ) → length found ≡ turfCount b → length owner₀ ≡ linkCount b → r < turfCount b → getD found r 0 ≡ 0
+        → ((k : ℕ) → getD found (src k) 0 ≡ 0 → getD owner₀ k 0 ≡ 0) → FillFresh (fill b gas limit allowance z r found owner₀ events tests)
+    unfolding fill
+    fill-fresh r found events tests l m i e u = pops-fresh (turfCount b) r found events tests l m i e u

@@ -1,2 +1,4 @@
 pub mod Fill
+pub mod Steps
+pub mod Held
 pub mod Worked

@@ -1,0 +1,72 @@
+-- What accepted tables give the functions that read them. Assumes nothing.
+use Prim.Native.Nat.{ℕ, _+_, _-_, _*_, _≤_, _<_}
+use native.Mathlib.Omega.{arith}
+use mathlib.Core.Path.{_≡_, refl, ap, _∙_, sym, subst}
+use mathlib.Core.List.{List, []}
+use mathlib.Core.Bool.{Bool, true, false}
+use lib.Dec.{T}
+use lib.Ieee.{Float}
+use lib.ListN.{length, getD, take, drop, length-drop}
+use lib.Seq.{getD-take, getD-drop, length-take-le}
+use Rattle.basics.specs.Loops.{upFrom}
+use Rattle.basics.proofs.Loops.{All-getD}
+use Rattle.basics.proofs.Lists.{upFrom-at, upFrom-length}
+use Rattle.turfs.specs.Board.{Board, turfCount, linkCount, mixtureCount, mixOf, linksOf}
+use Rattle.turfs.specs.Tables.{Parts}
+use Rattle.turfs.proofs.Accepted.{Accepted, source, sources}
+use Rattle.turfs.proofs.Tables.{parts-of}
+use Rattle.mixture.specs.Steps.{Holds}
+use Rattle.mixture.proofs.Moves.{before}
+use Rattle.flood_fill.specs.Steps.{Rows}
+use Rattle.flood_fill.specs.Held.{Part, Sizes}
+use Rattle.fill_zone.specs.Held.{Free}
+
+true-of : (t : Bool) → T t → t ≡ true
+true-of true h = refl
+true-of false h = absurd h
+
+-- the part of a list from one place to another
+abbrev pub part : List ℕ → ℕ → ℕ → List ℕ
+part l from to = take (to - from) (drop from l)
+
+pub part-length : (l : List ℕ) (from to : ℕ) → from ≤ to → to ≤ length l → length (part l from to) ≡ to - from
+part-length l from to h k = length-take-le (to - from) (drop from l) (simp length-drop (omega arith))
+
+pub part-at : (l : List ℕ) (from to i : ℕ) → i < to - from → getD (part l from to) i 0 ≡ getD l (from + i) 0
+part-at l from to i h = getD-take (to - from) (drop from l) i 0 h ∙ getD-drop from l i 0
+
+module _ {b : Board} {m : ℕ} (h : Accepted b m) where
+  pub sizes-of : Sizes (turfCount b) (linkCount b)
+  sizes-of = record { turfs = h .turfs .1; links = h .links }
+
+  pub parts : Parts (turfCount b) (b .starts) (b .neighbours)
+  parts = parts-of (turfCount b) (b .starts) (b .neighbours) (h .turfs .1) (h .starts) (true-of _ (h .rises)) (h .last)
+
+  pub rows-of : Rows (turfCount b) (linkCount b) (b .flags) (b .planetary) (b .mixtures) (b .linkFlags) (b .immutable)
+  rows-of = record { flags-n = h .flags; planetary-n = h .planets; mixtures-n = h .mixes; mixed = λ r _. h .mixed r; linkFlags-e = h .linkFlags }
+
+  pub gas-holds : (gas : List Float) → m ≡ length gas → (r : ℕ) → Holds gas (b .gases) (mixOf b r)
+  gas-holds gas e r = subst (λ (k : ℕ). mixOf b r * b .gases + b .gases ≤ k) (sym (h .fits) ∙ e) (before (b .gases) (h .mixed r))
+
+  module _ (r : ℕ) (l : r < turfCount b) where
+    -- a link of the row is of no other
+    pub source-is : (k : ℕ) → getD (b .starts) r 0 ≤ k → k < getD (b .starts) (r + 1) 0 → source (b .starts) k ≡ r
+    unfolding linksOf
+    source-is k a c =
+        let from : ℕ = getD (b .starts) r 0 in
+        let deg : ℕ = getD (b .starts) (r + 1) 0 - from in
+        let s : source (b .starts) (getD (upFrom from deg) (k - from) 0) ≡ r = All-getD (λ j. source (b .starts) j ≡ r) (upFrom from deg) (k - from) 0 (sources b h r) (rw (upFrom-length from deg) (omega arith)) in
+        ap (source (b .starts)) (sym (upFrom-at from deg (k - from) (omega arith) ∙ omega arith)) ∙ s
+
+    -- its links, handed on as a part of the link list
+    pub part-fits : (from to : ℕ) → from ≡ getD (b .starts) r 0 → to ≡ getD (b .starts) (r + 1) 0 → (w : List ℕ) → Free (b .starts) r w
+        → Part (turfCount b) (linkCount b) (part (b .neighbours) from to) from w
+    part-fits from to ef et w free =
+        let rise = parts .rise r l in
+        let end = parts .end r l in
+        let len : length (part (b .neighbours) from to) ≡ to - from = part-length (b .neighbours) from to (omega arith) (omega arith) in
+        record {
+          rows = λ i j. rw (part-at (b .neighbours) from to i (omega (arith, len))) (h .ends (from + i));
+          links = omega (arith, len);
+          free = λ i j. free (from + i) (omega arith) (omega (arith, len));
+        }

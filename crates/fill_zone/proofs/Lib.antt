@@ -1,0 +1,4 @@
+pub mod Boards
+pub mod Links
+pub mod Pops
+pub mod Zones

@@ -1,0 +1,77 @@
+-- The links of a turf, as a part of the link list, are the definition's walk over them. Assumes nothing.
+use Prim.Native.Nat.{ℕ, zero, suc, _+_, _-_, _≤_, _<_}
+use native.Mathlib.Omega.{arith}
+use native.Mathlib.Nat.{add-zero}
+use mathlib.Core.Path.{_≡_, refl, ap, _∙_, sym, subst}
+use mathlib.Core.List.{List, [], _∷_, _++_, append-nil, append-assoc}
+use mathlib.Core.Bool.{Bool, true, false, not, _&&_, _||_, cond}
+use lib.Dec.{eqb}
+use lib.ListN.{length, getD, set, take, drop}
+use Rattle.basics.specs.Loops.{run, upFrom, snoc}
+use Rattle.basics.proofs.Loops.{All, All-imp, run-both}
+use Rattle.basics.proofs.Lists.{upFrom-below}
+use Rattle.turfs.specs.Board.{Board, turfCount, linkCount, idOf, end, enabled, planetary, immutable, firelock, linksOf}
+use Rattle.events.specs.declared.Event.{Event}
+use Rattle.events.specs.declared.Event.the-variants.{DepressurizeWanted, PlanetWanted}
+use Rattle.flood_fill.specs.Fill.{Reach, insert, reachLink}
+use Rattle.flood_fill.specs.Steps.{metAt, edgeTo, mark, push, askSpace, askPlanet, discover, reachMet, reachPart}
+use Rattle.fill_zone.proofs.Boards.{part, part-length, part-at}
+
+module _ (b : Board) (z r k : ℕ) where
+  abbrev a : ℕ
+  a = end b k
+
+  abbrev asks : Bool → Bool → List Event
+  asks x y = cond x (DepressurizeWanted (idOf b r) ∷ []) [] ++ cond y (PlanetWanted (idOf b r) ∷ []) []
+
+  -- the definition's link is the code's
+  pub link-met : (s : Reach) → reachMet (metAt (b .flags) (b .planetary) (b .mixtures) (b .linkFlags) (b .immutable) k a) k z (idOf b r) s ≡ reachLink b z r k s
+  unfolding reachLink reachMet metAt edgeTo mark push askSpace askPlanet discover enabled planetary immutable firelock
+  link-met s = go (eqb (getD (s .found) a 0) 0) (s .ignored)
+    where
+      on : Bool
+      on = enabled b a
+
+      sp : Bool
+      sp = immutable b a
+
+      pl : Bool
+      pl = planetary b a && firelock b k
+
+      same : List ℕ → Bool → List Event → Reach
+      same q ig es = record { found = set (s .found) a 1; queue = q; nodes = cond on (insert a (s .nodes)) (s .nodes); owner = cond on (set (s .owner) k (z + 1)) (s .owner); ignored = ig; events = es }
+
+      go : (t ig : Bool)
+          → cond t (cond ig (same (cond on (snoc (s .queue) a) (s .queue)) ig (s .events)) (same (cond on (snoc (s .queue) a) (s .queue)) (ig || sp) ((s .events ++ cond sp (DepressurizeWanted (idOf b r) ∷ []) []) ++ cond pl (PlanetWanted (idOf b r) ∷ []) []))) (same (s .queue) ig (s .events))
+          ≡ same (cond (t && on) (snoc (s .queue) a) (s .queue)) (ig || (t && not ig && sp)) (s .events ++ asks (t && not ig && sp) (t && not ig && pl))
+      go true true = ap (same (cond on (snoc (s .queue) a) (s .queue)) true) (sym (append-nil (s .events)))
+      go true false = ap (same (cond on (snoc (s .queue) a) (s .queue)) sp) (append-assoc (s .events) (cond sp (DepressurizeWanted (idOf b r) ∷ []) []) (cond pl (PlanetWanted (idOf b r) ∷ []) []))
+      go false true = ap (same (s .queue) true) (sym (append-nil (s .events)))
+      go false false = ap (same (s .queue) false) (sym (append-nil (s .events)))
+
+run-shift : {S : Type 0} (f : ℕ → S → S) (from j m : ℕ) (s : S) → run (λ i t. f (from + i) t) (upFrom j m) s ≡ run f (upFrom (from + j) m) s
+unfolding run upFrom
+run-shift f from j zero s = refl
+run-shift f from j (suc m) s = run-shift f from (suc j) m (f (from + j) s) ∙ ap (λ (k : ℕ). run f (upFrom k m) (f (from + j) s)) (omega arith)
+
+-- a walk over a part by its places is a walk over the list by its own
+pub part-run : {S : Type 0} (f : ℕ → ℕ → S → S) (l : List ℕ) (from to : ℕ) → from ≤ to → to ≤ length l → (s : S)
+    → run (λ i t. f (from + i) (getD (part l from to) i 0) t) (upFrom 0 (length (part l from to))) s ≡ run (λ k t. f k (getD l k 0) t) (upFrom from (to - from)) s
+part-run {S} f l from to h k s =
+    rw (part-length l from to h k)
+    (run-both (λ i. i < to - from) (λ u v. u ≡ v) (λ i t. f (from + i) (getD (part l from to) i 0) t) (λ i t. f (from + i) (getD l (from + i) 0) t)
+    (λ i u v q e. rw (part-at l from to i q) (ap (f (from + i) (getD l (from + i) 0)) e)) (upFrom 0 (to - from)) s s
+    (All-imp (λ i. i < 0 + (to - from)) (λ i. i < to - from) (upFrom 0 (to - from)) (λ i q. omega arith) (upFrom-below 0 (to - from))) refl
+    ∙ run-shift (λ j t. f j (getD l j 0) t) from 0 (to - from) s
+    ∙ ap (λ (j : ℕ). run (λ i t. f i (getD l i 0) t) (upFrom j (to - from)) s) (add-zero from))
+
+-- the links of the turf r
+pub links-run : (b : Board) (z r from to : ℕ) → from ≡ getD (b .starts) r 0 → to ≡ getD (b .starts) (r + 1) 0 → from ≤ to → to ≤ linkCount b → (s : Reach)
+    → run (reachPart (b .flags) (b .planetary) (b .mixtures) (b .linkFlags) (b .immutable) (part (b .neighbours) from to) from z (idOf b r)) (upFrom 0 (length (part (b .neighbours) from to))) s
+    ≡ run (reachLink b z r) (linksOf b r) s
+unfolding reachPart linksOf
+links-run b z r from to ef et h k s =
+    part-run (λ j x t. reachMet (metAt (b .flags) (b .planetary) (b .mixtures) (b .linkFlags) (b .immutable) j x) j z (idOf b r) t) (b .neighbours) from to h k s
+    ∙ run-both (λ j. Unit {0}) (λ u v. u ≡ v) (λ j t. reachMet (metAt (b .flags) (b .planetary) (b .mixtures) (b .linkFlags) (b .immutable) j (end b j)) j z (idOf b r) t) (reachLink b z r)
+    (λ j u v _ e. link-met b z r j u ∙ ap (reachLink b z r j) e) (upFrom from (to - from)) s s (All-imp (λ i. i < from + (to - from)) _ (upFrom from (to - from)) (λ i q. tt) (upFrom-below from (to - from))) refl
+    ∙ rw (ef, et)

@@ -1,0 +1,74 @@
+-- How the work area holds a whole fill, before it and while it goes on, and what a function of it promises.
+use Prim.Native.Nat.{ℕ, _+_, _*_, _≤_, _<_}
+use mathlib.Core.Path.{_≡_}
+use mathlib.Core.List.{List, []}
+use mathlib.Core.Bool.{Bool, true, false}
+use lib.ListN.{length, getD}
+use lib.Ieee.{Float}
+use Rattle.basics.specs.Loops.{times}
+use Rattle.basics.specs.Floats.{0f}
+use Rattle.turfs.specs.Board.{Board, turfCount, linkCount}
+use Rattle.turfs.proofs.Accepted.{source}
+use Rattle.events.specs.declared.Event.{Event}
+use Rattle.flood_fill.specs.Fill.{Reach, Fill, isOn, popNext, fill}
+use Rattle.flood_fill.specs.Held.{nodesAt, Still, View, view, Fit, Bounded, Does, zeros}
+use Rattle.flood_fill.proofs.Steps.{startFill}
+use Rattle.flood_fill.specs.declared.Reached.{Reached}
+use Rattle.fill_zone.specs.declared.Flood.{Flood}
+
+-- what the words hold while a fill goes on
+pub record FillView : Type 0 where
+  pub fill : Fill
+  pub still : Still
+
+abbrev pub fillIn : Flood → View → FillView
+fillIn t v = record {
+  fill = record { reach = v .reach; popped = t .popped; moles = t .moles; planet = t .planet; tests = t .tests; state = t .state };
+  still = v .still;
+}
+
+abbrev pub fillView : ℕ → ℕ → ℕ → Flood → List ℕ → List Event → FillView
+fillView n e kept t w es = fillIn t (view n e kept (t .reach) w es)
+
+abbrev pub onFill : (Fill → Fill) → FillView → FillView
+onFill f v = record { fill = f (v .fill); still = v .still }
+
+-- nothing is reached yet
+abbrev pub none : ℕ → Reached
+none used = record { queued = 0; nodes = 0; ignored = false; used = used }
+
+-- a fill from what was found and owned before it
+abbrev pub fillFrom : (List ℕ → List ℕ → List Event → Fill) → View → FillView
+fillFrom f v = record { fill = f (v .reach .found) (v .reach .owner) (v .reach .events); still = v .still }
+
+-- from t, w to t′, w′ by the step f of the fill
+pub record Floods (n e z kept : ℕ) (f : Fill → Fill) (t t′ : Flood) (w w′ area area′ : List ℕ) : Type 0 where
+  pub fit : Fit n e kept (t′ .reach) w′
+  pub bounds : Bounded n e z kept (view n e kept (t′ .reach) w′ [] .reach) (t′ .reach .used) area′
+  pub does : Does (onFill f) (fillView n e kept t w) (fillView n e kept t′ w′) (t .reach .used) (t′ .reach .used) area area′
+
+-- to the fill's first turf, with no event written
+pub record Starts (n e kept used : ℕ) (f : List ℕ → List ℕ → List Event → Fill) (t : Flood) (w w′ : List ℕ) : Type 0 where
+  pub fit : Fit n e kept (t .reach) w′
+  pub same : (es : List Event) → fillView n e kept t w′ es ≡ fillFrom f (view n e kept (none used) w es)
+
+-- by a fill f that starts from what the words hold
+pub record Begins (n e z kept used : ℕ) (f : List ℕ → List ℕ → List Event → Fill) (t : Flood) (w w′ area area′ : List ℕ) : Type 0 where
+  pub fit : Fit n e kept (t .reach) w′
+  pub bounds : Bounded n e z kept (view n e kept (t .reach) w′ [] .reach) (t .reach .used) area′
+  pub does : Does (fillFrom f) (view n e kept (none used) w) (fillView n e kept t w′) used (t .reach .used) area area′
+
+-- the links of the row r, by its starts, have no owner yet
+abbrev pub Free : List ℕ → ℕ → List ℕ → Type 0
+Free starts r w = (k : ℕ) → getD starts r 0 ≤ k → k < getD starts (r + 1) 0 → getD w k 0 ≡ 0
+
+-- what a fill of zone z from the row r is asked: a turf that no zone found, the links of such turfs without owner, room
+pub record Ready (b : Board) (z kept used r : ℕ) (w area : List ℕ) : Type 0 where
+  pub row : r < turfCount b
+  pub zone : z < turfCount b
+  pub words : nodesAt (turfCount b) (linkCount b) + turfCount b + linkCount b + turfCount b ≤ length w
+  pub new : getD (view (turfCount b) (linkCount b) kept (none used) w [] .reach .found) r 0 ≡ 0
+  pub unowned : (k : ℕ) → getD (view (turfCount b) (linkCount b) kept (none used) w [] .reach .found) (source (b .starts) k) 0 ≡ 0
+      → getD (view (turfCount b) (linkCount b) kept (none used) w [] .reach .owner) k 0 ≡ 0
+  pub nodes : kept + zeros (view (turfCount b) (linkCount b) kept (none used) w [] .reach .owner) ≤ z + linkCount b
+  pub bytes : used + 16 * zeros (view (turfCount b) (linkCount b) kept (none used) w [] .reach .found) ≤ length area
