@@ -15,7 +15,7 @@ use Rattle.turfs.specs.Board.{Board, turfCount, linkCount, mixtureCount, mixOf,
 use Rattle.turfs.specs.Tables.{Parts}
 use Rattle.turfs.proofs.Accepted.{Accepted, source, sources}
 use Rattle.turfs.proofs.Tables.{parts-of}
-use Rattle.mixture.specs.Steps.{Holds}
+use Rattle.mixture.specs.Moves.{Holds}
 use Rattle.mixture.proofs.Moves.{before}
 use Rattle.flood_fill.specs.Steps.{Rows}
 use Rattle.flood_fill.specs.Held.{Part, Sizes}

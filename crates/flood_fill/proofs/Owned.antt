@@ -13,7 +13,7 @@ use lib.ListN.{length, getD, set, length-set, length-append, List·getD-append}
 use lib.Seq.{getD-set-same, getD-set-other, getD-at}
 use lib.Ieee.{Float}
 use borrow.Author.Tests.{eqb-true, ne-eqb}
-use Rattle.basics.specs.Loops.{run, member, snoc}
+use Rattle.basics.specs.Loops.{run, member, snoc, times}
 use Rattle.basics.proofs.Loops.{All, All-imp, All-getD, times-keeps, and-right}
 use Rattle.basics.proofs.Lists.{All-snoc, Apart, apart-snoc, apart-at}
 use Rattle.turfs.specs.Board.{Board, turfCount, linkCount, end, enabled, planetary, linksOf}

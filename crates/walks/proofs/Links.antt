@@ -60,8 +60,8 @@ module _ (ids near locks : List ℕ) (row i : ℕ) (s : Reach) (w e : List ℕ) 
     pub count-less : s .count < n
     count-less = count-below (h .line) a row-below (sym new)
 
-    pub lock-room : s .used + length (encode (Firelock (getD ids row 0) (getD ids a 0))) ≤ length e
-    lock-room = omega (arith, lock-size (getD ids row 0) (getD ids a 0), count-less, h .written, h .bytes)
+    pub lock-room : s .used + 12 ≤ length e
+    lock-room = omega (arith, count-less, h .written, h .bytes)
 
     abbrev stored : List ℕ
     stored = set (set w (0 + s .count) a) (n + a) (s .count)

@@ -74,8 +74,8 @@ module _ (ids : List ℕ) (row : ℕ) (s : Reach) (w e : List ℕ) (h : Fit (len
   more : take (s .spaces + 1) (set (region (sizes n) 2 w) (s .spaces) row) ≡ snoc (take (s .spaces) (region (sizes n) 2 w)) row
   more = rw add-one (take-suc-set (region (sizes n) 2 w) (s .spaces) row (omega (arith, spaces-less, cut-length (sizes n) w 2 (omega arith) (omega (arith, h .words)))))
 
-  pub target-room : s .used + length (encode (Target (getD ids row 0) (getD ids row 0))) ≤ length e
-  target-room = omega (arith, target-size (getD ids row 0) (getD ids row 0), h .written, h .past, h .line .few, v .counted, v .room)
+  pub target-room : s .used + 12 ≤ length e
+  target-room = omega (arith, h .written, h .past, h .line .few, v .counted, v .room)
 
   module _ (g : Reach) (e′ : List ℕ) (used : ℕ) (grown : g ≡ opened s used) (wr : Wrote (encode (Target (getD ids row 0) (getD ids row 0))) (s .used) used e e′) where
     opens : (es : List Event) → walkOf n (at g stored e′) (snoc es (Target (getD ids row 0) (getD ids row 0))) ≡ atSpace (links ids [] []) row (walkOf n (at s w e) es)

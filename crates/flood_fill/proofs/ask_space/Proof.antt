@@ -2,6 +2,7 @@ use borrow.Author.Tests.{not-true, not-false}
 use native.Mathlib.Omega.{arith}
 use Rattle.flood_fill.proofs.Asks.{space-none, space-one, space-size}
 use borrow.Author.Needs.{needs}
+use Rattle.events.proofs.Areas.{one-added}
 use Rattle.flood_fill.proofs.ask_space.Statement.{statement}
 use Rattle.flood_fill.proofs.ask_space.Tie as tie
 use Rattle.flood_fill.proofs.ask_space.Reads as reads
@@ -14,7 +15,7 @@ returns c = space-none _ _ _ _ (c .before .before .before .pre) (not-true _ (c .
 
 -- src/lib.rt:175:9
 append-requires : tie.Need-append-requires
-append-requires c κs = (tt, omega (arith, space-size (c .before .before .before .before .args .id), c .before .before .before .before .pre))
+append-requires c κs = (tt, omega (arith, c .before .before .before .before .pre))
 
 -- src/lib.rt:168:1
 same-length : tie.Need-same-length
@@ -22,7 +23,7 @@ same-length c = search needs
 
 -- src/lib.rt:168:1
 returns-2 : tie.Need-returns-2
-returns-2 c = space-one _ _ _ _ (not-false _ (c .before .before .before .before .if1 .left)) (c .before .before .append .ensures)
+returns-2 c = space-one _ _ _ _ (not-false _ (c .before .before .before .before .if1 .left)) (one-added _ (c .before .before .append .ensures))
 
 pub ask-space-spec : {M : Type 1} → statement M
 ask-space-spec = tie.close (tie.spec returns append-requires same-length returns-2)

@@ -2,6 +2,7 @@
 use denote.Ref.{now}
 use Rattle.walks.proofs.Visits.{spaces-less, target-room, does-open}
 use borrow.Author.Needs.{needs}
+use Rattle.events.proofs.Areas.{one-added}
 use Rattle.walks.proofs.at_space.Statement.{statement}
 use Rattle.walks.proofs.at_space.Tie as tie
 use Rattle.walks.proofs.at_space.Reads as reads
@@ -51,7 +52,7 @@ same-length-2 c = search needs
 
 -- src/lib.rt:248:1
 returns : tie.Need-returns
-returns c = does-open (now (c .before .before .before .before .before .before .before .before .before .before .args .ids)) _ _ _ _ (c .before .before .before .before .before .before .before .before .before .before .pre .0) (c .before .before .before .before .before .before .before .before .before .before .pre .1) _ _ _ (c .opened .ensures) (c .before .before .before .append .ensures)
+returns c = does-open (now (c .before .before .before .before .before .before .before .before .before .before .args .ids)) _ _ _ _ (c .before .before .before .before .before .before .before .before .before .before .pre .0) (c .before .before .before .before .before .before .before .before .before .before .pre .1) _ _ _ (c .opened .ensures) (one-added _ (c .before .before .before .append .ensures))
 
 pub at-space-spec : {M : Type 1} → statement M
 at-space-spec =

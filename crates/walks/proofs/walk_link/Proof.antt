@@ -5,6 +5,7 @@ use mathlib.Core.Path.{_∙_, sym}
 use denote.Ref.{now}
 use Rattle.walks.proofs.Links.{row-below, count-less, link-old, link-open, link-locked, lock-room}
 use borrow.Author.Needs.{needs}
+use Rattle.events.proofs.Areas.{one-added}
 use Rattle.walks.proofs.walk_link.Statement.{statement}
 use Rattle.walks.proofs.walk_link.Tie as tie
 use Rattle.walks.proofs.walk_link.Reads as reads
@@ -97,7 +98,7 @@ same-length-4 c = search needs
 
 -- src/lib.rt:108:1
 returns-3 : tie.Need-returns-3
-returns-3 c = link-locked _ _ _ _ _ _ _ _ (c .before .before .before .before .before .before .before .before .before .before .before .before .before .before .before .before .before .before .before .before .before .before .before .pre .0) (c .before .before .before .before .before .before .before .before .before .before .before .before .before .before .before .before .before .before .before .before .before .before .before .pre .1 .0) (c .before .before .before .before .before .before .before .before .before .before .before .before .before .before .before .before .before .before .before .before .before .before .before .pre .1 .1) (sym (c .before .before .before .before .before .before .before .before .before .before .before .before .before .before .if1 .left) ∙ c .before .before .before .before .before .before .before .before .before .before .before .before .before .before .before .contains .ensures) (sym (not-false _ (c .before .before .before .before .before .before .before .if2 .left)) ∙ c .before .before .before .before .before .before .before .before .firelock .ensures) _ _ _ _ (c .joined2 .ensures) (c .before .before .before .before .before .before .before .before .before .before .before .before .insert .ensures) (c .before .before .before .append .ensures)
+returns-3 c = link-locked _ _ _ _ _ _ _ _ (c .before .before .before .before .before .before .before .before .before .before .before .before .before .before .before .before .before .before .before .before .before .before .before .pre .0) (c .before .before .before .before .before .before .before .before .before .before .before .before .before .before .before .before .before .before .before .before .before .before .before .pre .1 .0) (c .before .before .before .before .before .before .before .before .before .before .before .before .before .before .before .before .before .before .before .before .before .before .before .pre .1 .1) (sym (c .before .before .before .before .before .before .before .before .before .before .before .before .before .before .if1 .left) ∙ c .before .before .before .before .before .before .before .before .before .before .before .before .before .before .before .contains .ensures) (sym (not-false _ (c .before .before .before .before .before .before .before .if2 .left)) ∙ c .before .before .before .before .before .before .before .before .firelock .ensures) _ _ _ _ (c .joined2 .ensures) (c .before .before .before .before .before .before .before .before .before .before .before .before .insert .ensures) (one-added _ (c .before .before .before .append .ensures))
 
 pub walk-link-spec : {M : Type 1} → statement M
 walk-link-spec =
