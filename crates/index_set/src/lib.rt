@@ -1,6 +1,6 @@
 // An `IndexSet` of rows in a work area: a row's place among them tells whether it is in the set.
 ghost use mathlib.Core.Path.{_≡_};
-ghost use Prim.Native.Nat.{_+_, _≤_, _<_};
+ghost use Prim.Native.Nat.{_+_, _<_};
 ghost use lib.ListN.{length, take, set};
 ghost use Rattle.basics.specs.Loops.{member};
 ghost use Rattle.index_set.specs.Line.{array, Holds};

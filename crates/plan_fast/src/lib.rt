@@ -1,6 +1,5 @@
 // `monstermos_fast_process`: the fast pass over the nodes of a zone.
 ghost use mathlib.Core.Path.{_≡_};
-ghost use mathlib.Core.List.{List};
 ghost use Prim.Native.Nat.{ℕ, _+_, _≤_, _<_};
 ghost use lib.ListN.{length, getD, take, drop};
 ghost use Rattle.basics.proofs.Loops.{Found};
@@ -14,7 +13,6 @@ ghost use Rattle.plan_fast.specs.Steps.{tallyStep, moveAt, fastVia};
 use basics::Spot;
 use plan_state::adjust_eq_movement;
 use plan_state::back_link;
-use plan_state::fast_at;
 use plan_state::load;
 use plan_state::store;
 use process_zone::MonstermosInfo;

@@ -2,11 +2,11 @@
 // is the tests.
 ghost use mathlib.Core.Path.{_≡_};
 ghost use mathlib.Core.Bool.{false, cond};
-ghost use mathlib.Core.List.{List, [], _∷_, reverse};
+ghost use mathlib.Core.List.{[], _∷_, reverse};
 ghost use Prim.Native.Nat.{ℕ, _+_, _-_, _≤_, _<_};
 ghost use lib.Dec.{eqb};
 ghost use lib.Ieee.{nan};
-ghost use lib.ListN.{length, getD, take, drop};
+ghost use lib.ListN.{length, getD, take};
 ghost use Rattle.basics.proofs.Loops.{Found};
 ghost use Rattle.basics.specs.Loops.{run, times, upFrom};
 ghost use Rattle.process_zone.specs.Edges.{edgesOf};
@@ -25,7 +25,6 @@ use plan_state::load;
 use plan_state::places_at;
 use plan_state::queue_at;
 use plan_state::store;
-use plan_state::via_at;
 use process_zone::MonstermosInfo;
 use process_zone::Side;
 

@@ -2,7 +2,7 @@
 // by link the owner and the reverse, then by row the direction, the link over which the turf was met, the fast mark, a queue, the places in it and a
 // list; the reals hold by link the weight, then by row the delta and the amount.
 ghost use mathlib.Core.Path.{_≡_};
-ghost use Prim.Native.Nat.{ℕ, _+_, _≤_, _<_};
+ghost use Prim.Native.Nat.{_+_, _≤_, _<_};
 ghost use lib.ListN.{length, getD, take, drop};
 ghost use Rattle.basics.proofs.Loops.{Found};
 ghost use Rattle.basics.specs.Floats.{_+f_, _-f_};
@@ -12,30 +12,6 @@ ghost use Rattle.plan_state.specs.Held.{area, view, Fit, Does};
 ghost use Rattle.plan_state.specs.Steps.{backLink, adjustAt};
 use basics::Spot;
 use process_zone::MonstermosInfo;
-
-// Where the directions start.
-pub fn direction_at(e: usize) -> usize
-    requires { ⌜ e ≤ 24576 ⌝ }
-    ensures { λ r. ⌜ r ≡ e + e ⌝ }
-{
-    e + e
-}
-
-// Where the links start over which turfs were met.
-pub fn via_at(n: usize, e: usize) -> usize
-    requires { ⌜ (e ≤ 24576) × (n ≤ 4096) ⌝ }
-    ensures { λ r. ⌜ r ≡ e + e + n ⌝ }
-{
-    e + e + n
-}
-
-// Where the fast marks start.
-pub fn fast_at(n: usize, e: usize) -> usize
-    requires { ⌜ (e ≤ 24576) × (n ≤ 4096) ⌝ }
-    ensures { λ r. ⌜ r ≡ e + e + n + n ⌝ }
-{
-    e + e + n + n
-}
 
 // Where the queue starts.
 pub fn queue_at(n: usize, e: usize) -> usize

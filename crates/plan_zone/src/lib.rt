@@ -1,12 +1,12 @@
 // `process_zone`: the weights of one zone's edges.
 ghost use mathlib.Core.Path.{_≡_};
 ghost use mathlib.Core.Bool.{cond};
-ghost use mathlib.Core.List.{List, []};
-ghost use Prim.Native.Nat.{ℕ, _+_, _-_, _≤_, _<_};
+ghost use mathlib.Core.List.{[]};
+ghost use Prim.Native.Nat.{_+_, _-_, _≤_, _<_};
 ghost use lib.Ieee.{nan};
 ghost use lib.ListN.{length, getD, take, set};
 ghost use Rattle.basics.specs.Loops.{run};
-ghost use Rattle.basics.specs.Floats.{0f, _-f_, _/f_};
+ghost use Rattle.basics.specs.Floats.{0f, _-f_};
 ghost use Rattle.mixture.specs.Mixture.{sum, total};
 ghost use Rattle.process_zone.specs.Plan.{store, log2, picks, chosen, serve, fastPass, shareOut, deltas, planZone};
 ghost use Rattle.process_zone.specs.declared.Side.the-variants.{Giving, Taking};

@@ -2,7 +2,6 @@
 // reverses. The n + n + e words from `work` on are worked with: by link the one before with the same end, by row the last link that ends there, by
 // row the link that leads there from the turf in hand.
 ghost use mathlib.Core.Path.{_≡_};
-ghost use mathlib.Core.List.{List};
 ghost use Prim.Native.Nat.{ℕ, _+_, _-_, _≤_, _<_};
 ghost use lib.ListN.{length, getD, set, take, drop};
 ghost use Rattle.turfs.specs.Board.{Board};

@@ -1,3 +1,4 @@
+-- The loop's invariant: the links left, counted on from here, come to all links counted from 0. Assumes nothing.
 use Prim.Native.Nat.{ℕ, _≤_, _<_, _-_, _+_}
 use native.Mathlib.Omega.{arith}
 use native.Mathlib.Nat.{sub-zero}
@@ -12,9 +13,6 @@ use Rattle.plan_fast.specs.Steps.{tallyStep}
 use Rattle.plan_fast.proofs.Moves.{tally-le}
 use Rattle.plan_fast.proofs.count_eligible.Statement.{statement}
 use Rattle.plan_fast.proofs.count_eligible.Tie as tie
-use Rattle.plan_fast.proofs.count_eligible.Reads as reads
-use Rattle.plan_fast.proofs.count_eligible.Lts as lts
-use Rattle.plan_fast.proofs.tally.Reads as tally-reads
 
 abbrev step : List ℕ → ℕ → ℕ → ℕ → ℕ → List ℕ → ℕ → ℕ → ℕ
 step part from z n e w j d = tallyStep (take e w) (take n (drop (e + e + n + n) w)) z (from + j) (getD part j 0) d
@@ -26,39 +24,30 @@ Inv-loop part from z n e words c₀ i₀ c i =
 abbrev μ-loop : tie.MeasureT-loop
 μ-loop part from z n e words c₀ i₀ c i = length part - i
 
--- src/lib.rt:39:5
 loop-holds : tie.Need-loop-holds Inv-loop μ-loop
 loop-holds c = ((omega arith, omega arith), rw sub-zero)
 
--- src/lib.rt:40:19
 add-tally : tie.Need-add-tally Inv-loop μ-loop
 add-tally c = omega (arith, c .before .before .before .before .pre, c .before .loop .inv .0, c .before .before .before .before .good)
 
--- src/lib.rt:40:29
 mul-tally : tie.Need-mul-tally Inv-loop μ-loop
 mul-tally c = omega arith
 
--- src/lib.rt:40:29
 shared-slice-read-tally : tie.Need-shared-slice-read-tally Inv-loop μ-loop
 shared-slice-read-tally c = omega arith
 
--- src/lib.rt:40:9
 tally-requires : tie.Need-tally-requires Inv-loop μ-loop
 tally-requires c κs = (c .before .before .before .before .before .pre .0, (omega (arith, c .before .before .before .before .before .pre .1 .1 .0), (Below-at _ _ _ (c .before .before .before .before .before .pre .1 .0) (c .before .loop-test .taken), (c .before .before .before .before .before .pre .1 .1 .1 .0, omega (arith, c .before .before .before .before .before .pre .1 .1, c .before .before .loop .inv .0)))))
 
--- src/lib.rt:41:9
 add-i : tie.Need-add-i Inv-loop μ-loop
 add-i c = omega arith
 
--- src/lib.rt:39:5
 loop-less : tie.Need-loop-less Inv-loop μ-loop
 loop-less c = omega arith
 
--- src/lib.rt:39:5
 loop-again : tie.Need-loop-again Inv-loop μ-loop
 loop-again c = ((omega arith, omega (arith, c .before .before .before .loop .inv .0, c .tally .ensures, tally-le (c .before .before .before .before .before .before .args .n) (c .before .before .before .before .before .before .args .e) (c .before .before .before .before .before .before .args .words .now) (c .before .before .before .before .before .before .args .z) (c .before .before .before .before .before .before .args .from + c .before .before .before .loop .i) (getD (c .before .before .before .before .before .before .args .part .now) (c .before .before .before .loop .i) 0) (c .before .before .before .loop .c) (omega (arith, c .before .before .before .before .before .before .pre .1 .1 .0)) (Below-at _ _ _ (c .before .before .before .before .before .before .pre .1 .0) (c .before .before .loop-test .taken)))), ap (run _ _) (c .tally .ensures) ∙ sym (run-up _ _ _ _ (c .before .before .loop-test .taken)) ∙ c .before .before .before .loop .inv .1)
 
--- src/lib.rt:33:1
 returns : tie.Need-returns Inv-loop μ-loop
 returns c = sym (run-up-end _ _ _ _ (c .loop-test .left)) ∙ c .before .loop .inv .1
 

@@ -1,3 +1,4 @@
+-- The loop's invariant: the nodes left, from here on, come to all nodes from the start. Assumes nothing.
 use Prim.Native.Nat.{ℕ, _≤_, _<_, _-_, _+_}
 use native.Mathlib.Omega.{arith}
 use mathlib.Core.Path.{_≡_, refl, _∙_, sym, ap}
@@ -9,9 +10,6 @@ use Rattle.plan_state.specs.Held.{area, grid, view, nodesOf}
 use Rattle.plan_state.proofs.Nodes.{Onto, onto-start, onto-next, onto-end, onto-frame, reverses-kept, now-below, walk-next, walk-end}
 use Rattle.plan_fast.proofs.fast_all.Statement.{statement}
 use Rattle.plan_fast.proofs.fast_all.Tie as tie
-use Rattle.plan_fast.proofs.fast_all.Reads as reads
-use Rattle.plan_fast.proofs.fast_all.Lts as lts
-use Rattle.plan_fast.proofs.fast_turf.Reads as fast-turf-reads
 
 abbrev Inv-loop : tie.InvT-loop
 Inv-loop first count starts neighbours z n e words₀ reals₀ i₀ words reals i =
@@ -22,47 +20,36 @@ Inv-loop first count starts neighbours z n e words₀ reals₀ i₀ words reals 
 abbrev μ-loop : tie.MeasureT-loop
 μ-loop first count starts neighbours z n e words₀ reals₀ i₀ words reals i = count - i
 
--- src/lib.rt:138:5
 loop-holds : tie.Need-loop-holds Inv-loop μ-loop
 loop-holds c = ((omega arith, (refl, refl)), onto-start _ (c .before .before .before .before .pre .0 .1 .1 .0))
 
--- src/lib.rt:139:25
 add-fast-turf : tie.Need-add-fast-turf Inv-loop μ-loop
 add-fast-turf c = omega (arith, c .before .before .before .before .before .before .pre .1 .1 .room, c .before .loop .inv .0, c .before .before .before .before .before .before .good, c .loop-test .taken)
 
--- src/lib.rt:139:19
 mul-fast-turf : tie.Need-mul-fast-turf Inv-loop μ-loop
 mul-fast-turf c = omega (arith, c .before .before .before .before .before .before .pre .1 .1 .room, c .before .loop .inv .0, c .before .before .before .before .before .before .good, c .loop-test .taken)
 
--- src/lib.rt:139:19
 slice-read-fast-turf : tie.Need-slice-read-fast-turf Inv-loop μ-loop
 slice-read-fast-turf c = omega (arith, c .before .before .before .before .before .before .before .pre .1 .1 .room, c .before .before .loop .inv .0, c .before .before .before .before .before .before .before .good, c .before .loop-test .taken)
 
--- src/lib.rt:139:9
 fast-turf-requires : tie.Need-fast-turf-requires Inv-loop μ-loop
 fast-turf-requires c κs = ((c .before .before .before .before .before .before .before .before .before .pre .0 .0, (c .before .before .before .before .before .before .before .before .before .pre .0 .1 .0, (c .before .before .before .before .loop .inv .1 .fit, (c .before .before .before .before .before .before .before .before .before .pre .0 .1 .1 .1, now-below (c .before .before .before .before .before .before .before .before .before .pre .1 .1) (onto-frame (c .before .before .before .before .loop .inv .1)) (c .before .before .before .before .loop .inv .0 .1 .0) _ (c .before .before .before .loop-test .taken))))), reverses-kept (c .before .before .before .before .before .before .before .before .before .pre .1 .0) (onto-frame (c .before .before .before .before .loop .inv .1)))
 
--- src/lib.rt:140:9
 add-i : tie.Need-add-i Inv-loop μ-loop
 add-i c = omega arith
 
--- src/lib.rt:138:5
 loop-less : tie.Need-loop-less Inv-loop μ-loop
 loop-less c = omega arith
 
--- src/lib.rt:138:5
 loop-again : tie.Need-loop-again Inv-loop μ-loop
 loop-again c = ((omega arith, (c .before .before .before .before .fast-turf .kept .1 .1 .1 .1 .1 .1 .0 ∙ c .before .before .before .before .before .before .before .before .before .loop .inv .0 .1 .0, c .before .before .before .before .fast-turf .kept .1 .1 .1 .1 .1 .1 .1 .0 ∙ c .before .before .before .before .before .before .before .before .before .loop .inv .0 .1 .1)), onto-next _ _ (c .before .before .before .before .before .before .before .before .before .loop .inv .1) (c .before .before .before .before .fast-turf .ensures) (λ o p. walk-next (c .before .before .before .before .before .before .before .before .before .before .before .before .before .before .pre .1 .1) (onto-frame (c .before .before .before .before .before .before .before .before .before .loop .inv .1)) (c .before .before .before .before .before .before .before .before .before .loop .inv .0 .1 .0) _ (c .before .before .before .before .before .before .before .before .loop-test .taken) _ p))
 
--- src/lib.rt:122:1
 same-length : tie.Need-same-length Inv-loop μ-loop
 same-length c = search needs
 
--- src/lib.rt:122:1
 same-length-2 : tie.Need-same-length-2 Inv-loop μ-loop
 same-length-2 c = search needs
 
--- src/lib.rt:122:1
 returns : tie.Need-returns Inv-loop μ-loop
 returns c = onto-end (c .before .loop .inv .1) (λ o p. walk-end (c .before .before .before .before .before .before .pre .1 .1) (onto-frame (c .before .loop .inv .1)) (c .before .loop .inv .0 .1 .0) _ (c .loop-test .left) _ p)
 

@@ -1,3 +1,4 @@
+-- The weights are adjusted, then two deltas stored. Assumes nothing.
 use native.Mathlib.Omega.{arith}
 use lib.ListN.{length-set}
 use Rattle.plan_state.proofs.Weights.{found-more}
@@ -5,67 +6,49 @@ use Rattle.plan_fast.proofs.Moves.{moved}
 use borrow.Author.Needs.{needs}
 use Rattle.plan_fast.proofs.fast_move.Statement.{statement}
 use Rattle.plan_fast.proofs.fast_move.Tie as tie
-use Rattle.plan_fast.proofs.fast_move.Reads as reads
-use Rattle.plan_fast.proofs.fast_move.Lts as lts
-use Rattle.plan_state.proofs.adjust_eq_movement.Reads as adjust-eq-movement-reads
 
--- src/lib.rt:52:5
 adjust-eq-movement-requires : tie.Need-adjust-eq-movement-requires
 adjust-eq-movement-requires c κs = (found-more _ _ (c .before .before .before .args .there) (omega (arith, c .before .before .before .pre .0 .0 .reals)) (c .before .before .before .pre .1 .0), found-more _ _ (c .before .before .before .args .back) (omega (arith, c .before .before .before .pre .0 .0 .reals)) (c .before .before .before .pre .1 .1))
 
--- src/lib.rt:53:26
 add-reals : tie.Need-add-reals
 add-reals c = search needs
 
--- src/lib.rt:53:20
 mul-reals : tie.Need-mul-reals
 mul-reals c = search needs
 
--- src/lib.rt:53:20
 slice-read-reals : tie.Need-slice-read-reals
 slice-read-reals c = search needs
 
--- src/lib.rt:53:11
 add-reals-2 : tie.Need-add-reals-2
 add-reals-2 c = search needs
 
--- src/lib.rt:53:5
 mul-reals-2 : tie.Need-mul-reals-2
 mul-reals-2 c = search needs
 
--- src/lib.rt:53:5
 slice-write-reals : tie.Need-slice-write-reals
 slice-write-reals c = search needs
 
--- src/lib.rt:54:26
 add-reals-3 : tie.Need-add-reals-3
 add-reals-3 c = search needs
 
--- src/lib.rt:54:20
 mul-reals-3 : tie.Need-mul-reals-3
 mul-reals-3 c = search needs
 
--- src/lib.rt:54:20
 slice-read-reals-2 : tie.Need-slice-read-reals-2
 slice-read-reals-2 c = simp length-set (omega arith)
 
--- src/lib.rt:54:11
 add-reals-4 : tie.Need-add-reals-4
 add-reals-4 c = search needs
 
--- src/lib.rt:54:5
 mul-reals-4 : tie.Need-mul-reals-4
 mul-reals-4 c = search needs
 
--- src/lib.rt:54:5
 slice-write-reals-2 : tie.Need-slice-write-reals-2
 slice-write-reals-2 c = simp length-set (omega arith)
 
--- src/lib.rt:47:1
 same-length : tie.Need-same-length
 same-length c = search needs
 
--- src/lib.rt:47:1
 returns : tie.Need-returns
 returns c = moved _ _ _ _ _ _ _ _ _ _ (c .before .before .before .before .before .before .before .before .pre .0 .0) (c .before .before .before .before .before .before .before .before .pre .0 .1 .0) (c .before .before .before .before .before .before .before .before .pre .0 .1 .1) (c .before .before .before .before .before .before .before .before .pre .1 .0) (c .before .before .before .before .before .before .before .before .pre .1 .1) (c .before .before .before .before .adjust-eq-movement .ensures)
 

@@ -1,3 +1,4 @@
+-- The loop's invariant: the links left, from here on, come to all links from the start. Assumes nothing.
 use Prim.Native.Nat.{ℕ, _≤_, _<_, _-_, _+_}
 use native.Mathlib.Omega.{arith}
 use native.Mathlib.Nat.{sub-zero}
@@ -17,9 +18,6 @@ use Rattle.plan_fast.specs.Steps.{fastVia}
 use Rattle.plan_fast.proofs.Moves.{reverse-same, fast-same}
 use Rattle.plan_fast.proofs.fast_row.Statement.{statement}
 use Rattle.plan_fast.proofs.fast_row.Tie as tie
-use Rattle.plan_fast.proofs.fast_row.Reads as reads
-use Rattle.plan_fast.proofs.fast_row.Lts as lts
-use Rattle.plan_fast.proofs.fast_link.Reads as fast-link-reads
 
 abbrev step : ℕ → Float → List ℕ → ℕ → ℕ → List ℕ → List ℕ → ℕ → Plan → Plan
 step r x part from z rev o j s = fastVia rev z r x o (from + j) (getD part j 0) s
@@ -34,43 +32,33 @@ Inv-loop r x part from z n e words reals₀ i₀ reals i =
 abbrev μ-loop : tie.MeasureT-loop
 μ-loop r x part from z n e words reals₀ i₀ reals i = length part - i
 
--- src/lib.rt:81:5
 loop-holds : tie.Need-loop-holds Inv-loop μ-loop
 loop-holds c = ((omega arith, refl), record { fit = c .before .before .before .pre .0 .0; on = rw sub-zero })
 
--- src/lib.rt:82:25
 add-fast-link : tie.Need-add-fast-link Inv-loop μ-loop
 add-fast-link c = omega (arith, c .before .before .before .before .before .pre .0 .1 .1 .1 .1, c .before .before .before .before .before .pre .0 .0 .links)
 
--- src/lib.rt:82:35
 mul-fast-link : tie.Need-mul-fast-link Inv-loop μ-loop
 mul-fast-link c = omega arith
 
--- src/lib.rt:82:35
 shared-slice-read-fast-link : tie.Need-shared-slice-read-fast-link Inv-loop μ-loop
 shared-slice-read-fast-link c = omega arith
 
--- src/lib.rt:82:9
 fast-link-requires : tie.Need-fast-link-requires Inv-loop μ-loop
 fast-link-requires c κs = ((c .before .before .before .loop .inv .1 .fit, (c .before .before .before .before .before .before .before .pre .0 .1 .0, (c .before .before .before .before .before .before .before .pre .0 .1 .1 .0, (Below-at _ _ _ (c .before .before .before .before .before .before .before .pre .0 .1 .1 .1 .0) (c .before .before .loop-test .taken), omega (arith, c .before .before .before .before .before .before .before .pre .0 .1 .1 .1 .1, c .before .before .loop-test .taken))))), rw (reverse-same _ _ _ _ (c .before .before .before .before .before .before .before .args .reals .now)) (c .before .before .before .before .before .before .before .pre .1 _ (c .before .before .loop-test .taken)))
 
--- src/lib.rt:83:9
 add-i : tie.Need-add-i Inv-loop μ-loop
 add-i c = omega arith
 
--- src/lib.rt:81:5
 loop-less : tie.Need-loop-less Inv-loop μ-loop
 loop-less c = omega arith
 
--- src/lib.rt:81:5
 loop-again : tie.Need-loop-again Inv-loop μ-loop
 loop-again c = ((omega arith, c .before .before .fast-link .kept .1 .1 .1 .1 .1 .1 .1 .1 .0 ∙ c .before .before .before .before .before .before .loop .inv .0 .1), onto-next _ _ (c .before .before .before .before .before .before .loop .inv .1) (fast-same _ _ _ _ _ _ _ _ _ _ (c .before .before .fast-link .ensures)) (λ o p. run-up _ _ _ _ (c .before .before .before .before .before .loop-test .taken)))
 
--- src/lib.rt:75:1
 same-length : tie.Need-same-length Inv-loop μ-loop
 same-length c = search needs
 
--- src/lib.rt:75:1
 returns : tie.Need-returns Inv-loop μ-loop
 returns c = onto-end (c .before .loop .inv .1) (λ o p. run-up-end _ _ _ _ (c .loop-test .left))
 

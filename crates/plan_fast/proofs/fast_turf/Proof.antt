@@ -1,3 +1,4 @@
+-- The links counted are the eligible ones, and a move leaves the marks, so each may be looked at when its turn comes. Assumes nothing.
 use native.Mathlib.Omega.{arith}
 use Prim.Native.Nat.{_+_}
 use Rattle.plan_state.proofs.Parts.{part-below, part-fits}
@@ -5,114 +6,82 @@ use Rattle.plan_fast.proofs.Fast.{fast-within, fast-some, fast-none}
 use borrow.Author.Needs.{needs}
 use Rattle.plan_fast.proofs.fast_turf.Statement.{statement}
 use Rattle.plan_fast.proofs.fast_turf.Tie as tie
-use Rattle.plan_fast.proofs.fast_turf.Reads as reads
-use Rattle.plan_fast.proofs.fast_turf.Lts as lts
-use Rattle.plan_fast.proofs.count_eligible.Reads as count-eligible-reads
-use Rattle.plan_fast.proofs.fast_row.Reads as fast-row-reads
-use Rattle.plan_state.proofs.load.Reads as load-reads
-use Rattle.plan_state.proofs.store.Reads as store-reads
 
--- src/lib.rt:103:9
 load-requires : tie.Need-load-requires
 load-requires c κs = search needs
 
--- src/lib.rt:111:5
 store-requires : tie.Need-store-requires
 store-requires c κs = search needs
 
--- src/lib.rt:113:20
 mul-from : tie.Need-mul-from
 mul-from c = search needs
 
--- src/lib.rt:113:20
 shared-slice-read-from : tie.Need-shared-slice-read-from
 shared-slice-read-from c = search needs
 
--- src/lib.rt:113:20
 cast-from : tie.Need-cast-from
 cast-from c = omega (arith, c .shared-slice-known3 .given (c .before .before .before .before .before .before .before .before .before .before .before .before .before .before .before .before .args .r))
 
--- src/lib.rt:114:25
 add-to : tie.Need-add-to
 add-to c = search needs
 
--- src/lib.rt:114:18
 mul-to : tie.Need-mul-to
 mul-to c = search needs
 
--- src/lib.rt:114:18
 shared-slice-read-to : tie.Need-shared-slice-read-to
 shared-slice-read-to c = search needs
 
--- src/lib.rt:114:18
 cast-to : tie.Need-cast-to
 cast-to c = omega (arith, c .shared-slice-known4 .given (c .before .before .before .before .before .before .before .before .before .before .before .before .before .before .before .before .before .args .r + 1))
 
--- src/lib.rt:115:36
 mul-count-eligible : tie.Need-mul-count-eligible
 mul-count-eligible c = omega (arith, ((c .before .before .before .before .before .before .before .before .before .before .before .before .before .before .before .before .before .pre .0 .0) .rise _ (c .before .before .before .before .before .before .before .before .before .before .before .before .before .before .before .before .before .pre .0 .1 .1 .1 .1)), ((c .before .before .before .before .before .before .before .before .before .before .before .before .before .before .before .before .before .pre .0 .0) .within _ (c .before .before .before .before .before .before .before .before .before .before .before .before .before .before .before .before .before .pre .0 .1 .1 .1 .1)), c .before .before .before .before .before .before .before .before .before .before .before .before .before .before .before .before .before .good)
 
--- src/lib.rt:115:36
 sub-count-eligible : tie.Need-sub-count-eligible
 sub-count-eligible c = ((c .before .before .before .before .before .before .before .before .before .before .before .before .before .before .before .before .before .pre .0 .0) .rise _ (c .before .before .before .before .before .before .before .before .before .before .before .before .before .before .before .before .before .pre .0 .1 .1 .1 .1))
 
--- src/lib.rt:115:36
 part-count-eligible-start : tie.Need-part-count-eligible-start
 part-count-eligible-start c = ((c .before .before .before .before .before .before .before .before .before .before .before .before .before .before .before .before .before .pre .0 .0) .rise _ (c .before .before .before .before .before .before .before .before .before .before .before .before .before .before .before .before .before .pre .0 .1 .1 .1 .1))
 
--- src/lib.rt:115:36
 part-count-eligible-end : tie.Need-part-count-eligible-end
 part-count-eligible-end c = ((c .before .before .before .before .before .before .before .before .before .before .before .before .before .before .before .before .before .pre .0 .0) .within _ (c .before .before .before .before .before .before .before .before .before .before .before .before .before .before .before .before .before .pre .0 .1 .1 .1 .1))
 
--- src/lib.rt:115:13
 count-eligible-requires : tie.Need-count-eligible-requires
 count-eligible-requires c κs = (omega (arith, c .before .before .before .before .before .before .before .before .before .store .ensures .fit .words), (part-below _ _ _ _ (c .before .before .before .before .before .before .before .before .before .before .before .before .before .before .before .before .before .before .before .pre .0 .0) (c .before .before .before .before .before .before .before .before .before .before .before .before .before .before .before .before .before .before .before .pre .0 .1 .1 .1 .1), (omega (arith, part-fits _ _ _ _ (c .before .before .before .before .before .before .before .before .before .before .before .before .before .before .before .before .before .before .before .pre .0 .0) (c .before .before .before .before .before .before .before .before .before .before .before .before .before .before .before .before .before .before .before .pre .0 .1 .1 .1 .1), c .before .before .before .before .before .before .before .before .before .before .before .before .before .before .before .before .before .before .before .pre .0 .1 .0), (c .before .before .before .before .before .before .before .before .before .before .before .before .before .before .before .before .before .before .before .pre .0 .1 .1 .1 .0, c .before .before .before .before .before .before .before .before .before .before .before .before .before .before .before .before .before .before .before .pre .0 .1 .1 .0 .links))))
 
--- src/lib.rt:116:26
 int-to-float-x : tie.Need-int-to-float-x
 int-to-float-x c = search needs
 
--- src/lib.rt:117:26
 mul-fast-row : tie.Need-mul-fast-row
 mul-fast-row c = omega (arith, ((c .before .before .before .before .before .before .before .before .before .before .before .before .before .before .before .before .before .before .before .before .before .pre .0 .0) .rise _ (c .before .before .before .before .before .before .before .before .before .before .before .before .before .before .before .before .before .before .before .before .before .pre .0 .1 .1 .1 .1)), ((c .before .before .before .before .before .before .before .before .before .before .before .before .before .before .before .before .before .before .before .before .before .pre .0 .0) .within _ (c .before .before .before .before .before .before .before .before .before .before .before .before .before .before .before .before .before .before .before .before .before .pre .0 .1 .1 .1 .1)), c .before .before .before .before .before .before .before .before .before .before .before .before .before .before .before .before .before .before .before .before .before .good)
 
--- src/lib.rt:117:26
 sub-fast-row : tie.Need-sub-fast-row
 sub-fast-row c = ((c .before .before .before .before .before .before .before .before .before .before .before .before .before .before .before .before .before .before .before .before .before .pre .0 .0) .rise _ (c .before .before .before .before .before .before .before .before .before .before .before .before .before .before .before .before .before .before .before .before .before .pre .0 .1 .1 .1 .1))
 
--- src/lib.rt:117:26
 part-fast-row-start : tie.Need-part-fast-row-start
 part-fast-row-start c = ((c .before .before .before .before .before .before .before .before .before .before .before .before .before .before .before .before .before .before .before .before .before .pre .0 .0) .rise _ (c .before .before .before .before .before .before .before .before .before .before .before .before .before .before .before .before .before .before .before .before .before .pre .0 .1 .1 .1 .1))
 
--- src/lib.rt:117:26
 part-fast-row-end : tie.Need-part-fast-row-end
 part-fast-row-end c = ((c .before .before .before .before .before .before .before .before .before .before .before .before .before .before .before .before .before .before .before .before .before .pre .0 .0) .within _ (c .before .before .before .before .before .before .before .before .before .before .before .before .before .before .before .before .before .before .before .before .before .pre .0 .1 .1 .1 .1))
 
--- src/lib.rt:117:9
 fast-row-requires : tie.Need-fast-row-requires
 fast-row-requires c κs = ((c .before .before .before .before .before .before .before .before .before .before .before .before .before .before .store .ensures .fit, (c .before .before .before .before .before .before .before .before .before .before .before .before .before .before .before .before .before .before .before .before .before .before .before .before .pre .0 .1 .1 .1 .0, ((c .before .before .before .before .before .before .before .before .before .before .before .before .before .before .before .before .before .before .before .before .before .before .before .before .pre .0 .1 .1 .1 .1), (part-below _ _ _ _ (c .before .before .before .before .before .before .before .before .before .before .before .before .before .before .before .before .before .before .before .before .before .before .before .before .pre .0 .0) (c .before .before .before .before .before .before .before .before .before .before .before .before .before .before .before .before .before .before .before .before .before .before .before .before .pre .0 .1 .1 .1 .1), omega (arith, part-fits _ _ _ _ (c .before .before .before .before .before .before .before .before .before .before .before .before .before .before .before .before .before .before .before .before .before .before .before .before .pre .0 .0) (c .before .before .before .before .before .before .before .before .before .before .before .before .before .before .before .before .before .before .before .before .before .before .before .before .pre .0 .1 .1 .1 .1), c .before .before .before .before .before .before .before .before .before .before .before .before .before .before .before .before .before .before .before .before .before .before .before .before .pre .0 .1 .0))))), fast-within _ _ _ _ (c .before .before .before .before .before .before .before .before .before .before .before .before .before .before .before .before .before .before .before .before .before .before .before .before .args .z) _ _ _ (c .before .before .before .before .before .before .before .before .before .before .before .before .before .before .before .before .before .load .ensures) (c .before .before .before .before .before .before .before .before .before .before .before .before .before .before .before .before .before .before .before .before .before .before .before .before .pre .0 .0) (c .before .before .before .before .before .before .before .before .before .before .before .before .before .before .before .before .before .before .before .before .before .before .before .before .pre .0 .1 .1 .1 .1) (c .before .before .before .before .before .before .before .before .before .before .before .before .before .before .before .before .before .before .before .before .before .before .before .before .pre .1) _ _ (c .before .before .before .before .before .before .before .before .before .before .before .before .before .before .store .ensures) (c .before .before .before .before .before .before .before .before .before .before .before .before .before .before .before .before .before .before .before .before .before .before .before .before .pre .0 .1 .0))
 
--- src/lib.rt:88:1
 same-length : tie.Need-same-length
 same-length c = search needs
 
--- src/lib.rt:88:1
 same-length-2 : tie.Need-same-length-2
 same-length-2 c = search needs
 
--- src/lib.rt:88:1
 returns : tie.Need-returns
 returns c = fast-some _ _ _ _ (c .before .before .before .before .before .before .before .before .before .before .before .before .before .before .before .before .before .before .before .before .before .before .before .before .before .before .before .args .z) _ _ _ (c .before .before .before .before .before .before .before .before .before .before .before .before .before .before .before .before .before .before .before .before .load .ensures) (c .before .before .before .before .before .before .before .before .before .before .before .before .before .before .before .before .before .before .before .before .before .before .before .before .before .before .before .pre .0 .0) (c .before .before .before .before .before .before .before .before .before .before .before .before .before .before .before .before .before .before .before .before .before .before .before .before .before .before .before .pre .0 .1 .1 .1 .1) (c .before .before .before .before .before .before .before .before .before .before .before .before .before .before .before .before .before .before .before .before .before .before .before .before .before .before .before .pre .1) _ _ (c .before .before .before .before .before .before .before .before .before .before .before .before .before .before .before .before .before .store .ensures) _ (c .before .before .before .before .before .before .before .before .before .before .before .before .if1 .taken) (c .before .before .before .before .before .before .before .count-eligible .ensures) (c .before .before .fast-row .ensures)
 
--- src/lib.rt:88:1
 same-length-3 : tie.Need-same-length-3
 same-length-3 c = search needs
 
--- src/lib.rt:88:1
 same-length-4 : tie.Need-same-length-4
 same-length-4 c = search needs
 
--- src/lib.rt:88:1
 returns-2 : tie.Need-returns-2
 returns-2 c = fast-none _ _ _ _ _ _ _ _ (c .before .before .before .before .before .before .before .before .load .ensures) (c .if1 .left) (c .before .before .before .before .before .store .ensures)
 

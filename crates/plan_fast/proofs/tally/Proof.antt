@@ -1,59 +1,45 @@
+-- By the three ways out. Assumes nothing.
 use Rattle.plan_fast.proofs.Moves.{tally-foreign, tally-marked, tally-more}
 use borrow.Author.Needs.{needs}
 use Rattle.plan_fast.proofs.tally.Statement.{statement}
 use Rattle.plan_fast.proofs.tally.Tie as tie
-use Rattle.plan_fast.proofs.tally.Reads as reads
-use Rattle.plan_fast.proofs.tally.Lts as lts
 
--- src/lib.rt:23:8
 mul-if1 : tie.Need-mul-if1
 mul-if1 c = search needs
 
--- src/lib.rt:23:8
 shared-slice-read-if1 : tie.Need-shared-slice-read-if1
 shared-slice-read-if1 c = search needs
 
--- src/lib.rt:23:20
 add-if1 : tie.Need-add-if1
 add-if1 c = search needs
 
--- src/lib.rt:24:9
 returns : tie.Need-returns
 returns c = tally-foreign _ _ _ _ _ _ _ (c .before .before .pre .1 .0) (c .before .before .pre .1 .1 .0) (c .if1 .taken)
 
--- src/lib.rt:26:14
 add-if2 : tie.Need-add-if2
 add-if2 c = search needs
 
--- src/lib.rt:26:14
 add-if2-2 : tie.Need-add-if2-2
 add-if2-2 c = search needs
 
--- src/lib.rt:26:14
 add-if2-3 : tie.Need-add-if2-3
 add-if2-3 c = search needs
 
--- src/lib.rt:26:14
 add-if2-4 : tie.Need-add-if2-4
 add-if2-4 c = search needs
 
--- src/lib.rt:26:8
 mul-if2 : tie.Need-mul-if2
 mul-if2 c = search needs
 
--- src/lib.rt:26:8
 shared-slice-read-if2 : tie.Need-shared-slice-read-if2
 shared-slice-read-if2 c = search needs
 
--- src/lib.rt:27:9
 returns-2 : tie.Need-returns-2
 returns-2 c = tally-marked _ _ _ _ _ _ _ (c .before .before .before .before .pre .1 .0) (c .before .before .before .before .pre .1 .1 .0) (c .before .before .if1 .left) (c .if2 .taken)
 
--- src/lib.rt:29:5
 add-result : tie.Need-add-result
 add-result c = search needs
 
--- src/lib.rt:19:1
 returns-3 : tie.Need-returns-3
 returns-3 c = tally-more _ _ _ _ _ _ _ (c .before .before .before .before .pre .1 .0) (c .before .before .before .before .pre .1 .1 .0) (c .before .before .if1 .left) (c .if2 .left)
 

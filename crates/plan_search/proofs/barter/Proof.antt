@@ -1,31 +1,23 @@
+-- By the three ways out. Assumes nothing.
 use borrow.Author.Needs.{needs}
 use borrow.Author.Tests.{not-true, not-false}
 use mathlib.Core.Path.{_∙_, sym}
 use Rattle.plan_search.proofs.Trades.{bargain-none, bargain-all, bargain-some}
 use Rattle.plan_search.proofs.barter.Statement.{statement}
 use Rattle.plan_search.proofs.barter.Tie as tie
-use Rattle.plan_search.proofs.barter.Reads as reads
-use Rattle.plan_search.proofs.barter.Lts as lts
-use Rattle.plan_search.proofs.more.Reads as more-reads
-use Rattle.plan_search.proofs.wants.Reads as wants-reads
 
--- src/lib.rt:159:9
 wants-requires : tie.Need-wants-requires
 wants-requires c κs = search needs
 
--- src/lib.rt:160:9
 returns : tie.Need-returns
 returns c = bargain-none _ _ _ (sym (c .before .wants .ensures) ∙ not-true _ (c .if1 .taken))
 
--- src/lib.rt:162:8
 more-requires : tie.Need-more-requires
 more-requires c κs = search needs
 
--- src/lib.rt:175:9
 returns-2 : tie.Need-returns-2
 returns-2 c = bargain-all _ _ _ (sym (c .before .before .before .before .wants .ensures) ∙ not-false _ (c .before .before .before .if1 .left)) (sym (c .before .before .more .ensures) ∙ c .before .if2 .taken)
 
--- src/lib.rt:154:1
 returns-3 : tie.Need-returns-3
 returns-3 c = bargain-some _ _ _ (sym (c .before .before .before .before .wants .ensures) ∙ not-false _ (c .before .before .before .if1 .left)) (sym (c .before .before .more .ensures) ∙ c .before .if2 .left)
 

@@ -1,3 +1,4 @@
+-- The loop's invariant: the rows left, from here on, come to all rows from the end. Assumes nothing.
 use Prim.Native.Nat.{_≤_, _<_, _-_, _+_}
 use native.Mathlib.Omega.{arith}
 use mathlib.Core.Path.{_≡_, refl, _∙_, sym}
@@ -11,10 +12,6 @@ use Rattle.plan_state.proofs.Nodes.{Onto, onto-start, onto-next, onto-end}
 use Rattle.plan_search.proofs.Drains.{row-below, row-within, row-next, back-end, drained-same}
 use Rattle.plan_search.proofs.drain.Statement.{statement}
 use Rattle.plan_search.proofs.drain.Tie as tie
-use Rattle.plan_search.proofs.drain.Reads as reads
-use Rattle.plan_search.proofs.drain.Lts as lts
-use Rattle.plan_search.proofs.drain_turf.Reads as drain-turf-reads
-use Rattle.plan_state.proofs.queue_at.Reads as queue-at-reads
 
 abbrev Inv-loop : tie.InvT-loop
 Inv-loop count z n e words reals₀ queue i₀ reals i =
@@ -26,47 +23,36 @@ Inv-loop count z n e words reals₀ queue i₀ reals i =
 abbrev μ-loop : tie.MeasureT-loop
 μ-loop count z n e words reals₀ queue i₀ reals i = i
 
--- src/lib.rt:319:9
 queue-at-requires : tie.Need-queue-at-requires Inv-loop μ-loop
 queue-at-requires c κs = (c .before .before .pre .0 .0 .fit .links, c .before .before .pre .0 .0 .fit .turfs)
 
--- src/lib.rt:321:5
 loop-holds : tie.Need-loop-holds Inv-loop μ-loop
 loop-holds c = ((omega arith, refl), onto-start _ (c .before .before .before .pre .0 .0 .fit))
 
--- src/lib.rt:322:9
 sub-i : tie.Need-sub-i Inv-loop μ-loop
 sub-i c = omega arith
 
--- src/lib.rt:323:26
 add-drain-turf : tie.Need-add-drain-turf Inv-loop μ-loop
 add-drain-turf c = omega (arith, c .before .before .queue-at .ensures, c .before .before .before .before .before .pre .0 .0 .fit .links, c .before .before .before .before .before .pre .0 .0 .fit .turfs, c .before .before .before .before .before .pre .0 .0 .line .few, c .before .loop .inv .0, c .loop-test .taken)
 
--- src/lib.rt:323:20
 mul-drain-turf : tie.Need-mul-drain-turf Inv-loop μ-loop
 mul-drain-turf c = omega (arith, c .before .before .queue-at .ensures, c .before .before .before .before .before .pre .0 .0 .fit .words, c .before .before .before .before .before .pre .0 .0 .line .few, c .before .loop .inv .0, c .before .before .before .before .before .good, c .loop-test .taken)
 
--- src/lib.rt:323:20
 shared-slice-read-drain-turf : tie.Need-shared-slice-read-drain-turf Inv-loop μ-loop
 shared-slice-read-drain-turf c = omega (arith, c .before .before .before .queue-at .ensures, c .before .before .before .before .before .before .pre .0 .0 .fit .words, c .before .before .before .before .before .before .pre .0 .0 .line .few, c .before .before .loop .inv .0, c .before .loop-test .taken)
 
--- src/lib.rt:323:9
 drain-turf-requires : tie.Need-drain-turf-requires Inv-loop μ-loop
 drain-turf-requires c κs = (c .before .before .before .loop .inv .1 .fit, (c .before .before .before .before .before .before .before .pre .0 .1, (row-below _ _ _ (c .before .before .before .loop .i - 1) _ _ (c .before .before .before .before .before .before .before .pre .0 .0) (omega (arith, c .before .before .before .loop .inv .0, c .before .before .loop-test .taken)) _ (c .before .before .before .before .queue-at .ensures), row-within _ _ _ (c .before .before .before .loop .i - 1) _ _ (c .before .before .before .before .before .before .before .pre .0 .0) (omega (arith, c .before .before .before .loop .inv .0, c .before .before .loop-test .taken)) _ (c .before .before .before .before .queue-at .ensures) _ (c .before .before .before .before .before .before .before .pre .1 (c .before .before .before .loop .i - 1) (omega (arith, c .before .before .before .loop .inv .0, c .before .before .loop-test .taken))))))
 
--- src/lib.rt:321:5
 loop-less : tie.Need-loop-less Inv-loop μ-loop
 loop-less c = omega arith
 
--- src/lib.rt:321:5
 loop-again : tie.Need-loop-again Inv-loop μ-loop
 loop-again c = ((omega (arith, c .before .before .before .before .before .before .loop .inv .0), c .before .before .drain-turf .kept .1 .1 .1 .1 .1 .0 ∙ c .before .before .before .before .before .before .loop .inv .0 .1), onto-next _ _ (c .before .before .before .before .before .before .loop .inv .1) (drained-same _ _ _ _ _ _ _ (c .before .before .drain-turf .ensures)) (λ o p. row-next _ _ _ (c .before .before .before .before .before .before .loop .i - 1) _ _ (c .before .before .before .before .before .before .before .before .before .before .pre .0 .0) (omega (arith, c .before .before .before .before .before .before .loop .inv .0, c .before .before .before .before .before .loop-test .taken)) _ (c .before .before .before .before .before .before .before .queue-at .ensures) _ (c .before .before .before .before .before .before .loop .i) (omega (arith, c .before .before .before .before .before .loop-test .taken)) _))
 
--- src/lib.rt:314:1
 same-length : tie.Need-same-length Inv-loop μ-loop
 same-length c = search needs
 
--- src/lib.rt:314:1
 returns : tie.Need-returns Inv-loop μ-loop
 returns c = onto-end (c .before .loop .inv .1) (λ o p. back-end _ _ _ _ (c .loop-test .left))
 

@@ -1,80 +1,59 @@
+-- By the three ways out: nothing to hand on, nowhere to hand it, over the link by which the turf was met. Assumes nothing.
 use native.Mathlib.Omega.{arith}
 use Prim.Native.Nat.{_+_}
 use Rattle.plan_search.proofs.Drains.{drained, drained-still, drained-none, back-row, back-k, back-p, back-there}
 use borrow.Author.Needs.{needs}
 use Rattle.plan_search.proofs.drain_turf.Statement.{statement}
 use Rattle.plan_search.proofs.drain_turf.Tie as tie
-use Rattle.plan_search.proofs.drain_turf.Reads as reads
-use Rattle.plan_search.proofs.drain_turf.Lts as lts
-use Rattle.plan_search.proofs.hand_on.Reads as hand-on-reads
-use Rattle.plan_state.proofs.back_link.Reads as back-link-reads
-use Rattle.plan_state.proofs.load.Reads as load-reads
 
--- src/lib.rt:301:9
 load-requires : tie.Need-load-requires
 load-requires c κs = search needs
 
--- src/lib.rt:303:21
 cast-direction : tie.Need-cast-direction
 cast-direction c = search needs
 
--- src/lib.rt:306:27
 add-k : tie.Need-add-k
 add-k c = search needs
 
--- src/lib.rt:306:27
 add-k-2 : tie.Need-add-k-2
 add-k-2 c = search needs
 
--- src/lib.rt:306:27
 add-k-3 : tie.Need-add-k-3
 add-k-3 c = search needs
 
--- src/lib.rt:306:21
 mul-k : tie.Need-mul-k
 mul-k c = search needs
 
--- src/lib.rt:306:21
 shared-slice-read-k : tie.Need-shared-slice-read-k
 shared-slice-read-k c = search needs
 
--- src/lib.rt:306:21
 cast-k : tie.Need-cast-k
 cast-k c = omega (arith, c .shared-slice-known2 .given (c .before .before .before .before .before .before .before .before .args .e + c .before .before .before .before .before .before .before .before .args .e + c .before .before .before .before .before .before .before .before .args .n + c .before .before .before .before .before .before .before .before .args .r))
 
--- src/lib.rt:307:17
 back-link-requires : tie.Need-back-link-requires
 back-link-requires c κs = (omega (arith, c .before .before .before .before .before .before .before .before .pre .0 .words), (back-k _ _ (c .before .before .before .before .before .before .before .before .args .z) _ _ _ _ (c .before .before .before .before .load .ensures) (c .before .before .before .before .before .before .before .before .pre .0) (c .before .before .before .before .before .before .before .before .pre .1 .1 .0) (c .before .before .before .before .before .before .before .before .pre .1 .1 .1) (c .before .if2 .taken), (back-p _ _ (c .before .before .before .before .before .before .before .before .args .z) _ _ _ _ (c .before .before .before .before .load .ensures) (c .before .before .before .before .before .before .before .before .pre .0) (c .before .before .before .before .before .before .before .before .pre .1 .1 .0) (c .before .before .before .before .before .before .before .before .pre .1 .1 .1) (c .before .if2 .taken), c .before .before .before .before .before .before .before .before .pre .1 .0)))
 
--- src/lib.rt:308:46
 sub-hand-on : tie.Need-sub-hand-on
 sub-hand-on c = search needs
 
--- src/lib.rt:308:13
 hand-on-requires : tie.Need-hand-on-requires
 hand-on-requires c κs = ((c .before .before .before .before .before .before .before .before .before .before .pre .0, (c .before .before .before .before .before .before .before .before .before .before .pre .1 .1 .0, back-row _ _ (c .before .before .before .before .before .before .before .before .before .before .args .z) _ _ _ _ (c .before .before .before .before .before .before .load .ensures) (c .before .before .before .before .before .before .before .before .before .before .pre .0) (c .before .before .before .before .before .before .before .before .before .before .pre .1 .1 .0) (c .before .before .before .before .before .before .before .before .before .before .pre .1 .1 .1) (c .before .before .before .if2 .taken))), (back-there _ _ _ _ _ _ _ (c .before .before .before .before .before .before .load .ensures) (c .before .before .before .before .before .before .before .before .before .before .pre .0) (c .before .before .before .before .before .before .before .before .before .before .pre .1 .1 .0) (c .before .before .before .before .before .before .before .before .before .before .pre .1 .1 .1) (c .before .before .before .if2 .taken) _ (c .before .back-link .ensures), back-k _ _ (c .before .before .before .before .before .before .before .before .before .before .args .z) _ _ _ _ (c .before .before .before .before .before .before .load .ensures) (c .before .before .before .before .before .before .before .before .before .before .pre .0) (c .before .before .before .before .before .before .before .before .before .before .pre .1 .1 .0) (c .before .before .before .before .before .before .before .before .before .before .pre .1 .1 .1) (c .before .before .before .if2 .taken)))
 
--- src/lib.rt:296:1
 same-length : tie.Need-same-length
 same-length c = search needs
 
--- src/lib.rt:296:1
 returns : tie.Need-returns
 returns c = drained _ _ _ _ _ _ _ (c .before .before .before .before .before .before .before .before .before .load .ensures) (c .before .before .before .before .before .before .before .before .before .before .before .before .before .pre .0) (c .before .before .before .before .before .before .before .before .before .before .before .before .before .pre .1 .1 .0) (c .before .before .before .before .before .before .before .before .before .before .before .before .before .pre .1 .1 .1) (c .before .before .before .before .before .before .if2 .taken) _ (c .before .before .before .before .back-link .ensures) (c .before .before .before .before .before .before .before .if1 .taken) (c .before .before .hand-on .ensures)
 
--- src/lib.rt:296:1
 same-length-2 : tie.Need-same-length-2
 same-length-2 c = search needs
 
--- src/lib.rt:296:1
 returns-2 : tie.Need-returns-2
 returns-2 c = drained-still _ _ _ _ _ _ _ (c .before .before .before .load .ensures) (c .before .before .before .before .before .before .before .pre .0) (c .before .if1 .taken) (c .if2 .left)
 
--- src/lib.rt:296:1
 same-length-3 : tie.Need-same-length-3
 same-length-3 c = search needs
 
--- src/lib.rt:296:1
 returns-3 : tie.Need-returns-3
 returns-3 c = drained-none _ _ _ _ _ _ _ (c .before .before .load .ensures) (c .before .before .before .before .before .before .pre .0) (c .if1 .left)
 

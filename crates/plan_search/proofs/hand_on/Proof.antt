@@ -1,3 +1,4 @@
+-- The weights are adjusted, then two amounts stored. Assumes nothing.
 use native.Mathlib.Omega.{arith}
 use lib.ListN.{length-set}
 use Rattle.plan_state.proofs.Weights.{found-more}
@@ -5,83 +6,61 @@ use Rattle.plan_search.proofs.Drains.{handed}
 use borrow.Author.Needs.{needs}
 use Rattle.plan_search.proofs.hand_on.Statement.{statement}
 use Rattle.plan_search.proofs.hand_on.Tie as tie
-use Rattle.plan_search.proofs.hand_on.Reads as reads
-use Rattle.plan_search.proofs.hand_on.Lts as lts
-use Rattle.plan_state.proofs.adjust_eq_movement.Reads as adjust-eq-movement-reads
 
--- src/lib.rt:289:19
 add-x : tie.Need-add-x
 add-x c = search needs
 
--- src/lib.rt:289:19
 add-x-2 : tie.Need-add-x-2
 add-x-2 c = search needs
 
--- src/lib.rt:289:13
 mul-x : tie.Need-mul-x
 mul-x c = search needs
 
--- src/lib.rt:289:13
 slice-read-x : tie.Need-slice-read-x
 slice-read-x c = search needs
 
--- src/lib.rt:290:5
 adjust-eq-movement-requires : tie.Need-adjust-eq-movement-requires
 adjust-eq-movement-requires c κs = (found-more _ _ (c .before .before .before .before .args .there) (omega (arith, c .before .before .before .before .pre .0 .0 .reals)) (c .before .before .before .before .pre .1 .0), found-more _ _ (c .before .before .before .before .args .back) (omega (arith, c .before .before .before .before .pre .0 .0 .reals)) (c .before .before .before .before .pre .1 .1))
 
--- src/lib.rt:291:30
 add-reals : tie.Need-add-reals
 add-reals c = search needs
 
--- src/lib.rt:291:30
 add-reals-2 : tie.Need-add-reals-2
 add-reals-2 c = search needs
 
--- src/lib.rt:291:24
 mul-reals : tie.Need-mul-reals
 mul-reals c = search needs
 
--- src/lib.rt:291:24
 slice-read-reals : tie.Need-slice-read-reals
 slice-read-reals c = search needs
 
--- src/lib.rt:291:11
 add-reals-3 : tie.Need-add-reals-3
 add-reals-3 c = search needs
 
--- src/lib.rt:291:11
 add-reals-4 : tie.Need-add-reals-4
 add-reals-4 c = search needs
 
--- src/lib.rt:291:5
 mul-reals-2 : tie.Need-mul-reals-2
 mul-reals-2 c = search needs
 
--- src/lib.rt:291:5
 slice-write-reals : tie.Need-slice-write-reals
 slice-write-reals c = search needs
 
--- src/lib.rt:292:11
 add-reals-5 : tie.Need-add-reals-5
 add-reals-5 c = search needs
 
--- src/lib.rt:292:11
 add-reals-6 : tie.Need-add-reals-6
 add-reals-6 c = search needs
 
--- src/lib.rt:292:5
 mul-reals-3 : tie.Need-mul-reals-3
 mul-reals-3 c = search needs
 
--- src/lib.rt:292:5
 slice-write-reals-2 : tie.Need-slice-write-reals-2
 slice-write-reals-2 c = simp length-set (omega arith)
 
--- src/lib.rt:284:1
 same-length : tie.Need-same-length
 same-length c = search needs
 
--- src/lib.rt:284:1
 returns : tie.Need-returns
 returns c = handed _ _ _ _ _ _ _ _ _ (c .before .before .before .before .before .before .before .before .pre .0 .0) (c .before .before .before .before .before .before .before .before .pre .0 .1 .0) (c .before .before .before .before .before .before .before .before .pre .0 .1 .1) (c .before .before .before .before .before .before .before .before .pre .1 .0) (c .before .before .before .before .before .before .before .before .pre .1 .1) (c .before .before .before .adjust-eq-movement .ensures)
 

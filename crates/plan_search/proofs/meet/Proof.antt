@@ -1,63 +1,46 @@
+-- A turf that doesn't want leaves all as it is, so its trade may be left out. Assumes nothing.
 use mathlib.Core.Path.{_∙_, sym}
 use Rattle.plan_search.proofs.Trades.{met-some, met-none}
 use borrow.Author.Needs.{needs}
 use Rattle.plan_search.proofs.meet.Statement.{statement}
 use Rattle.plan_search.proofs.meet.Tie as tie
-use Rattle.plan_search.proofs.meet.Reads as reads
-use Rattle.plan_search.proofs.meet.Lts as lts
-use Rattle.plan_search.proofs.point.Reads as point-reads
-use Rattle.plan_search.proofs.trade.Reads as trade-reads
-use Rattle.plan_search.proofs.wants.Reads as wants-reads
 
--- src/lib.rt:133:14
 add-point : tie.Need-add-point
 add-point c = search needs
 
--- src/lib.rt:133:5
 point-requires : tie.Need-point-requires
 point-requires c κs = search needs
 
--- src/lib.rt:134:26
 add-wants : tie.Need-add-wants
 add-wants c = search needs
 
--- src/lib.rt:134:20
 mul-wants : tie.Need-mul-wants
 mul-wants c = search needs
 
--- src/lib.rt:134:20
 slice-read-wants : tie.Need-slice-read-wants
 slice-read-wants c = search needs
 
--- src/lib.rt:134:8
 wants-requires : tie.Need-wants-requires
 wants-requires c κs = search needs
 
--- src/lib.rt:135:9
 trade-requires : tie.Need-trade-requires
 trade-requires c κs = search needs
 
--- src/lib.rt:120:1
 same-length : tie.Need-same-length
 same-length c = search needs
 
--- src/lib.rt:120:1
 same-length-2 : tie.Need-same-length-2
 same-length-2 c = search needs
 
--- src/lib.rt:120:1
 returns : tie.Need-returns
 returns c = met-some _ _ _ _ _ _ (c .before .before .before .before .before .before .before .before .before .before .before .before .before .before .before .before .before .before .before .pre .1 .1 .0) (c .before .before .before .before .before .before .before .before .before .before .before .before .before .before .point .ensures) (c .before .before .before .before .trade .ensures)
 
--- src/lib.rt:120:1
 same-length-3 : tie.Need-same-length-3
 same-length-3 c = search needs
 
--- src/lib.rt:120:1
 same-length-4 : tie.Need-same-length-4
 same-length-4 c = search needs
 
--- src/lib.rt:120:1
 returns-2 : tie.Need-returns-2
 returns-2 c = met-none _ _ _ _ _ _ (c .before .before .before .before .before .before .before .before .before .before .before .before .pre .1 .1 .0) (c .before .before .before .before .before .before .before .point .ensures) (sym (c .before .wants .ensures) ∙ c .if1 .left)
 

@@ -1,51 +1,39 @@
+-- One store in each of two arrays. Assumes nothing.
 use Rattle.plan_search.proofs.Trades.{pointed}
 use borrow.Author.Needs.{needs}
 use Rattle.plan_search.proofs.point.Statement.{statement}
 use Rattle.plan_search.proofs.point.Tie as tie
-use Rattle.plan_search.proofs.point.Reads as reads
-use Rattle.plan_search.proofs.point.Lts as lts
 
--- src/lib.rt:115:11
 add-words : tie.Need-add-words
 add-words c = search needs
 
--- src/lib.rt:115:11
 add-words-2 : tie.Need-add-words-2
 add-words-2 c = search needs
 
--- src/lib.rt:115:5
 mul-words : tie.Need-mul-words
 mul-words c = search needs
 
--- src/lib.rt:115:5
 slice-write-words : tie.Need-slice-write-words
 slice-write-words c = search needs
 
--- src/lib.rt:116:11
 add-reals : tie.Need-add-reals
 add-reals c = search needs
 
--- src/lib.rt:116:11
 add-reals-2 : tie.Need-add-reals-2
 add-reals-2 c = search needs
 
--- src/lib.rt:116:5
 mul-reals : tie.Need-mul-reals
 mul-reals c = search needs
 
--- src/lib.rt:116:5
 slice-write-reals : tie.Need-slice-write-reals
 slice-write-reals c = search needs
 
--- src/lib.rt:111:1
 same-length : tie.Need-same-length
 same-length c = search needs
 
--- src/lib.rt:111:1
 same-length-2 : tie.Need-same-length-2
 same-length-2 c = search needs
 
--- src/lib.rt:111:1
 returns : tie.Need-returns
 returns c = pointed _ _ _ _ _ _ (c .pre .1) (c .pre .0)
 

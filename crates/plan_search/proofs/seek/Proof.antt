@@ -1,3 +1,4 @@
+-- The loop's invariant: the turns left, from here on, come to all turns from the start; n turns are enough, as no row joins twice. Assumes nothing.
 use Prim.Native.Nat.{_≤_, _<_, _-_, _+_}
 use native.Mathlib.Omega.{arith}
 use mathlib.Core.Path.{_≡_, refl, _∙_, sym, ap}
@@ -9,11 +10,6 @@ use Rattle.plan_search.specs.Search.{AllMet}
 use Rattle.plan_search.proofs.Search.{Trail, trail-start, trail-next, trail-end, seen-below, turn-on, turn-settled, turn-end}
 use Rattle.plan_search.proofs.seek.Statement.{statement}
 use Rattle.plan_search.proofs.seek.Tie as tie
-use Rattle.plan_search.proofs.seek.Reads as reads
-use Rattle.plan_search.proofs.seek.Lts as lts
-use Rattle.plan_search.proofs.seek_turf.Reads as seek-turf-reads
-use Rattle.plan_search.proofs.settled.Reads as settled-reads
-use Rattle.plan_state.proofs.queue_at.Reads as queue-at-reads
 
 abbrev Inv-loop : tie.InvT-loop
 Inv-loop side g starts neighbours z n e words₀ reals₀ queue count₀ looked₀ words reals count looked =
@@ -24,79 +20,60 @@ Inv-loop side g starts neighbours z n e words₀ reals₀ queue count₀ looked�
 abbrev μ-loop : tie.MeasureT-loop
 μ-loop side g starts neighbours z n e words₀ reals₀ queue count₀ looked₀ words reals count looked = n - looked
 
--- src/lib.rt:258:9
 queue-at-requires : tie.Need-queue-at-requires Inv-loop μ-loop
 queue-at-requires c κs = (c .before .before .before .before .pre .0 .0 .fit .links, c .before .before .before .before .pre .0 .0 .fit .turfs)
 
--- src/lib.rt:261:5
 loop-holds : tie.Need-loop-holds Inv-loop μ-loop
 loop-holds c = ((refl, refl), (trail-start _ (c .before .before .before .before .before .pre .0 .0), c .before .before .before .before .before .pre .1 .1 .1 .1))
 
--- src/lib.rt:262:32
 add-settled : tie.Need-add-settled Inv-loop μ-loop
 add-settled c = omega (arith, c .before .loop .inv .1 .0 .seeking .fit .words, c .before .loop .inv .1 .0 .seeking .fit .reals, c .before .loop .inv .1 .0 .seeking .fit .turfs, c .before .loop .inv .1 .0 .seeking .fit .links, c .before .loop .inv .1 .0 .seeking .line .few, c .before .before .queue-at .ensures, c .before .before .before .before .before .before .before .pre .1 .0)
 
--- src/lib.rt:262:26
 mul-settled : tie.Need-mul-settled Inv-loop μ-loop
 mul-settled c = omega (arith, c .before .loop .inv .1 .0 .seeking .fit .words, c .before .loop .inv .1 .0 .seeking .fit .reals, c .before .loop .inv .1 .0 .seeking .fit .turfs, c .before .loop .inv .1 .0 .seeking .fit .links, c .before .loop .inv .1 .0 .seeking .line .few, c .before .before .queue-at .ensures, c .before .before .before .before .before .before .before .pre .1 .0, c .before .loop .inv .0, c .before .before .before .before .before .before .before .good)
 
--- src/lib.rt:262:26
 slice-read-settled : tie.Need-slice-read-settled Inv-loop μ-loop
 slice-read-settled c = omega (arith, c .before .before .loop .inv .1 .0 .seeking .fit .words, c .before .before .loop .inv .1 .0 .seeking .fit .reals, c .before .before .loop .inv .1 .0 .seeking .fit .turfs, c .before .before .loop .inv .1 .0 .seeking .fit .links, c .before .before .loop .inv .1 .0 .seeking .line .few, c .before .before .before .queue-at .ensures, c .before .before .before .before .before .before .before .before .pre .1 .0)
 
--- src/lib.rt:262:12
 settled-requires : tie.Need-settled-requires Inv-loop μ-loop
 settled-requires c κs = search needs
 
--- src/lib.rt:263:13
 same-length : tie.Need-same-length Inv-loop μ-loop
 same-length c = search needs
 
--- src/lib.rt:263:13
 same-length-2 : tie.Need-same-length-2 Inv-loop μ-loop
 same-length-2 c = search needs
 
--- src/lib.rt:263:13
 returns : tie.Need-returns Inv-loop μ-loop
 returns c = (trail-end _ (c .before .before .before .before .loop .inv .1 .0) (turn-settled _ _ _ _ _ _ (c .before .before .before .before .loop .inv .1 .0 .seeking) (c .before .before .before .loop-test .taken) _ (c .before .before .before .before .before .queue-at .ensures) _ _ _ _ (c .before .before .before .before .before .before .before .before .before .before .pre .1 .0) (sym (c .before .settled .ensures) ∙ c .if1 .taken)), c .before .before .before .before .loop .inv .1 .1)
 
--- src/lib.rt:268:19
 add-seek-turf : tie.Need-add-seek-turf Inv-loop μ-loop
 add-seek-turf c = omega (arith, c .before .before .before .before .loop .inv .1 .0 .seeking .fit .words, c .before .before .before .before .loop .inv .1 .0 .seeking .fit .reals, c .before .before .before .before .loop .inv .1 .0 .seeking .fit .turfs, c .before .before .before .before .loop .inv .1 .0 .seeking .fit .links, c .before .before .before .before .loop .inv .1 .0 .seeking .line .few, c .before .before .before .before .before .queue-at .ensures, c .before .before .before .loop-test .taken)
 
--- src/lib.rt:268:13
 mul-seek-turf : tie.Need-mul-seek-turf Inv-loop μ-loop
 mul-seek-turf c = omega (arith, c .before .before .before .before .loop .inv .1 .0 .seeking .fit .words, c .before .before .before .before .loop .inv .1 .0 .seeking .fit .reals, c .before .before .before .before .loop .inv .1 .0 .seeking .fit .turfs, c .before .before .before .before .loop .inv .1 .0 .seeking .fit .links, c .before .before .before .before .loop .inv .1 .0 .seeking .line .few, c .before .before .before .before .before .queue-at .ensures, c .before .before .before .loop-test .taken, c .before .before .before .before .loop .inv .0, c .before .before .before .before .before .before .before .before .before .before .good)
 
--- src/lib.rt:268:13
 slice-read-seek-turf : tie.Need-slice-read-seek-turf Inv-loop μ-loop
 slice-read-seek-turf c = omega (arith, c .before .before .before .before .before .loop .inv .1 .0 .seeking .fit .words, c .before .before .before .before .before .loop .inv .1 .0 .seeking .fit .reals, c .before .before .before .before .before .loop .inv .1 .0 .seeking .fit .turfs, c .before .before .before .before .before .loop .inv .1 .0 .seeking .fit .links, c .before .before .before .before .before .loop .inv .1 .0 .seeking .line .few, c .before .before .before .before .before .before .queue-at .ensures, c .before .before .before .before .loop-test .taken)
 
--- src/lib.rt:265:9
 seek-turf-requires : tie.Need-seek-turf-requires Inv-loop μ-loop
 seek-turf-requires c κs = ((c .before .before .before .before .before .before .before .loop .inv .1 .0 .seeking, c .before .before .before .before .before .before .before .before .before .before .before .before .before .pre .0 .1), (c .before .before .before .before .before .before .before .before .before .before .before .before .before .pre .1 .0, (seen-below _ _ _ _ _ _ (c .before .before .before .before .before .before .before .loop .inv .1 .0 .seeking) (c .before .before .before .before .before .before .loop-test .taken) _ (c .before .before .before .before .before .before .before .before .queue-at .ensures), (c .before .before .before .before .before .before .before .before .before .before .before .before .before .pre .1 .1 .0, c .before .before .before .before .before .before .before .before .before .before .before .before .before .pre .1 .1 .1 .0))))
 
--- src/lib.rt:278:9
 add-looked : tie.Need-add-looked Inv-loop μ-loop
 add-looked c = omega (arith, c .before .before .before .before .before .before .before .before .before .before .before .before .loop .inv .1 .0 .seeking .line .few, c .before .before .before .before .before .before .before .before .before .before .before .before .loop .inv .1 .0 .seeking .fit .turfs, c .before .before .before .before .before .before .before .before .before .before .before .loop-test .taken)
 
--- src/lib.rt:261:5
 loop-less : tie.Need-loop-less Inv-loop μ-loop
 loop-less c = omega (arith, c .before .before .before .before .before .before .before .before .before .before .before .before .loop .inv .1 .0 .seeking .line .few, c .before .before .before .before .before .before .before .before .before .before .before .loop-test .taken)
 
--- src/lib.rt:261:5
 loop-again : tie.Need-loop-again Inv-loop μ-loop
 loop-again c = ((c .before .before .before .before .seek-turf .kept .1 .1 .1 .1 .1 .1 .1 .1 .1 .0 ∙ c .before .before .before .before .before .before .before .before .before .before .before .before .loop .inv .0 .0, c .before .before .before .before .seek-turf .kept .1 .1 .1 .1 .1 .1 .1 .1 .1 .1 .0 ∙ c .before .before .before .before .before .before .before .before .before .before .before .before .loop .inv .0 .1), (trail-next _ _ (c .before .before .before .before .before .before .before .before .before .before .before .before .loop .inv .1 .0) (c .before .before .before .before .seek-turf .ensures .0) (omega (arith, c .before .before .before .before .before .before .before .before .before .before .before .before .loop .inv .1 .0 .seeking .line .few, c .before .before .before .before .before .before .before .before .before .before .before .loop-test .taken)) (turn-on _ _ _ _ _ _ (c .before .before .before .before .before .before .before .before .before .before .before .before .loop .inv .1 .0 .seeking) (c .before .before .before .before .before .before .before .before .before .before .before .loop-test .taken) _ (c .before .before .before .before .before .before .before .before .before .before .before .before .before .queue-at .ensures) _ _ _ _ (c .before .before .before .before .before .before .before .before .before .before .before .before .before .before .before .before .before .before .pre .1 .0) (sym (c .before .before .before .before .before .before .before .before .before .settled .ensures) ∙ c .before .before .before .before .before .before .before .before .if1 .left)), c .before .before .before .before .seek-turf .ensures .1 (c .before .before .before .before .before .before .before .before .before .before .before .before .loop .inv .1 .1)))
 
--- src/lib.rt:242:1
 same-length-3 : tie.Need-same-length-3 Inv-loop μ-loop
 same-length-3 c = search needs
 
--- src/lib.rt:242:1
 same-length-4 : tie.Need-same-length-4 Inv-loop μ-loop
 same-length-4 c = search needs
 
--- src/lib.rt:242:1
 returns-2 : tie.Need-returns-2 Inv-loop μ-loop
 returns-2 c = (trail-end _ (c .before .loop .inv .1 .0) (turn-end _ _ _ _ _ _ (c .before .loop .inv .1 .0 .seeking) _ _ _ _ (c .loop-test .left)), c .before .loop .inv .1 .1)
 

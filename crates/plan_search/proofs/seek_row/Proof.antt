@@ -1,3 +1,4 @@
+-- The loop's invariant: the links left, from here on, come to what all links come to from the start; a settled turf leaves the rest as it is. Assumes nothing.
 use Prim.Native.Nat.{_≤_, _<_, _-_, _+_}
 use native.Mathlib.Omega.{arith}
 use native.Mathlib.Nat.{sub-zero}
@@ -14,10 +15,6 @@ use Rattle.plan_search.proofs.Seeks.{keeps-none}
 use Rattle.plan_search.proofs.Rows.{Onward, onward-start, onward-next, onward-end, keeps-next, along-settled}
 use Rattle.plan_search.proofs.seek_row.Statement.{statement}
 use Rattle.plan_search.proofs.seek_row.Tie as tie
-use Rattle.plan_search.proofs.seek_row.Reads as reads
-use Rattle.plan_search.proofs.seek_row.Lts as lts
-use Rattle.plan_search.proofs.seek_link.Reads as seek-link-reads
-use Rattle.plan_search.proofs.settled.Reads as settled-reads
 
 abbrev Inv-loop : tie.InvT-loop
 Inv-loop side g r part from z n e count words₀ reals₀ c₀ i₀ words reals c i =
@@ -29,75 +26,57 @@ Inv-loop side g r part from z n e count words₀ reals₀ c₀ i₀ words reals 
 abbrev μ-loop : tie.MeasureT-loop
 μ-loop side g r part from z n e count words₀ reals₀ c₀ i₀ words reals c i = length part - i
 
--- src/lib.rt:194:5
 loop-holds : tie.Need-loop-holds Inv-loop μ-loop
 loop-holds c = ((omega arith, (refl, refl)), (onward-start (c .before .before .before .pre .0 .0) (λ o s. rw sub-zero), keeps-none))
 
--- src/lib.rt:195:32
 add-settled : tie.Need-add-settled Inv-loop μ-loop
 add-settled c = omega (arith, c .before .before .before .before .before .pre .0 .0 .fit .turfs, c .before .before .before .before .before .pre .0 .0 .fit .links, c .before .before .before .before .before .pre .1 .0)
 
--- src/lib.rt:195:26
 mul-settled : tie.Need-mul-settled Inv-loop μ-loop
 mul-settled c = omega (arith, c .before .loop .inv .1 .0 .seeking .fit .reals, c .before .before .before .before .before .pre .1 .0, c .before .loop .inv .0, c .before .before .before .before .before .good)
 
--- src/lib.rt:195:26
 slice-read-settled : tie.Need-slice-read-settled Inv-loop μ-loop
 slice-read-settled c = omega (arith, c .before .before .loop .inv .1 .0 .seeking .fit .reals, c .before .before .before .before .before .before .pre .1 .0)
 
--- src/lib.rt:195:12
 settled-requires : tie.Need-settled-requires Inv-loop μ-loop
 settled-requires c κs = search needs
 
--- src/lib.rt:196:13
 same-length : tie.Need-same-length Inv-loop μ-loop
 same-length c = search needs
 
--- src/lib.rt:196:13
 same-length-2 : tie.Need-same-length-2 Inv-loop μ-loop
 same-length-2 c = search needs
 
--- src/lib.rt:196:13
 returns : tie.Need-returns Inv-loop μ-loop
 returns c = (onward-end (c .before .before .before .before .loop .inv .1 .0) (λ o looked. along-settled _ _ _ _ _ _ _ _ (c .before .before .before .before .loop .c) _ _ (c .before .before .before .before .before .before .before .before .pre .1 .0) (sym (c .before .settled .ensures) ∙ c .if1 .taken) _ _ _), c .before .before .before .before .loop .inv .1 .1)
 
--- src/lib.rt:198:35
 add-seek-link : tie.Need-add-seek-link Inv-loop μ-loop
 add-seek-link c = omega (arith, c .before .before .before .before .before .before .before .before .pre .1 .1 .1 .1, c .before .before .before .before .before .before .before .before .pre .0 .0 .fit .links)
 
--- src/lib.rt:198:45
 mul-seek-link : tie.Need-mul-seek-link Inv-loop μ-loop
 mul-seek-link c = omega arith
 
--- src/lib.rt:198:45
 shared-slice-read-seek-link : tie.Need-shared-slice-read-seek-link Inv-loop μ-loop
 shared-slice-read-seek-link c = omega arith
 
--- src/lib.rt:198:9
 seek-link-requires : tie.Need-seek-link-requires Inv-loop μ-loop
 seek-link-requires c κs = ((c .before .before .before .before .before .before .before .loop .inv .1 .0 .seeking, (c .before .before .before .before .before .before .before .before .before .before .before .pre .0 .1, sym (c .before .before .before .before .settled .ensures) ∙ c .before .before .before .if1 .left)), (c .before .before .before .before .before .before .before .before .before .before .before .pre .1 .0, (c .before .before .before .before .before .before .before .before .before .before .before .pre .1 .1 .0, (Below-at _ _ _ (c .before .before .before .before .before .before .before .before .before .before .before .pre .1 .1 .1 .0) (c .before .before .before .before .before .before .loop-test .taken), omega (arith, c .before .before .before .before .before .before .before .before .before .before .before .pre .1 .1 .1 .1, c .before .before .before .before .before .before .loop-test .taken)))))
 
--- src/lib.rt:199:9
 add-i : tie.Need-add-i Inv-loop μ-loop
 add-i c = omega arith
 
--- src/lib.rt:194:5
 loop-less : tie.Need-loop-less Inv-loop μ-loop
 loop-less c = omega arith
 
--- src/lib.rt:194:5
 loop-again : tie.Need-loop-again Inv-loop μ-loop
 loop-again c = unfold alongPart in ((omega arith, (c .before .before .before .before .seek-link .kept .1 .1 .1 .1 .1 .1 .1 .1 .1 .0 ∙ c .before .before .before .before .before .before .before .before .before .before .before .before .loop .inv .0 .1 .0, c .before .before .before .before .seek-link .kept .1 .1 .1 .1 .1 .1 .1 .1 .1 .1 .0 ∙ c .before .before .before .before .before .before .before .before .before .before .before .before .loop .inv .0 .1 .1)), (onward-next _ _ (c .before .before .before .before .before .before .before .before .before .before .before .before .loop .inv .1 .0) (c .before .before .before .before .seek-link .ensures .0) (λ o s. run-up _ _ _ _ (c .before .before .before .before .before .before .before .before .before .before .before .loop-test .taken)), keeps-next _ (c .before .before .before .before .before .before .before .before .before .before .before .loop-test .taken) (c .before .before .before .before .before .before .before .before .before .before .before .before .loop .inv .1 .1) (c .before .before .before .before .seek-link .ensures .1)))
 
--- src/lib.rt:174:1
 same-length-3 : tie.Need-same-length-3 Inv-loop μ-loop
 same-length-3 c = search needs
 
--- src/lib.rt:174:1
 same-length-4 : tie.Need-same-length-4 Inv-loop μ-loop
 same-length-4 c = search needs
 
--- src/lib.rt:174:1
 returns-2 : tie.Need-returns-2 Inv-loop μ-loop
 returns-2 c = (onward-end (c .before .loop .inv .1 .0) (λ o looked. run-up-end _ _ _ _ (c .loop-test .left)), c .before .loop .inv .1 .1)
 

@@ -1,42 +1,30 @@
+-- Two loads, the bargain, two stores. Assumes nothing.
 use Rattle.plan_search.proofs.Trades.{traded}
 use borrow.Author.Needs.{needs}
 use Rattle.plan_search.proofs.trade.Statement.{statement}
 use Rattle.plan_search.proofs.trade.Tie as tie
-use Rattle.plan_search.proofs.trade.Reads as reads
-use Rattle.plan_search.proofs.trade.Lts as lts
-use Rattle.plan_search.proofs.barter.Reads as barter-reads
-use Rattle.plan_state.proofs.load.Reads as load-reads
-use Rattle.plan_state.proofs.store.Reads as store-reads
 
--- src/lib.rt:103:9
 load-requires : tie.Need-load-requires
 load-requires c κs = search needs
 
--- src/lib.rt:104:9
 load-requires-2 : tie.Need-load-requires-2
 load-requires-2 c κs = search needs
 
--- src/lib.rt:105:9
 barter-requires : tie.Need-barter-requires
 barter-requires c κs = search needs
 
--- src/lib.rt:106:5
 store-requires : tie.Need-store-requires
 store-requires c κs = (c .before .before .before .before .before .before .before .before .before .before .before .pre .0, c .before .before .before .before .before .before .before .before .before .before .before .pre .1 .1)
 
--- src/lib.rt:107:5
 store-requires-2 : tie.Need-store-requires-2
 store-requires-2 c κs = (c .before .before .before .before .before .before .store .ensures .fit, c .before .before .before .before .before .before .before .before .before .before .before .before .before .before .before .before .before .before .pre .1 .0)
 
--- src/lib.rt:99:1
 same-length : tie.Need-same-length
 same-length c = search needs
 
--- src/lib.rt:99:1
 same-length-2 : tie.Need-same-length-2
 same-length-2 c = search needs
 
--- src/lib.rt:99:1
 returns : tie.Need-returns
 returns c = traded _ _ _ _ _ _ _ _ _ (c .before .before .before .before .before .before .before .before .before .before .before .before .before .before .before .before .before .before .load .ensures) (c .before .before .before .before .before .before .before .before .before .before .before .before .before .before .before .load2 .ensures) (c .before .before .before .before .before .before .before .before .before .before .before .before .before .before .barter .ensures) (c .before .before .before .before .before .before .before .before .before .before .before .store .ensures) (c .before .before .before .before .store2 .ensures)
 

@@ -1,89 +1,68 @@
+-- Each number is stored in its own array, and the others stay. Assumes nothing.
 use native.Mathlib.Omega.{arith}
 use lib.ListN.{length-set}
 use Rattle.plan_state.proofs.Stores.{stored}
 use borrow.Author.Needs.{needs}
 use Rattle.plan_state.proofs.store.Statement.{statement}
 use Rattle.plan_state.proofs.store.Tie as tie
-use Rattle.plan_state.proofs.store.Reads as reads
-use Rattle.plan_state.proofs.store.Lts as lts
 
--- src/lib.rt:82:11
 add-reals : tie.Need-add-reals
 add-reals c = search needs
 
--- src/lib.rt:82:5
 mul-reals : tie.Need-mul-reals
 mul-reals c = search needs
 
--- src/lib.rt:82:5
 slice-write-reals : tie.Need-slice-write-reals
 slice-write-reals c = search needs
 
--- src/lib.rt:83:11
 add-reals-2 : tie.Need-add-reals-2
 add-reals-2 c = search needs
 
--- src/lib.rt:83:11
 add-reals-3 : tie.Need-add-reals-3
 add-reals-3 c = search needs
 
--- src/lib.rt:83:5
 mul-reals-2 : tie.Need-mul-reals-2
 mul-reals-2 c = search needs
 
--- src/lib.rt:83:5
 slice-write-reals-2 : tie.Need-slice-write-reals-2
 slice-write-reals-2 c = simp length-set (omega arith)
 
--- src/lib.rt:84:11
 add-words : tie.Need-add-words
 add-words c = search needs
 
--- src/lib.rt:84:11
 add-words-2 : tie.Need-add-words-2
 add-words-2 c = search needs
 
--- src/lib.rt:84:5
 mul-words : tie.Need-mul-words
 mul-words c = search needs
 
--- src/lib.rt:84:5
 slice-write-words : tie.Need-slice-write-words
 slice-write-words c = search needs
 
--- src/lib.rt:85:11
 add-words-3 : tie.Need-add-words-3
 add-words-3 c = search needs
 
--- src/lib.rt:85:11
 add-words-4 : tie.Need-add-words-4
 add-words-4 c = search needs
 
--- src/lib.rt:85:11
 add-words-5 : tie.Need-add-words-5
 add-words-5 c = search needs
 
--- src/lib.rt:85:11
 add-words-6 : tie.Need-add-words-6
 add-words-6 c = search needs
 
--- src/lib.rt:85:5
 mul-words-2 : tie.Need-mul-words-2
 mul-words-2 c = search needs
 
--- src/lib.rt:85:5
 slice-write-words-2 : tie.Need-slice-write-words-2
 slice-write-words-2 c = simp length-set (omega arith)
 
--- src/lib.rt:78:1
 same-length : tie.Need-same-length
 same-length c = search needs
 
--- src/lib.rt:78:1
 same-length-2 : tie.Need-same-length-2
 same-length-2 c = search needs
 
--- src/lib.rt:78:1
 returns : tie.Need-returns
 returns c = stored _ _ _ _ _ (c .pre .1) (c .pre .0) _
 

@@ -1,3 +1,4 @@
+-- The loop's invariant: the nodes left, from here on, come to all nodes from the start. Assumes nothing.
 use Prim.Native.Nat.{ℕ, _≤_, _<_, _-_, _+_}
 use native.Mathlib.Omega.{arith}
 use mathlib.Core.Path.{_≡_, refl, _∙_, sym, ap}
@@ -13,9 +14,6 @@ use Rattle.plan_state.specs.Held.{area, ground, view, nodesOf}
 use Rattle.plan_state.proofs.Nodes.{Onto, onto-start, onto-next, onto-end, onto-frame, now-below, walk-next, walk-end}
 use Rattle.plan_zone.proofs.all_deltas.Statement.{statement}
 use Rattle.plan_zone.proofs.all_deltas.Tie as tie
-use Rattle.plan_zone.proofs.all_deltas.Reads as reads
-use Rattle.plan_zone.proofs.all_deltas.Lts as lts
-use Rattle.plan_zone.proofs.first_delta.Reads as first-delta-reads
 
 abbrev step : List ℕ → ℕ → List Float → Float → ℕ → Plan → Plan
 step mixtures gases gas average r t = store t r (record { delta = total (ground 0 [] [] mixtures gases) gas r -f average; amount = 0f; direction = 0; fast = 0 })
@@ -29,47 +27,36 @@ Inv-loop first count average mixtures gases gas n e words₀ reals₀ i₀ words
 abbrev μ-loop : tie.MeasureT-loop
 μ-loop first count average mixtures gases gas n e words₀ reals₀ i₀ words reals i = count - i
 
--- src/lib.rt:253:5
 loop-holds : tie.Need-loop-holds Inv-loop μ-loop
 loop-holds c = ((omega arith, (refl, refl)), onto-start _ (c .before .before .before .before .pre .1 .0))
 
--- src/lib.rt:254:27
 add-first-delta : tie.Need-add-first-delta Inv-loop μ-loop
 add-first-delta c = omega (arith, c .before .before .before .before .before .before .pre .1 .1 .room, c .before .loop .inv .0, c .before .before .before .before .before .before .good, c .loop-test .taken)
 
--- src/lib.rt:254:21
 mul-first-delta : tie.Need-mul-first-delta Inv-loop μ-loop
 mul-first-delta c = omega (arith, c .before .before .before .before .before .before .pre .1 .1 .room, c .before .loop .inv .0, c .before .before .before .before .before .before .good, c .loop-test .taken)
 
--- src/lib.rt:254:21
 slice-read-first-delta : tie.Need-slice-read-first-delta Inv-loop μ-loop
 slice-read-first-delta c = omega (arith, c .before .before .before .before .before .before .before .pre .1 .1 .room, c .before .before .loop .inv .0, c .before .before .before .before .before .before .before .good, c .before .loop-test .taken)
 
--- src/lib.rt:254:9
 first-delta-requires : tie.Need-first-delta-requires Inv-loop μ-loop
 first-delta-requires c κs = (c .before .before .before .before .before .before .before .before .before .pre .0, (c .before .before .before .before .loop .inv .1 .fit, now-below (c .before .before .before .before .before .before .before .before .before .pre .1 .1) (onto-frame (c .before .before .before .before .loop .inv .1)) (c .before .before .before .before .loop .inv .0 .1 .0) _ (c .before .before .before .loop-test .taken)))
 
--- src/lib.rt:255:9
 add-i : tie.Need-add-i Inv-loop μ-loop
 add-i c = omega arith
 
--- src/lib.rt:253:5
 loop-less : tie.Need-loop-less Inv-loop μ-loop
 loop-less c = omega arith
 
--- src/lib.rt:253:5
 loop-again : tie.Need-loop-again Inv-loop μ-loop
 loop-again c = ((omega arith, (c .before .before .before .before .first-delta .kept .1 .1 .1 .1 .1 .1 .1 .0 ∙ c .before .before .before .before .before .before .before .before .before .loop .inv .0 .1 .0, c .before .before .before .before .first-delta .kept .1 .1 .1 .1 .1 .1 .1 .1 .0 ∙ c .before .before .before .before .before .before .before .before .before .loop .inv .0 .1 .1)), onto-next _ _ (c .before .before .before .before .before .before .before .before .before .loop .inv .1) (c .before .before .before .before .first-delta .ensures) (λ o p. walk-next (c .before .before .before .before .before .before .before .before .before .before .before .before .before .before .pre .1 .1) (onto-frame (c .before .before .before .before .before .before .before .before .before .loop .inv .1)) (c .before .before .before .before .before .before .before .before .before .loop .inv .0 .1 .0) _ (c .before .before .before .before .before .before .before .before .loop-test .taken) (step _ _ _ _) p))
 
--- src/lib.rt:237:1
 same-length : tie.Need-same-length Inv-loop μ-loop
 same-length c = search needs
 
--- src/lib.rt:237:1
 same-length-2 : tie.Need-same-length-2 Inv-loop μ-loop
 same-length-2 c = search needs
 
--- src/lib.rt:237:1
 returns : tie.Need-returns Inv-loop μ-loop
 returns c = unfold deltas in onto-end (c .before .loop .inv .1) (λ o p. walk-end (c .before .before .before .before .before .before .pre .1 .1) (onto-frame (c .before .loop .inv .1)) (c .before .loop .inv .0 .1 .0) _ (c .loop-test .left) _ p)
 

@@ -1,3 +1,4 @@
+-- The loop's invariant: the givers counted and those left are all givers. Assumes nothing.
 use Prim.Native.Nat.{ℕ, _≤_, _<_, _-_, _+_}
 use native.Mathlib.Omega.{arith}
 use mathlib.Core.Path.{_≡_, refl, _∙_, sym, ap}
@@ -11,9 +12,6 @@ use Rattle.plan_state.proofs.Nodes.{node-below}
 use Rattle.plan_zone.proofs.Counts.{count-next, count-end, cond-le}
 use Rattle.plan_zone.proofs.count_givers.Statement.{statement}
 use Rattle.plan_zone.proofs.count_givers.Tie as tie
-use Rattle.plan_zone.proofs.count_givers.Reads as reads
-use Rattle.plan_zone.proofs.count_givers.Lts as lts
-use Rattle.plan_zone.proofs.count_one.Reads as count-one-reads
 
 abbrev Inv-loop : tie.InvT-loop
 Inv-loop first count n e words reals c₀ i₀ c i =
@@ -24,39 +22,30 @@ Inv-loop first count n e words reals c₀ i₀ c i =
 abbrev μ-loop : tie.MeasureT-loop
 μ-loop first count n e words reals c₀ i₀ c i = count - i
 
--- src/lib.rt:52:5
 loop-holds : tie.Need-loop-holds Inv-loop μ-loop
 loop-holds c = unfold chosen in ((omega arith, omega arith), omega arith)
 
--- src/lib.rt:53:29
 add-count-one : tie.Need-add-count-one Inv-loop μ-loop
 add-count-one c = omega (arith, c .before .before .before .before .pre .1 .0 .room, c .before .loop .inv .0, c .before .before .before .before .good, c .loop-test .taken)
 
--- src/lib.rt:53:23
 mul-count-one : tie.Need-mul-count-one Inv-loop μ-loop
 mul-count-one c = omega (arith, c .before .before .before .before .pre .1 .0 .room, c .before .loop .inv .0, c .before .before .before .before .good, c .loop-test .taken)
 
--- src/lib.rt:53:23
 shared-slice-read-count-one : tie.Need-shared-slice-read-count-one Inv-loop μ-loop
 shared-slice-read-count-one c = omega (arith, c .before .before .before .before .before .pre .1 .0 .room, c .before .before .loop .inv .0, c .before .before .before .before .before .good, c .before .loop-test .taken)
 
--- src/lib.rt:53:9
 count-one-requires : tie.Need-count-one-requires Inv-loop μ-loop
 count-one-requires c κs = (omega (arith, c .before .before .before .before .before .pre .0 .reals, node-below (c .before .before .before .before .before .pre .1 .0) _ (c .before .loop-test .taken)), omega (arith, c .before .before .loop .inv .0, c .before .before .before .before .before .pre .1 .1))
 
--- src/lib.rt:54:9
 add-i : tie.Need-add-i Inv-loop μ-loop
 add-i c = omega arith
 
--- src/lib.rt:52:5
 loop-less : tie.Need-loop-less Inv-loop μ-loop
 loop-less c = omega arith
 
--- src/lib.rt:52:5
 loop-again : tie.Need-loop-again Inv-loop μ-loop
 loop-again c = ((omega arith, omega (arith, c .before .before .before .loop .inv .0, c .count-one .ensures, cond-le (picks Giving (getD (c .before .before .before .before .before .before .args .reals .now) (c .before .before .before .before .before .before .args .e + getD (c .before .before .before .before .before .before .args .words .now) (c .before .before .before .before .before .before .args .first + c .before .before .before .loop .i) 0) nan)) (c .before .before .before .loop .c))), sym (count-next (c .before .before .before .before .before .before .pre .1 .0) _ _ (c .before .before .loop-test .taken) _ (c .count-one .ensures)) ∙ c .before .before .before .loop .inv .1)
 
--- src/lib.rt:46:1
 returns : tie.Need-returns Inv-loop μ-loop
 returns c = sym (count-end (c .before .before .before .before .pre .1 .0) _ _ (c .loop-test .left)) ∙ c .before .loop .inv .1
 

@@ -1,71 +1,52 @@
+-- By the two tests; who doesn't give takes. Assumes nothing.
 use Rattle.plan_zone.proofs.Counts.{givers-le}
 use Rattle.plan_zone.proofs.Lists.{pass-on, pass-takers, pass-few}
 use borrow.Author.Needs.{needs}
 use Rattle.plan_zone.proofs.fast_pass.Statement.{statement}
 use Rattle.plan_zone.proofs.fast_pass.Tie as tie
-use Rattle.plan_zone.proofs.fast_pass.Reads as reads
-use Rattle.plan_zone.proofs.fast_pass.Lts as lts
-use Rattle.plan_fast.proofs.fast_all.Reads as fast-all-reads
-use Rattle.plan_zone.proofs.count_givers.Reads as count-givers-reads
-use Rattle.plan_zone.proofs.log2.Reads as log2-reads
 
--- src/lib.rt:154:9
 count-givers-requires : tie.Need-count-givers-requires
 count-givers-requires c κs = search needs
 
--- src/lib.rt:155:18
 sub-takers : tie.Need-sub-takers
 sub-takers c = givers-le _ (c .before .before .before .before .before .before .before .pre .1 .1 .0) (c .count-givers .ensures)
 
--- src/lib.rt:156:21
 cast-log2 : tie.Need-cast-log2
 cast-log2 c = search needs
 
--- src/lib.rt:156:16
 log2-requires : tie.Need-log2-requires
 log2-requires c κs = search needs
 
--- src/lib.rt:156:16
 cast-most : tie.Need-cast-most
 cast-most c = search needs
 
--- src/lib.rt:159:13
 fast-all-requires : tie.Need-fast-all-requires
 fast-all-requires c κs = search needs
 
--- src/lib.rt:139:1
 same-length : tie.Need-same-length
 same-length c = search needs
 
--- src/lib.rt:139:1
 same-length-2 : tie.Need-same-length-2
 same-length-2 c = search needs
 
--- src/lib.rt:139:1
 returns : tie.Need-returns
 returns c = pass-on _ _ _ _ (c .before .before .before .before .before .before .before .before .before .before .before .before .before .before .before .before .before .pre .1 .1 .0) (c .before .before .before .before .before .before .before .before .before .before .count-givers .ensures) (c .before .before .before .before .before .before .before .before .before .log2 .ensures) (c .before .before .before .before .before .before .before .before .if1 .taken) (c .before .before .before .before .before .before .before .if2 .taken) (c .before .before .before .before .fast-all .ensures)
 
--- src/lib.rt:139:1
 same-length-3 : tie.Need-same-length-3
 same-length-3 c = search needs
 
--- src/lib.rt:139:1
 same-length-4 : tie.Need-same-length-4
 same-length-4 c = search needs
 
--- src/lib.rt:139:1
 returns-2 : tie.Need-returns-2
 returns-2 c = pass-takers _ _ _ _ (c .before .before .before .before .before .before .before .before .before .before .pre .1 .1 .0) (c .before .before .before .count-givers .ensures) (c .before .before .log2 .ensures) (c .before .before .before .before .before .before .before .before .before .before .pre .0 .1 .1 .0) (c .before .if1 .taken) (c .if2 .left)
 
--- src/lib.rt:139:1
 same-length-5 : tie.Need-same-length-5
 same-length-5 c = search needs
 
--- src/lib.rt:139:1
 same-length-6 : tie.Need-same-length-6
 same-length-6 c = search needs
 
--- src/lib.rt:139:1
 returns-3 : tie.Need-returns-3
 returns-3 c = pass-few _ _ _ _ (c .before .before .before .before .before .before .before .before .before .pre .1 .1 .0) (c .before .before .count-givers .ensures) (c .before .log2 .ensures) (c .before .before .before .before .before .before .before .before .before .pre .0 .1 .1 .0) (c .if1 .left)
 

@@ -1,3 +1,4 @@
+-- The loop's invariant: the list with those left to choose is all that are chosen. Assumes nothing.
 use Prim.Native.Nat.{ℕ, _≤_, _<_, _-_, _+_}
 use native.Mathlib.Omega.{arith}
 use mathlib.Core.Path.{_≡_, refl, _∙_, sym, ap}
@@ -10,10 +11,6 @@ use Rattle.plan_state.proofs.Nodes.{nodes-length}
 use Rattle.plan_zone.proofs.Lists.{Picking, picking-start, picking-next, picking-end, pick-row, pick-below, pick-test}
 use Rattle.plan_zone.proofs.gather.Statement.{statement}
 use Rattle.plan_zone.proofs.gather.Tie as tie
-use Rattle.plan_zone.proofs.gather.Reads as reads
-use Rattle.plan_zone.proofs.gather.Lts as lts
-use Rattle.plan_state.proofs.list_at.Reads as list-at-reads
-use Rattle.plan_zone.proofs.choose.Reads as choose-reads
 
 abbrev Inv-loop : tie.InvT-loop
 Inv-loop side first count n e words₀ reals list c₀ i₀ words c i =
@@ -23,47 +20,36 @@ Inv-loop side first count n e words₀ reals list c₀ i₀ words c i =
 abbrev μ-loop : tie.MeasureT-loop
 μ-loop side first count n e words₀ reals list c₀ i₀ words c i = count - i
 
--- src/lib.rt:93:9
 list-at-requires : tie.Need-list-at-requires Inv-loop μ-loop
 list-at-requires c κs = (c .before .before .pre .0 .links, c .before .before .pre .0 .turfs)
 
--- src/lib.rt:96:5
 loop-holds : tie.Need-loop-holds Inv-loop μ-loop
 loop-holds c = ((omega arith, refl), picking-start _ _ (c .before .before .before .pre .0))
 
--- src/lib.rt:97:32
 add-choose : tie.Need-add-choose Inv-loop μ-loop
 add-choose c = omega (arith, c .before .before .before .before .before .pre .1 .0 .room, c .before .loop .inv .0, c .before .before .before .before .before .good, c .loop-test .taken)
 
--- src/lib.rt:97:26
 mul-choose : tie.Need-mul-choose Inv-loop μ-loop
 mul-choose c = omega (arith, c .before .before .before .before .before .pre .1 .0 .room, c .before .loop .inv .0, c .before .before .before .before .before .good, c .loop-test .taken)
 
--- src/lib.rt:97:26
 slice-read-choose : tie.Need-slice-read-choose Inv-loop μ-loop
 slice-read-choose c = omega (arith, c .before .before .before .before .before .before .pre .1 .0 .room, c .before .before .loop .inv .0, c .before .before .before .before .before .before .good, c .before .loop-test .taken)
 
--- src/lib.rt:97:9
 choose-requires : tie.Need-choose-requires Inv-loop μ-loop
 choose-requires c κs = (omega (arith, c .before .before .before .loop .inv .1 .fit .words, c .before .before .before .before .list-at .ensures, c .before .before .before .loop .inv .1 .few, c .before .before .loop-test .taken, c .before .before .before .before .before .before .before .pre .1 .1), (omega (arith, c .before .before .before .before .before .before .before .pre .0 .reals, pick-below (c .before .before .before .before .before .before .before .pre .1 .0) (c .before .before .before .before .before .before .before .args .side) (c .before .before .before .loop .inv .1) (c .before .before .before .loop .inv .0 .1) (c .before .before .loop-test .taken)), omega (arith, c .before .before .before .loop .inv .1 .few, c .before .before .loop-test .taken, c .before .before .before .before .before .before .before .pre .1 .1, c .before .before .before .before .before .before .before .pre .0 .turfs)))
 
--- src/lib.rt:98:9
 add-i : tie.Need-add-i Inv-loop μ-loop
 add-i c = omega arith
 
--- src/lib.rt:96:5
 loop-less : tie.Need-loop-less Inv-loop μ-loop
 loop-less c = omega arith
 
--- src/lib.rt:96:5
 loop-again : tie.Need-loop-again Inv-loop μ-loop
 loop-again c = ((omega arith, c .before .before .choose .kept .1 .1 .1 .1 .1 .0 ∙ c .before .before .before .before .before .before .loop .inv .0 .1), picking-next _ _ (c .before .before .before .before .before .before .loop .inv .1) (rw (nodes-length (c .before .before .before .before .before .before .before .before .before .before .pre .1 .0)) (c .before .before .before .before .before .loop-test .taken)) _ (c .before .before .before .before .before .before .before .list-at .ensures) (omega (arith, c .before .before .before .before .before .before .loop .inv .1 .few, c .before .before .before .before .before .loop-test .taken, c .before .before .before .before .before .before .before .before .before .before .pre .1 .1)) _ (pick-test (c .before .before .before .before .before .before .before .before .before .before .pre .1 .0) (c .before .before .before .before .before .before .before .before .before .before .args .side) (c .before .before .before .before .before .before .loop .inv .1) (c .before .before .before .before .before .before .loop .inv .0 .1) (c .before .before .before .before .before .loop-test .taken)) _ (pick-row (c .before .before .before .before .before .before .before .before .before .before .pre .1 .0) (c .before .before .before .before .before .before .before .before .before .before .args .side) (c .before .before .before .before .before .before .loop .inv .1) (c .before .before .before .before .before .before .loop .inv .0 .1) (c .before .before .before .before .before .loop-test .taken)) _ (c .before .before .choose .ensures .0) _ (c .before .before .choose .ensures .1))
 
--- src/lib.rt:81:1
 same-length : tie.Need-same-length Inv-loop μ-loop
 same-length c = search needs
 
--- src/lib.rt:81:1
 returns : tie.Need-returns Inv-loop μ-loop
 returns c = picking-end (c .before .before .before .before .before .args .side) _ _ (c .before .loop .inv .1) (omega (arith, c .before .loop .inv .0, c .before .before .before .before .before .pre .1 .1)) (rw (nodes-length (c .before .before .before .before .before .pre .1 .0)) (c .loop-test .left))
 

@@ -1,3 +1,4 @@
+-- The loop's invariant: the turfs left, from here on, come to all turfs from the start. Assumes nothing.
 use Prim.Native.Nat.{ℕ, _≤_, _<_, _-_, _+_}
 use native.Mathlib.Omega.{arith}
 use mathlib.Core.Path.{_≡_, refl, _∙_, sym, ap}
@@ -10,10 +11,6 @@ use Rattle.plan_state.proofs.Nodes.{reverses-kept}
 use Rattle.plan_zone.proofs.Lists.{Along, along-start, along-next, along-end, list-below, list-next, list-end}
 use Rattle.plan_zone.proofs.serve_all.Statement.{statement}
 use Rattle.plan_zone.proofs.serve_all.Tie as tie
-use Rattle.plan_zone.proofs.serve_all.Reads as reads
-use Rattle.plan_zone.proofs.serve_all.Lts as lts
-use Rattle.plan_search.proofs.serve.Reads as serve-reads
-use Rattle.plan_state.proofs.list_at.Reads as list-at-reads
 
 abbrev Inv-loop : tie.InvT-loop
 Inv-loop side count starts neighbours z n e words₀ reals₀ list i₀ words reals i =
@@ -24,51 +21,39 @@ Inv-loop side count starts neighbours z n e words₀ reals₀ list i₀ words re
 abbrev μ-loop : tie.MeasureT-loop
 μ-loop side count starts neighbours z n e words₀ reals₀ list i₀ words reals i = count - i
 
--- src/lib.rt:119:9
 list-at-requires : tie.Need-list-at-requires Inv-loop μ-loop
 list-at-requires c κs = (c .before .before .before .before .pre .0 .1 .1 .0 .links, c .before .before .before .before .pre .0 .1 .1 .0 .turfs)
 
--- src/lib.rt:121:5
 loop-holds : tie.Need-loop-holds Inv-loop μ-loop
 loop-holds c = ((omega arith, (refl, refl)), along-start _ (c .before .before .before .before .before .pre .0 .1 .1 .0))
 
--- src/lib.rt:122:27
 add-serve : tie.Need-add-serve Inv-loop μ-loop
 add-serve c = omega (arith, c .before .before .before .before .before .before .before .pre .1 .1 .0, c .before .loop .inv .1 .fit .words, c .before .loop .inv .0, c .before .before .before .before .before .before .before .good, c .loop-test .taken, c .before .before .list-at .ensures)
 
--- src/lib.rt:122:21
 mul-serve : tie.Need-mul-serve Inv-loop μ-loop
 mul-serve c = omega (arith, c .before .before .before .before .before .before .before .pre .1 .1 .0, c .before .loop .inv .1 .fit .words, c .before .loop .inv .0, c .before .before .before .before .before .before .before .good, c .loop-test .taken, c .before .before .list-at .ensures)
 
--- src/lib.rt:122:21
 slice-read-serve : tie.Need-slice-read-serve Inv-loop μ-loop
 slice-read-serve c = omega (arith, c .before .before .before .before .before .before .before .before .pre .1 .1 .0, c .before .before .loop .inv .1 .fit .words, c .before .before .loop .inv .0, c .before .before .before .before .before .before .before .before .good, c .before .loop-test .taken, c .before .before .before .list-at .ensures)
 
--- src/lib.rt:122:9
 serve-requires : tie.Need-serve-requires Inv-loop μ-loop
 serve-requires c κs = ((c .before .before .before .before .before .before .before .before .before .before .pre .0 .0, (c .before .before .before .before .before .before .before .before .before .before .pre .0 .1 .0, (c .before .before .before .before .loop .inv .1 .fit, (c .before .before .before .before .before .before .before .before .before .before .pre .0 .1 .1 .1, list-below (c .before .before .before .before .before .before .before .before .before .before .pre .1 .1 .0) (c .before .before .before .before .before .before .before .before .before .before .pre .1 .1 .1) (c .before .before .before .before .loop .inv .1) _ (c .before .before .before .before .before .list-at .ensures) _ (c .before .before .before .loop-test .taken))))), reverses-kept (c .before .before .before .before .before .before .before .before .before .before .pre .1 .0) (c .before .before .before .before .loop .inv .1 .frame))
 
--- src/lib.rt:123:9
 add-i : tie.Need-add-i Inv-loop μ-loop
 add-i c = omega arith
 
--- src/lib.rt:121:5
 loop-less : tie.Need-loop-less Inv-loop μ-loop
 loop-less c = omega arith
 
--- src/lib.rt:121:5
 loop-again : tie.Need-loop-again Inv-loop μ-loop
 loop-again c = ((omega arith, (c .before .before .before .before .serve .kept .1 .1 .1 .1 .1 .1 .1 .0 ∙ c .before .before .before .before .before .before .before .before .before .loop .inv .0 .1 .0, c .before .before .before .before .serve .kept .1 .1 .1 .1 .1 .1 .1 .1 .0 ∙ c .before .before .before .before .before .before .before .before .before .loop .inv .0 .1 .1)), along-next _ _ (c .before .before .before .before .before .before .before .before .before .loop .inv .1) (c .before .before .before .before .serve .ensures) (λ o p. list-next (c .before .before .before .before .before .before .before .before .before .before .before .before .before .before .before .pre .1 .1 .0) (c .before .before .before .before .before .before .before .before .before .before .before .before .before .before .before .pre .1 .1 .1) (c .before .before .before .before .before .before .before .before .before .loop .inv .1) _ (c .before .before .before .before .before .before .before .before .before .before .list-at .ensures) _ (c .before .before .before .before .before .before .before .before .loop-test .taken) _ p))
 
--- src/lib.rt:104:1
 same-length : tie.Need-same-length Inv-loop μ-loop
 same-length c = search needs
 
--- src/lib.rt:104:1
 same-length-2 : tie.Need-same-length-2 Inv-loop μ-loop
 same-length-2 c = search needs
 
--- src/lib.rt:104:1
 returns : tie.Need-returns Inv-loop μ-loop
 returns c = along-end (c .before .loop .inv .1) (λ o p. list-end (c .before .before .before .before .before .before .before .pre .1 .1 .0) (c .before .before .before .before .before .before .before .pre .1 .1 .1) (c .before .loop .inv .1) _ (c .before .before .list-at .ensures) _ (c .loop-test .left) _ p)
 

@@ -1,45 +1,32 @@
+-- Who doesn't give takes, so one count decides the side. Assumes nothing.
 use Rattle.plan_state.proofs.Nodes.{reverses-kept}
 use Rattle.plan_zone.proofs.Counts.{givers-le}
 use Rattle.plan_zone.proofs.Lists.{chosen-below, shared-out}
 use borrow.Author.Needs.{needs}
 use Rattle.plan_zone.proofs.share_out.Statement.{statement}
 use Rattle.plan_zone.proofs.share_out.Tie as tie
-use Rattle.plan_zone.proofs.share_out.Reads as reads
-use Rattle.plan_zone.proofs.share_out.Lts as lts
-use Rattle.plan_zone.proofs.count_givers.Reads as count-givers-reads
-use Rattle.plan_zone.proofs.gather.Reads as gather-reads
-use Rattle.plan_zone.proofs.serve_all.Reads as serve-all-reads
-use Rattle.plan_zone.proofs.side_of.Reads as side-of-reads
 
--- src/lib.rt:180:9
 count-givers-requires : tie.Need-count-givers-requires
 count-givers-requires c κs = search needs
 
--- src/lib.rt:181:32
 sub-side-of : tie.Need-sub-side-of
 sub-side-of c = givers-le _ (c .before .before .before .before .before .before .before .pre .1 .1 .0) (c .count-givers .ensures)
 
--- src/lib.rt:181:9
 side-of-requires : tie.Need-side-of-requires
 side-of-requires c κs = search needs
 
--- src/lib.rt:182:9
 gather-requires : tie.Need-gather-requires
 gather-requires c κs = search needs
 
--- src/lib.rt:183:5
 serve-all-requires : tie.Need-serve-all-requires
 serve-all-requires c κs = ((c .before .before .before .before .before .before .before .before .before .before .before .before .before .before .before .pre .0 .0, (c .before .before .before .before .before .before .before .before .before .before .before .before .before .before .before .pre .0 .1 .0, (c .before .before .before .before .gather .ensures .fit, c .before .before .before .before .before .before .before .before .before .before .before .before .before .before .before .pre .0 .1 .1 .1))), (reverses-kept (c .before .before .before .before .before .before .before .before .before .before .before .before .before .before .before .pre .1 .0) (c .before .before .before .before .gather .ensures .frame), (c .before .before .before .before .gather .ensures .few, chosen-below _ _ (c .before .before .before .before .before .before .before .before .before .before .before .before .before .before .before .pre .1 .1 .0) (c .before .before .before .before .gather .ensures))))
 
--- src/lib.rt:165:1
 same-length : tie.Need-same-length
 same-length c = search needs
 
--- src/lib.rt:165:1
 same-length-2 : tie.Need-same-length-2
 same-length-2 c = search needs
 
--- src/lib.rt:165:1
 returns : tie.Need-returns
 returns c = shared-out _ _ _ _ _ (c .before .before .before .before .before .before .before .before .before .before .before .before .before .before .before .before .before .before .before .before .pre .1 .1 .0) (c .before .before .before .before .before .before .before .before .before .before .before .before .before .count-givers .ensures) (c .before .before .before .before .before .before .before .before .before .before .before .before .side-of .ensures) (c .before .before .before .before .before .before .before .before .before .gather .ensures) (c .before .before .before .before .serve-all .ensures)
 

@@ -1,14 +1,11 @@
+-- By the test. Assumes nothing.
 use borrow.Author.Tests.{lt-ltb, le-ltb}
 use Rattle.plan_zone.proofs.side_of.Statement.{statement}
 use Rattle.plan_zone.proofs.side_of.Tie as tie
-use Rattle.plan_zone.proofs.side_of.Reads as reads
-use Rattle.plan_zone.proofs.side_of.Lts as lts
 
--- src/lib.rt:585:1
 returns : tie.Need-returns
 returns c = rw (lt-ltb _ _ (c .if1 .taken))
 
--- src/lib.rt:585:1
 returns-2 : tie.Need-returns-2
 returns-2 c = rw (le-ltb _ _ (c .if1 .left))
 

@@ -1,4 +1,4 @@
--- `total` sums from the left: what is left of the run, from where the loop stands, comes to the whole run. Assumes nothing.
+-- The loop's invariant: the sum of the amounts left, from here on, is the sum of all. Assumes nothing.
 use mathlib.Core.Path.{_≡_, refl, sym, _∙_, ap}
 use mathlib.Core.List.{List, [], _∷_}
 use Prim.Native.Nat.{ℕ, _+_, _-_, _≤_, _<_}
@@ -13,8 +13,6 @@ use Rattle.basics.specs.Floats.{0f, _+f_}
 use Rattle.mixture.specs.Mixture.{sum}
 use Rattle.plan_zone.proofs.total.Statement.{statement}
 use Rattle.plan_zone.proofs.total.Tie as tie
-use Rattle.plan_zone.proofs.total.Reads as reads
-use Rattle.plan_zone.proofs.total.Lts as lts
 
 abbrev rest : List Float → Float → Float
 rest xs t = run (λ x u. u +f x) xs t

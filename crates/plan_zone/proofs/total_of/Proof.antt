@@ -1,53 +1,40 @@
+-- The part is the mixture's amounts. Assumes nothing.
 use native.Mathlib.Omega.{arith}
 use borrow.Author.Needs.{needs}
 use Rattle.plan_zone.proofs.Whole.{total-is}
 use Rattle.plan_zone.proofs.total_of.Statement.{statement}
 use Rattle.plan_zone.proofs.total_of.Tie as tie
-use Rattle.plan_zone.proofs.total_of.Reads as reads
-use Rattle.plan_zone.proofs.total_of.Lts as lts
-use Rattle.plan_zone.proofs.total.Reads as total-reads
 
--- src/lib.rt:204:13
 mul-m : tie.Need-mul-m
 mul-m c = search needs
 
--- src/lib.rt:204:13
 shared-slice-read-m : tie.Need-shared-slice-read-m
 shared-slice-read-m c = search needs
 
--- src/lib.rt:204:13
 cast-m : tie.Need-cast-m
 cast-m c = omega (arith, c .shared-slice-known3 .given (c .before .before .before .args .row))
 
--- src/lib.rt:205:16
 mul-from : tie.Need-mul-from
 mul-from c = omega (arith, c .before .before .before .pre .0 .within (c .before .before .before .args .row) (c .before .before .before .pre .1), c .before .before .before .good)
 
--- src/lib.rt:206:14
 add-to : tie.Need-add-to
 add-to c = omega (arith, c .before .before .before .pre .0 .within (c .before .before .before .args .row) (c .before .before .before .pre .1), c .before .before .before .good)
 
--- src/lib.rt:207:11
 mul-total : tie.Need-mul-total
 mul-total c = omega (arith, c .before .before .before .pre .0 .within (c .before .before .before .args .row) (c .before .before .before .pre .1), c .before .before .before .good)
 
--- src/lib.rt:207:11
 sub-total : tie.Need-sub-total
 sub-total c = search needs
 
--- src/lib.rt:207:11
 part-total-start : tie.Need-part-total-start
 part-total-start c = search needs
 
--- src/lib.rt:207:11
 part-total-end : tie.Need-part-total-end
 part-total-end c = omega (arith, c .before .before .before .pre .0 .within (c .before .before .before .args .row) (c .before .before .before .pre .1))
 
--- src/lib.rt:207:5
 total-requires : tie.Need-total-requires
 total-requires c κs = search needs
 
--- src/lib.rt:200:1
 returns : tie.Need-returns
 returns c = total-is _ _ _ _ _ (c .total .ensures)
 

@@ -1,3 +1,4 @@
+-- The loop's invariant: the heads before r are 0, and nothing else changed. Assumes nothing.
 use Prim.Native.Nat.{ℕ, _≤_, _<_, _-_, _+_}
 use native.Mathlib.Omega.{arith}
 use mathlib.Core.Path.{_≡_, refl, _∙_, sym, ap}
@@ -7,8 +8,6 @@ use Rattle.reverse_links.specs.Words.{But}
 use Rattle.reverse_links.proofs.Places.{but-none, but-set, cleared}
 use Rattle.reverse_links.proofs.clear_heads.Statement.{statement}
 use Rattle.reverse_links.proofs.clear_heads.Tie as tie
-use Rattle.reverse_links.proofs.clear_heads.Reads as reads
-use Rattle.reverse_links.proofs.clear_heads.Lts as lts
 
 abbrev Inv-loop : tie.InvT-loop
 Inv-loop head n words₀ r₀ words r =
@@ -17,39 +16,30 @@ Inv-loop head n words₀ r₀ words r =
 abbrev μ-loop : tie.MeasureT-loop
 μ-loop head n words₀ r₀ words r = n - r
 
--- src/lib.rt:18:5
 loop-holds : tie.Need-loop-holds Inv-loop μ-loop
 loop-holds c = (omega arith, (but-none, λ a l. absurd (omega (arith, l))))
 
--- src/lib.rt:19:15
 add-words : tie.Need-add-words Inv-loop μ-loop
 add-words c = omega (arith, c .before .before .pre, c .before .before .good, c .loop-test .taken)
 
--- src/lib.rt:19:9
 mul-words : tie.Need-mul-words Inv-loop μ-loop
 mul-words c = omega (arith, c .before .before .pre, c .before .before .good, c .loop-test .taken, c .before .loop .inv .1 .0 .len)
 
--- src/lib.rt:19:9
 slice-write-words : tie.Need-slice-write-words Inv-loop μ-loop
 slice-write-words c = omega (arith, c .before .before .pre, c .loop-test .taken, c .before .loop .inv .1 .0 .len)
 
--- src/lib.rt:20:9
 add-r : tie.Need-add-r Inv-loop μ-loop
 add-r c = omega arith
 
--- src/lib.rt:18:5
 loop-less : tie.Need-loop-less Inv-loop μ-loop
 loop-less c = omega arith
 
--- src/lib.rt:18:5
 loop-again : tie.Need-loop-again Inv-loop μ-loop
 loop-again c = (omega arith, (but-set (c .before .before .args .head + c .before .loop .r) 0 (omega arith) (omega (arith, c .loop-test .taken)) (c .before .loop .inv .1 .0), cleared (c .before .before .args .head) (c .before .loop .r) (c .before .loop .words) (omega (arith, c .before .before .pre, c .loop-test .taken, c .before .loop .inv .1 .0 .len)) (c .before .loop .inv .1 .1)))
 
--- src/lib.rt:13:1
 same-length : tie.Need-same-length Inv-loop μ-loop
 same-length c = c .before .loop .inv .1 .0 .len
 
--- src/lib.rt:13:1
 returns : tie.Need-returns Inv-loop μ-loop
 returns c = (c .before .loop .inv .1 .0, λ a l. c .before .loop .inv .1 .1 a (omega (arith, l, c .loop-test .left, c .before .loop .inv .0)))
 

@@ -1,3 +1,4 @@
+-- The loop's invariant: the ends of the links before j lead back to them; none stands twice, so no mark is overwritten. Assumes nothing.
 use Prim.Native.Nat.{ℕ, _≤_, _<_, _-_, _+_}
 use native.Mathlib.Omega.{arith}
 use mathlib.Core.Path.{_≡_, refl, _∙_, sym, ap}
@@ -7,8 +8,6 @@ use Rattle.reverse_links.specs.Words.{But, Marked}
 use Rattle.reverse_links.proofs.Places.{but-none, but-set, marked-more, marked-all}
 use Rattle.reverse_links.proofs.mark_row.Statement.{statement}
 use Rattle.reverse_links.proofs.mark_row.Tie as tie
-use Rattle.reverse_links.proofs.mark_row.Reads as reads
-use Rattle.reverse_links.proofs.mark_row.Lts as lts
 
 abbrev Inv-loop : tie.InvT-loop
 Inv-loop neighbours from to n mark words₀ j₀ words j =
@@ -17,55 +16,42 @@ Inv-loop neighbours from to n mark words₀ j₀ words j =
 abbrev μ-loop : tie.MeasureT-loop
 μ-loop neighbours from to n mark words₀ j₀ words j = to - j
 
--- src/lib.rt:85:5
 loop-holds : tie.Need-loop-holds Inv-loop μ-loop
 loop-holds c = ((omega arith, c .pre .0 .0), (but-none, record { at = λ j l m. absurd (omega (arith, l, m)) }))
 
--- src/lib.rt:86:17
 mul-a : tie.Need-mul-a Inv-loop μ-loop
 mul-a c = omega (arith, c .before .before .pre .0, c .before .before .good, c .loop-test .taken)
 
--- src/lib.rt:86:17
 shared-slice-read-a : tie.Need-shared-slice-read-a Inv-loop μ-loop
 shared-slice-read-a c = omega (arith, c .before .before .before .pre .0, c .before .loop-test .taken)
 
--- src/lib.rt:86:17
 cast-a : tie.Need-cast-a Inv-loop μ-loop
 cast-a c = omega (arith, c .shared-slice-known .given (c .before .before .loop .j))
 
--- src/lib.rt:87:27
 cast-words : tie.Need-cast-words Inv-loop μ-loop
 cast-words c = omega (arith, c .before .before .before .pre .0, c .before .loop-test .taken)
 
--- src/lib.rt:87:15
 add-words : tie.Need-add-words Inv-loop μ-loop
 add-words c = omega (arith, c .before .before .before .pre .0 .1 .1 .0, c .before .before .before .good, (c .before .before .before .pre .1 .0 (c .before .before .loop .j) (omega (arith, c .before .before .before .pre .0, c .before .loop-test .taken))))
 
--- src/lib.rt:87:9
 mul-words : tie.Need-mul-words Inv-loop μ-loop
 mul-words c = omega (arith, c .before .before .before .pre .0 .1 .1 .0, c .before .before .before .good, (c .before .before .before .pre .1 .0 (c .before .before .loop .j) (omega (arith, c .before .before .before .pre .0, c .before .loop-test .taken))), c .before .before .loop .inv .1 .0 .len)
 
--- src/lib.rt:87:9
 slice-write-words : tie.Need-slice-write-words Inv-loop μ-loop
 slice-write-words c = omega (arith, c .before .before .before .pre .0 .1 .1 .0, (c .before .before .before .pre .1 .0 (c .before .before .loop .j) (omega (arith, c .before .before .before .pre .0, c .before .loop-test .taken))), c .before .before .loop .inv .1 .0 .len)
 
--- src/lib.rt:88:9
 add-j : tie.Need-add-j Inv-loop μ-loop
 add-j c = omega (arith, c .before .before .before .pre .0, c .before .loop-test .taken)
 
--- src/lib.rt:85:5
 loop-less : tie.Need-loop-less Inv-loop μ-loop
 loop-less c = omega arith
 
--- src/lib.rt:85:5
 loop-again : tie.Need-loop-again Inv-loop μ-loop
 loop-again c = ((omega (arith, c .before .before .loop .inv .0), omega (arith, c .before .loop-test .taken)), (but-set (c .before .before .before .args .mark + getD (c .before .before .before .args .neighbours .now) (c .before .before .loop .j) 0) (c .before .before .loop .j) (omega arith) (omega (arith, (c .before .before .before .pre .1 .0 (c .before .before .loop .j) (omega (arith, c .before .before .before .pre .0, c .before .loop-test .taken))))) (c .before .before .loop .inv .1 .0), marked-more (c .before .before .before .args .neighbours .now) (c .before .before .before .args .from) (c .before .before .loop .j) (c .before .before .before .args .mark) (c .before .before .loop .words) (omega (arith, c .before .before .before .pre .0 .1 .1 .0, (c .before .before .before .pre .1 .0 (c .before .before .loop .j) (omega (arith, c .before .before .before .pre .0, c .before .loop-test .taken))), c .before .before .loop .inv .1 .0 .len)) (λ i f k q. absurd (omega (arith, k, c .before .before .before .pre .1 .1 i (c .before .before .loop .j) f (omega (arith, k, c .before .loop-test .taken)) (c .before .before .loop .inv .0 .0) (c .before .loop-test .taken) q))) (c .before .before .loop .inv .1 .1)))
 
--- src/lib.rt:78:1
 same-length : tie.Need-same-length Inv-loop μ-loop
 same-length c = c .before .loop .inv .1 .0 .len
 
--- src/lib.rt:78:1
 returns : tie.Need-returns Inv-loop μ-loop
 returns c = (c .before .loop .inv .1 .0, marked-all (omega (arith, c .before .loop .inv .0, c .loop-test .left)) (c .before .loop .inv .1 .1))
 

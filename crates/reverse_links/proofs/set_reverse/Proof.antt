@@ -1,3 +1,4 @@
+-- The mark of the link's turf leads to the link that leads back, if there is one. Assumes nothing.
 use native.Mathlib.Omega.{arith}
 use Prim.Native.Nat.{ℕ, _+_}
 use mathlib.Core.Path.{_∙_, sym, ap}
@@ -5,63 +6,46 @@ use lib.ListN.{getD, set}
 use borrow.Author.Needs.{needs}
 use Rattle.reverse_links.proofs.set_reverse.Statement.{statement}
 use Rattle.reverse_links.proofs.set_reverse.Tie as tie
-use Rattle.reverse_links.proofs.set_reverse.Reads as reads
-use Rattle.reverse_links.proofs.set_reverse.Lts as lts
-use Rattle.reverse_links.proofs.checked.Reads as checked-reads
 
--- src/lib.rt:125:19
 add-s : tie.Need-add-s
 add-s c = search needs
 
--- src/lib.rt:125:13
 mul-s : tie.Need-mul-s
 mul-s c = search needs
 
--- src/lib.rt:125:13
 slice-read-s : tie.Need-slice-read-s
 slice-read-s c = search needs
 
--- src/lib.rt:126:26
 cast-p : tie.Need-cast-p
 cast-p c = search needs
 
--- src/lib.rt:126:19
 add-p : tie.Need-add-p
 add-p c = search needs
 
--- src/lib.rt:126:13
 mul-p : tie.Need-mul-p
 mul-p c = search needs
 
--- src/lib.rt:126:13
 slice-read-p : tie.Need-slice-read-p
 slice-read-p c = search needs
 
--- src/lib.rt:126:13
 cast-p-2 : tie.Need-cast-p-2
 cast-p-2 c = omega (arith, c .slice-known3 .given (c .before .before .before .before .args .mark + getD (c .before .before .before .before .args .words .now) (c .before .before .before .before .args .e + c .before .before .before .before .args .k) 0))
 
--- src/lib.rt:127:9
 checked-requires : tie.Need-checked-requires
 checked-requires c κs = ((c .before .before .before .before .pre .0 .0, c .before .before .before .before .pre .0 .1 .0), λ j l m q. sym (c .before .before .before .before .pre .1 .1 .1 .at j l m) ∙ ap (λ (s : ℕ). getD (c .before .before .before .before .args .words .now) (c .before .before .before .before .args .mark + s) 0) q)
 
--- src/lib.rt:128:11
 add-words : tie.Need-add-words
 add-words c = search needs
 
--- src/lib.rt:128:5
 mul-words : tie.Need-mul-words
 mul-words c = search needs
 
--- src/lib.rt:128:5
 slice-write-words : tie.Need-slice-write-words
 slice-write-words c = search needs
 
--- src/lib.rt:111:1
 same-length : tie.Need-same-length
 same-length c = search needs
 
--- src/lib.rt:111:1
 returns : tie.Need-returns
 returns c = ap (set (c .before .before .before .before .before .args .words .now) (c .before .before .before .before .before .args .e + c .before .before .before .before .before .args .k)) (c .checked .ensures)
 

@@ -1,3 +1,4 @@
+-- The loop's invariant: the links of the rows before r name their turf; rows don't overlap, since the starts rise. Assumes nothing.
 use Prim.Native.Nat.{ℕ, _≤_, _<_, _-_, _+_}
 use native.Mathlib.Omega.{arith}
 use mathlib.Core.Path.{_≡_, refl, _∙_, sym, ap}
@@ -8,9 +9,6 @@ use Rattle.reverse_links.specs.Words.{But}
 use Rattle.reverse_links.proofs.Places.{but-none, but-then, sources-more}
 use Rattle.reverse_links.proofs.set_sources.Statement.{statement}
 use Rattle.reverse_links.proofs.set_sources.Tie as tie
-use Rattle.reverse_links.proofs.set_sources.Reads as reads
-use Rattle.reverse_links.proofs.set_sources.Lts as lts
-use Rattle.reverse_links.proofs.set_source_row.Reads as set-source-row-reads
 
 abbrev Inv-loop : tie.InvT-loop
 Inv-loop starts neighbours n e words₀ r₀ words r =
@@ -19,63 +17,48 @@ Inv-loop starts neighbours n e words₀ r₀ words r =
 abbrev μ-loop : tie.MeasureT-loop
 μ-loop starts neighbours n e words₀ r₀ words r = n - r
 
--- src/lib.rt:42:5
 loop-holds : tie.Need-loop-holds Inv-loop μ-loop
 loop-holds c = (omega arith, (but-none, λ q j l i. absurd (omega (arith, l))))
 
--- src/lib.rt:44:13
 cast-set-source-row : tie.Need-cast-set-source-row Inv-loop μ-loop
 cast-set-source-row c = omega (arith, c .before .before .before .before .before .pre, c .loop-test .taken)
 
--- src/lib.rt:45:13
 mul-set-source-row : tie.Need-mul-set-source-row Inv-loop μ-loop
 mul-set-source-row c = omega (arith, (c .before .before .before .before .before .pre .0 .starts-n), c .loop-test .taken, c .before .before .before .before .before .good)
 
--- src/lib.rt:45:13
 shared-slice-read-set-source-row : tie.Need-shared-slice-read-set-source-row Inv-loop μ-loop
 shared-slice-read-set-source-row c = omega (arith, (c .before .before .before .before .before .before .pre .0 .starts-n), c .before .loop-test .taken)
 
--- src/lib.rt:45:13
 cast-set-source-row-2 : tie.Need-cast-set-source-row-2 Inv-loop μ-loop
 cast-set-source-row-2 c = omega (arith, c .shared-slice-known3 .given (c .before .before .loop .r))
 
--- src/lib.rt:46:20
 add-set-source-row : tie.Need-add-set-source-row Inv-loop μ-loop
 add-set-source-row c = omega (arith, c .before .before .before .before .before .before .pre, c .before .loop-test .taken)
 
--- src/lib.rt:46:13
 mul-set-source-row-2 : tie.Need-mul-set-source-row-2 Inv-loop μ-loop
 mul-set-source-row-2 c = omega (arith, (c .before .before .before .before .before .before .pre .0 .starts-n), c .before .loop-test .taken, c .before .before .before .before .before .before .good)
 
--- src/lib.rt:46:13
 shared-slice-read-set-source-row-2 : tie.Need-shared-slice-read-set-source-row-2 Inv-loop μ-loop
 shared-slice-read-set-source-row-2 c = omega (arith, (c .before .before .before .before .before .before .before .pre .0 .starts-n), c .before .before .loop-test .taken)
 
--- src/lib.rt:46:13
 cast-set-source-row-3 : tie.Need-cast-set-source-row-3 Inv-loop μ-loop
 cast-set-source-row-3 c = omega (arith, c .shared-slice-known4 .given (c .before .before .before .loop .r + 1))
 
--- src/lib.rt:43:9
 set-source-row-requires : tie.Need-set-source-row-requires Inv-loop μ-loop
 set-source-row-requires c κs = (((c .before .before .before .before .before .before .before .before .pre .0) .rise (c .before .before .before .before .loop .r) (c .before .before .before .loop-test .taken)), omega (arith, ((c .before .before .before .before .before .before .before .before .pre .0) .within (c .before .before .before .before .loop .r) (c .before .before .before .loop-test .taken)), c .before .before .before .before .before .before .before .before .pre .1, c .before .before .before .before .loop .inv .1 .0 .len))
 
--- src/lib.rt:50:9
 add-r : tie.Need-add-r Inv-loop μ-loop
 add-r c = omega arith
 
--- src/lib.rt:42:5
 loop-less : tie.Need-loop-less Inv-loop μ-loop
 loop-less c = omega arith
 
--- src/lib.rt:42:5
 loop-again : tie.Need-loop-again Inv-loop μ-loop
 loop-again c = (omega arith, (but-then (omega arith) (omega (arith, ((c .before .before .before .before .before .before .before .before .before .before .before .pre .0) .within (c .before .before .before .before .before .before .before .loop .r) (c .before .before .before .before .before .before .loop-test .taken)), c .before .before .before .before .before .before .before .before .before .before .before .pre .1 .0)) (c .before .before .before .before .before .before .before .loop .inv .1 .0) (c .before .before .set-source-row .ensures .0), sources-more (c .before .before .before .before .before .before .before .before .before .before .before .pre .0) _ _ _ _ (c .before .before .before .before .before .before .loop-test .taken) (c .before .before .before .before .before .before .before .loop .inv .1 .1) (c .before .before .set-source-row .ensures .0) (c .before .before .set-source-row .ensures .1)))
 
--- src/lib.rt:37:1
 same-length : tie.Need-same-length Inv-loop μ-loop
 same-length c = c .before .loop .inv .1 .0 .len
 
--- src/lib.rt:37:1
 returns : tie.Need-returns Inv-loop μ-loop
 returns c = (c .before .loop .inv .1 .0, λ r j l i. c .before .loop .inv .1 .1 r j (omega (arith, l, c .loop-test .left)) i)
 
