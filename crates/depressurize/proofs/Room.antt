@@ -32,8 +32,13 @@ use Rattle.lent.proofs.Passed.{passed}
 use Rattle.walks.specs.Walk as walks
 use Rattle.walks.specs.Walk.{Walk, mark, spread, walk}
 use Rattle.walks.specs.Visit.{atSpace, visitSpace}
-use Rattle.walks.proofs.Walks.{going, spreads, spread-walked, walk-keeps, walk-rests}
-use Rattle.depressurize.specs.Depressurize.{Out, Back, Depressurized, outLink, outRow, outNext, outward, backTo, back, wayBack, fromWalk, fromRow, depressurize, depressurizeRoom, depressurizeNumber}
+use Rattle.walks.specs.declared.Kind.the-variants.{Space}
+use Rattle.walks.proofs.Walks.{going, spreads, walk-keeps, walk-rests}
+use Rattle.walks.proofs.Visits.{visit-walked as visit-place}
+use Rattle.way_out.proofs.Rows.{row-place}
+use Rattle.way_out.specs.Out.{Out, outTo, outLink, outRow, outNext, outward}
+use Rattle.way_back.specs.Back.{Back, backTo, back}
+use Rattle.depressurize.specs.Depressurize.{Depressurized, wayBack, fromWalk, fromRow, depressurize, depressurizeRoom, depressurizeNumber}
 use Rattle.depressurize.specs.Worked as worked  -- checked before the laws
 
 target-size : (es : List Event) (i t : ℕ) → size (snoc es (Target i t)) ≡ size es + 12
@@ -99,15 +104,9 @@ module _ (b : Board) {n : ℕ} (h : Accepted b n) (limit : ℕ) where
           (record { line = q .line; space = q .space; behind = All-imp (Visited s) (Visited (walks.count s)) (s .space) (λ x v. (v .0, (omega (arith, v .1 .0), v .1 .1))) (q .behind); bytes = q .bytes })
           (q .behind)
 
-  visit-place : (r : ℕ) (s : Walk) → visitSpace b limit r s .walked ≡ s .walked
-  unfolding visitSpace atSpace
-  visit-place r s =
-      cond-both (λ t. t .walked ≡ s .walked) (planetary b r) (mark true true s) (cond (immutable b r) (atSpace b r s) (spread b limit r s)) refl
-      (cond-both (λ t. t .walked ≡ s .walked) (immutable b r) (atSpace b r s) (spread b limit r s) refl (spread-walked b limit r s))
-
   -- as many steps as there are turfs are enough
   pub space-rests : (r : ℕ) → r < turfCount b → going (walk b (visitSpace b limit) r) ≡ false
-  space-rests r i = walk-rests b (visitSpace b limit) visit-place r (line-short b (walk b (visitSpace b limit) r .queue) (space-walk r i .line))
+  space-rests r i = walk-rests b (visitSpace b limit) (λ q s. visit-place b limit q Space s) r (line-short b (walk b (visitSpace b limit) r .queue) (space-walk r i .line))
 
   -- ---- out from space
 
@@ -120,7 +119,7 @@ module _ (b : Board) {n : ℕ} (h : Accepted b n) (limit : ℕ) where
       pub bytes : size (s .events) + 12 * length space ≤ size e₀ + 12 * length (s .order)
 
     link-outed : (r k : ℕ) (s : Out) → Outed s → Outed (outLink b r k s)
-    unfolding outLink
+    unfolding outLink outTo
     link-outed r k s q = go (immutable b a) (member a (s .order)) refl
       where
         a : ℕ
@@ -170,14 +169,6 @@ module _ (b : Board) {n : ℕ} (h : Accepted b n) (limit : ℕ) where
     unfolding outNext
     next-outed s q = cond-both Outed (outGoing s) (outRow b limit (getD (s .order) (s .place) 0) s) s (row-outed (getD (s .order) (s .place) 0) s q) q
 
-    link-place : (r k : ℕ) (s : Out) → outLink b r k s .place ≡ s .place
-    unfolding outLink
-    link-place r k s = cond-both (λ t. t .place ≡ s .place) (immutable b (end b k) || member (end b k) (s .order)) s _ refl refl
-
-    row-place : (r : ℕ) (s : Out) → outRow b limit r s .place ≡ s .place + 1
-    unfolding outRow
-    row-place r s = run-keeps (λ k. Unit {0}) (λ t. t .place ≡ s .place + 1) (outLink b r) (λ k t u i. link-place r k t ∙ i) _ (here s) (All-any _ (λ k. tt) (cond (leb (s .place + 1) limit) (linksOf b r) [])) refl
-
     abbrev startOut : Out
     startOut = record {
       order = space;
@@ -210,7 +201,7 @@ module _ (b : Board) {n : ℕ} (h : Accepted b n) (limit : ℕ) where
         still s e = unfold outNext in rw e
 
         on : (s : Out) → outGoing s ≡ true → outNext b limit s .place ≡ s .place + 1
-        on s e = unfold outNext in rw e (row-place (getD (s .order) (s .place) 0) s)
+        on s e = unfold outNext in rw e (row-place b limit (getD (s .order) (s .place) 0) s)
 
         w : Out
         w = outward b limit space e₀

@@ -1,2 +1,3 @@
 pub mod Depressurize
+pub mod Ended
 pub mod Worked

@@ -17,7 +17,9 @@ use Rattle.lent.specs.Lent.{wordsRoom, floatsRoom, firstFailed, refusal, after}
 use Rattle.lent.specs.Worked.{lend, left}
 use Rattle.walks.specs.Walk.{walkLink, spread, walkNext, walk}
 use Rattle.walks.specs.Visit.{atSpace, visitSpace}
-use Rattle.depressurize.specs.Depressurize.{outLink, outRow, outNext, outward, backTo, back, wayBack, fromWalk, fromRow, depressurize, depressurizeRoom, depressurizeNumber, depressurizeDone, depressurizeResult}
+use Rattle.way_out.specs.Out.{outTo, outLink, outRow, outNext, outward}
+use Rattle.way_back.specs.Back.{backTo, back}
+use Rattle.depressurize.specs.Depressurize.{wayBack, fromWalk, fromRow, depressurize, depressurizeRoom, depressurizeNumber, depressurizeDone, depressurizeResult}
 
 -- limit, id, gas; then outcome and bytes, the gas and the events afterwards
 unfoldable pub depressurizes : Board → ℕ → ℕ → List ℕ → ℕ → ℕ → List ℕ → List Event → Bool
@@ -52,6 +54,6 @@ pub worked : T (allOf (
     ∷ []))
 unfolding depressurizes lend left run times every allOf member first same upFrom finiteSignClear bits whole enabled planetary immutable firelock linksOf rowOf pairwise distinct sizesFit tablesFit rowFits linksFit startsFrom allWays draw
     sum amounts change totalMix total clearAir amountFits kindOf fieldsOf wordsBytes encode encodeAll wordsRoom floatsRoom firstFailed refusal after walkLink spread walkNext walk
-    atSpace visitSpace outLink outRow outNext outward backTo back wayBack fromWalk fromRow depressurize depressurizeNumber depressurizeDone depressurizeResult
+    atSpace visitSpace outTo outLink outRow outNext outward backTo back wayBack fromWalk fromRow depressurize depressurizeNumber depressurizeDone depressurizeResult
     add sub isum mul div neg round size span climb units odd ofInt ofBits ofFields toBits lt le eq ne
 worked = tt

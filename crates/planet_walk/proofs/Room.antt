@@ -17,7 +17,9 @@ use Rattle.lent.specs.Lent.{Lent, noExtra}
 use Rattle.lent.proofs.Passed.{passed}
 use Rattle.walks.specs.Walk.{Walk, count, mark, spread, walk}
 use Rattle.walks.specs.Visit.{visitPlanet}
-use Rattle.walks.proofs.Walks.{going, spreads, spread-walked, walk-keeps, walk-rests}
+use Rattle.walks.specs.declared.Kind.the-variants.{Planet}
+use Rattle.walks.proofs.Walks.{going, spreads, walk-keeps, walk-rests}
+use Rattle.walks.proofs.Visits.{visit-walked as visit-place}
 use Rattle.planet_walk.specs.Planet.{planetFrom, planetWalk, planetRoom, planetNumber}
 use Rattle.planet_walk.specs.Worked as worked  -- checked before the laws
 
@@ -40,15 +42,9 @@ module _ (b : Board) {n : ℕ} (h : Accepted b n) (limit : ℕ) where
   planet-walked r i = walk-keeps b (visitPlanet b limit) Walked (λ s l q. visit-walked (getD (s .queue) (s .walked) 0) (count s) (record { line = q .line; bytes = q .bytes })) r
       (unfold encodeAll in record { line = record { apart = (tt, tt); rows = (i, tt) }; bytes = omega arith })
 
-  visit-place : (r : ℕ) (s : Walk) → visitPlanet b limit r s .walked ≡ s .walked
-  unfolding visitPlanet
-  visit-place r s =
-      let met = s .planet || planetary b r in
-      cond-both (λ t. t .walked ≡ s .walked) (immutable b r) (mark met true s) (spread b limit r (mark met (not met) s)) refl (spread-walked b limit r (mark met (not met) s))
-
   -- as many steps as there are turfs are enough
   pub planet-rests : (r : ℕ) → r < turfCount b → going (walk b (visitPlanet b limit) r) ≡ false
-  planet-rests r i = walk-rests b (visitPlanet b limit) visit-place r (line-short b (walk b (visitPlanet b limit) r .queue) (planet-walked r i .line))
+  planet-rests r i = walk-rests b (visitPlanet b limit) (λ q s. visit-place b limit q Planet s) r (line-short b (walk b (visitPlanet b limit) r .queue) (planet-walked r i .line))
 
   from-room : (o : Spot) → Found (λ r. r < turfCount b) o → size (planetFrom b limit o) ≤ planetRoom b
   unfolding planetFrom encodeAll

@@ -10,6 +10,7 @@ use lib.ListN.{length, getD, take, drop, length-drop}
 use lib.Seq.{length-take-le, getD-take, getD-drop}
 use borrow.Author.Tests.{le-leb, lt-leb}
 use Rattle.basics.specs.Loops.{run, upFrom}
+use Rattle.turfs.specs.Tables.{Parts}
 use Rattle.turfs.specs.Board.{Board, anyBit, enabled, firelock, linksOf}
 use Rattle.events.specs.declared.Event.{Event}
 use Rattle.index_set.specs.Line.{Below}
@@ -53,19 +54,45 @@ module _ (b : Board) (limit row : ℕ) (v : Walk) where
   unfolding spread enabled
   spread-links t h = rw (← t, le-leb (v .walked) limit h)
 
+-- the part of the turf at `row`, from one start to the next
+module _ (n : ℕ) (starts neighbours : List ℕ) (p : Parts n starts neighbours) (row : ℕ) (r : row < n) (from to : ℕ) (f : from ≡ getD starts row 0) (t : to ≡ getD starts (row + 1) 0) where
+  pub part-order : from ≤ to
+  part-order = rw (f, t) (p .rise row r)
+
+  pub part-end : to ≤ length neighbours
+  part-end = rw t (p .end row r)
+
+  pub part-length : (xs : List ℕ) → to ≤ length xs → length (take (to - from) (drop from xs)) ≡ to - from
+  part-length xs h = length-take-le (to - from) (drop from xs) (simp length-drop (omega arith))
+
+  pub part-at : (xs : List ℕ) (i : ℕ) → i < to - from → getD (take (to - from) (drop from xs)) i 0 ≡ getD xs (from + i) 0
+  part-at xs i h = getD-take (to - from) (drop from xs) i 0 h ∙ getD-drop from xs i 0
+
+  pub part-below : ((k : ℕ) → k < length neighbours → getD neighbours k 0 < n) → Below n (take (to - from) (drop from neighbours))
+  part-below h = Below-take n (to - from) (drop from neighbours) (Below-drop n from neighbours (below-of n neighbours h))
+
+  -- a loop over the part is a loop over the turf's links
+  pub part-run : {S : Type 0} (g h : ℕ → S → S) → ((i : ℕ) → i < to - from → (s : S) → g i s ≡ h (from + i) s) → (s : S)
+      → run g (upFrom 0 (length (take (to - from) (drop from neighbours)))) s ≡ run h (upFrom (getD starts row 0) (getD starts (row + 1) 0 - getD starts row 0)) s
+  part-run g h same s =
+      ap (λ (k : ℕ). run g (upFrom 0 k) s) (part-length neighbours part-end)
+      ∙ run-shift g h from (to - from) same 0 (to - from) (omega arith) s
+      ∙ ap (λ (k : ℕ). run h (upFrom k (to - from)) s) (add-zero from)
+      ∙ rw (f, t)
+
 module _ (ids flags starts neighbours linkFlags : List ℕ) (limit row : ℕ) (l : Linked (grid ids flags starts neighbours linkFlags)) (r : row < length ids)
     (from to : ℕ) (f : from ≡ getD starts row 0) (t : to ≡ getD starts (row + 1) 0) where
   abbrev b : Board
   b = grid ids flags starts neighbours linkFlags
 
-  pub part-order : from ≤ to
-  part-order = rw (f, t) (l .parts .rise row r)
+  pub near-order : from ≤ to
+  near-order = part-order (length ids) starts neighbours (l .parts) row r from to f t
 
-  pub part-end : to ≤ length neighbours
-  part-end = rw t (l .parts .end row r)
+  pub near-end : to ≤ length neighbours
+  near-end = part-end (length ids) starts neighbours (l .parts) row r from to f t
 
-  pub part-end-locks : to ≤ length linkFlags
-  part-end-locks = rw (l .linkFlags) part-end
+  pub near-end-locks : to ≤ length linkFlags
+  near-end-locks = rw (l .linkFlags) near-end
 
   abbrev near : List ℕ
   near = take (to - from) (drop from neighbours)
@@ -73,29 +100,24 @@ module _ (ids flags starts neighbours linkFlags : List ℕ) (limit row : ℕ) (l
   abbrev locks : List ℕ
   locks = take (to - from) (drop from linkFlags)
 
-  part-length : (xs : List ℕ) → to ≤ length xs → length (take (to - from) (drop from xs)) ≡ to - from
-  part-length xs h = length-take-le (to - from) (drop from xs) (simp length-drop (omega arith))
-
   pub near-part : Near (length ids) near locks row
-  near-part = record {
-    inside = r;
-    both = part-length linkFlags part-end-locks ∙ sym (part-length neighbours part-end);
-    below = Below-take (length ids) (to - from) (drop from neighbours) (Below-drop (length ids) from neighbours (below-of (length ids) neighbours (l .neighbour)));
-  }
-
-  part-at : (xs : List ℕ) (i : ℕ) → i < to - from → getD (take (to - from) (drop from xs)) i 0 ≡ getD xs (from + i) 0
-  part-at xs i h = getD-take (to - from) (drop from xs) i 0 h ∙ getD-drop from xs i 0
+  near-part =
+      let part = part-length (length ids) starts neighbours (l .parts) row r from to f t in
+      record {
+        inside = r;
+        both = part linkFlags near-end-locks ∙ sym (part neighbours near-end);
+        below = part-below (length ids) starts neighbours (l .parts) row r from to f t (l .neighbour);
+      }
 
   link-same : (i : ℕ) → i < to - from → (s : Walk) → walkLink (links ids near locks) row i s ≡ walkLink b row (from + i) s
   unfolding walkLink firelock
-  link-same i h s = rw (part-at neighbours i h, part-at linkFlags i h)
+  link-same i h s =
+      let part = part-at (length ids) starts neighbours (l .parts) row r from to f t in
+      rw (part neighbours i h, part linkFlags i h)
 
   pub spread-on : true ≡ anyBit (getD flags row 0) → (v : Walk) → v .walked ≤ limit
       → run (walkLink (links ids near locks) row) (upFrom 0 (length near)) v ≡ spread b limit row v
+  unfolding linksOf
   spread-on e v h =
-      let all : run (walkLink b row) (upFrom from (to - from)) v ≡ run (walkLink b row) (linksOf b row) v = unfold linksOf in rw (f, t) in
-      ap (λ (k : ℕ). run (walkLink (links ids near locks) row) (upFrom 0 k) v) (part-length neighbours part-end)
-      ∙ run-shift (walkLink (links ids near locks) row) (walkLink b row) from (to - from) link-same 0 (to - from) (omega arith) v
-      ∙ ap (λ (k : ℕ). run (walkLink b row) (upFrom k (to - from)) v) (add-zero from)
-      ∙ all
+      part-run (length ids) starts neighbours (l .parts) row r from to f t (walkLink (links ids near locks) row) (walkLink b row) link-same v
       ∙ spread-links b limit row v e h

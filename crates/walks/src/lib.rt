@@ -198,7 +198,7 @@ fn spread(
 }
 
 // Whether the turf's mixture is immutable.
-fn is_immutable(mixtures: &[u32], immutable: &[u8], row: usize) -> bool
+pub fn is_immutable(mixtures: &[u32], immutable: &[u8], row: usize) -> bool
     requires { ⌜ (row < length (now mixtures)) × (getD (now mixtures) row 0 < length (now immutable)) ⌝ }
     ensures { λ r. ⌜ ((b : Board) → b .mixtures ≡ now (mixtures .entry) → b .immutable ≡ now (immutable .entry) → r ≡ tables.immutable b row) ⌝ }
 {

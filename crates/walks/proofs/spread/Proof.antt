@@ -6,7 +6,7 @@ use denote.Ref.{now}
 use Rattle.walks.specs.Reached.{walking}
 use Rattle.walks.proofs.Does.{does-none, does-as}
 use Rattle.walks.proofs.Links.{written-room}
-use Rattle.walks.proofs.LinkParts.{walked-is, spread-disabled, spread-late, spread-on, part-order, part-end, part-end-locks, near-part}
+use Rattle.walks.proofs.LinkParts.{walked-is, spread-disabled, spread-late, spread-on, near-order, near-end, near-end-locks, near-part}
 use borrow.Author.Needs.{needs}
 use Rattle.walks.proofs.spread.Statement.{statement}
 use Rattle.walks.proofs.spread.Tie as tie
@@ -38,31 +38,31 @@ links-of-requires c κs = search needs
 
 -- src/lib.rt:191:9
 mul-walk-links : tie.Need-mul-walk-links
-mul-walk-links c = omega (arith, part-order (now (c .before .before .before .before .before .before .before .before .before .before .before .before .before .args .ids)) (now (c .before .before .before .before .before .before .before .before .before .before .before .before .before .args .flags)) (now (c .before .before .before .before .before .before .before .before .before .before .before .before .before .args .starts)) (now (c .before .before .before .before .before .before .before .before .before .before .before .before .before .args .neighbours)) (now (c .before .before .before .before .before .before .before .before .before .before .before .before .before .args .link-flags)) (c .before .before .before .before .before .before .before .before .before .before .before .before .before .args .limit) _ (c .before .before .before .before .before .before .before .before .before .before .before .before .before .pre .1 .0) (c .before .before .before .before .before .before .before .before .before .before .before .before .before .pre .1 .1) _ _ (c .links-of .ensures .0) (c .links-of .ensures .1), part-end (now (c .before .before .before .before .before .before .before .before .before .before .before .before .before .args .ids)) (now (c .before .before .before .before .before .before .before .before .before .before .before .before .before .args .flags)) (now (c .before .before .before .before .before .before .before .before .before .before .before .before .before .args .starts)) (now (c .before .before .before .before .before .before .before .before .before .before .before .before .before .args .neighbours)) (now (c .before .before .before .before .before .before .before .before .before .before .before .before .before .args .link-flags)) (c .before .before .before .before .before .before .before .before .before .before .before .before .before .args .limit) _ (c .before .before .before .before .before .before .before .before .before .before .before .before .before .pre .1 .0) (c .before .before .before .before .before .before .before .before .before .before .before .before .before .pre .1 .1) _ _ (c .links-of .ensures .0) (c .links-of .ensures .1))
+mul-walk-links c = omega (arith, near-order (now (c .before .before .before .before .before .before .before .before .before .before .before .before .before .args .ids)) (now (c .before .before .before .before .before .before .before .before .before .before .before .before .before .args .flags)) (now (c .before .before .before .before .before .before .before .before .before .before .before .before .before .args .starts)) (now (c .before .before .before .before .before .before .before .before .before .before .before .before .before .args .neighbours)) (now (c .before .before .before .before .before .before .before .before .before .before .before .before .before .args .link-flags)) (c .before .before .before .before .before .before .before .before .before .before .before .before .before .args .limit) _ (c .before .before .before .before .before .before .before .before .before .before .before .before .before .pre .1 .0) (c .before .before .before .before .before .before .before .before .before .before .before .before .before .pre .1 .1) _ _ (c .links-of .ensures .0) (c .links-of .ensures .1), near-end (now (c .before .before .before .before .before .before .before .before .before .before .before .before .before .args .ids)) (now (c .before .before .before .before .before .before .before .before .before .before .before .before .before .args .flags)) (now (c .before .before .before .before .before .before .before .before .before .before .before .before .before .args .starts)) (now (c .before .before .before .before .before .before .before .before .before .before .before .before .before .args .neighbours)) (now (c .before .before .before .before .before .before .before .before .before .before .before .before .before .args .link-flags)) (c .before .before .before .before .before .before .before .before .before .before .before .before .before .args .limit) _ (c .before .before .before .before .before .before .before .before .before .before .before .before .before .pre .1 .0) (c .before .before .before .before .before .before .before .before .before .before .before .before .before .pre .1 .1) _ _ (c .links-of .ensures .0) (c .links-of .ensures .1))
 
 -- src/lib.rt:191:9
 sub-walk-links : tie.Need-sub-walk-links
-sub-walk-links c = part-order (now (c .before .before .before .before .before .before .before .before .before .before .before .before .before .args .ids)) (now (c .before .before .before .before .before .before .before .before .before .before .before .before .before .args .flags)) (now (c .before .before .before .before .before .before .before .before .before .before .before .before .before .args .starts)) (now (c .before .before .before .before .before .before .before .before .before .before .before .before .before .args .neighbours)) (now (c .before .before .before .before .before .before .before .before .before .before .before .before .before .args .link-flags)) (c .before .before .before .before .before .before .before .before .before .before .before .before .before .args .limit) _ (c .before .before .before .before .before .before .before .before .before .before .before .before .before .pre .1 .0) (c .before .before .before .before .before .before .before .before .before .before .before .before .before .pre .1 .1) _ _ (c .links-of .ensures .0) (c .links-of .ensures .1)
+sub-walk-links c = near-order (now (c .before .before .before .before .before .before .before .before .before .before .before .before .before .args .ids)) (now (c .before .before .before .before .before .before .before .before .before .before .before .before .before .args .flags)) (now (c .before .before .before .before .before .before .before .before .before .before .before .before .before .args .starts)) (now (c .before .before .before .before .before .before .before .before .before .before .before .before .before .args .neighbours)) (now (c .before .before .before .before .before .before .before .before .before .before .before .before .before .args .link-flags)) (c .before .before .before .before .before .before .before .before .before .before .before .before .before .args .limit) _ (c .before .before .before .before .before .before .before .before .before .before .before .before .before .pre .1 .0) (c .before .before .before .before .before .before .before .before .before .before .before .before .before .pre .1 .1) _ _ (c .links-of .ensures .0) (c .links-of .ensures .1)
 
 -- src/lib.rt:191:9
 part-walk-links-start : tie.Need-part-walk-links-start
-part-walk-links-start c = part-order (now (c .before .before .before .before .before .before .before .before .before .before .before .before .before .args .ids)) (now (c .before .before .before .before .before .before .before .before .before .before .before .before .before .args .flags)) (now (c .before .before .before .before .before .before .before .before .before .before .before .before .before .args .starts)) (now (c .before .before .before .before .before .before .before .before .before .before .before .before .before .args .neighbours)) (now (c .before .before .before .before .before .before .before .before .before .before .before .before .before .args .link-flags)) (c .before .before .before .before .before .before .before .before .before .before .before .before .before .args .limit) _ (c .before .before .before .before .before .before .before .before .before .before .before .before .before .pre .1 .0) (c .before .before .before .before .before .before .before .before .before .before .before .before .before .pre .1 .1) _ _ (c .links-of .ensures .0) (c .links-of .ensures .1)
+part-walk-links-start c = near-order (now (c .before .before .before .before .before .before .before .before .before .before .before .before .before .args .ids)) (now (c .before .before .before .before .before .before .before .before .before .before .before .before .before .args .flags)) (now (c .before .before .before .before .before .before .before .before .before .before .before .before .before .args .starts)) (now (c .before .before .before .before .before .before .before .before .before .before .before .before .before .args .neighbours)) (now (c .before .before .before .before .before .before .before .before .before .before .before .before .before .args .link-flags)) (c .before .before .before .before .before .before .before .before .before .before .before .before .before .args .limit) _ (c .before .before .before .before .before .before .before .before .before .before .before .before .before .pre .1 .0) (c .before .before .before .before .before .before .before .before .before .before .before .before .before .pre .1 .1) _ _ (c .links-of .ensures .0) (c .links-of .ensures .1)
 
 -- src/lib.rt:191:9
 part-walk-links-end : tie.Need-part-walk-links-end
-part-walk-links-end c = part-end (now (c .before .before .before .before .before .before .before .before .before .before .before .before .before .args .ids)) (now (c .before .before .before .before .before .before .before .before .before .before .before .before .before .args .flags)) (now (c .before .before .before .before .before .before .before .before .before .before .before .before .before .args .starts)) (now (c .before .before .before .before .before .before .before .before .before .before .before .before .before .args .neighbours)) (now (c .before .before .before .before .before .before .before .before .before .before .before .before .before .args .link-flags)) (c .before .before .before .before .before .before .before .before .before .before .before .before .before .args .limit) _ (c .before .before .before .before .before .before .before .before .before .before .before .before .before .pre .1 .0) (c .before .before .before .before .before .before .before .before .before .before .before .before .before .pre .1 .1) _ _ (c .links-of .ensures .0) (c .links-of .ensures .1)
+part-walk-links-end c = near-end (now (c .before .before .before .before .before .before .before .before .before .before .before .before .before .args .ids)) (now (c .before .before .before .before .before .before .before .before .before .before .before .before .before .args .flags)) (now (c .before .before .before .before .before .before .before .before .before .before .before .before .before .args .starts)) (now (c .before .before .before .before .before .before .before .before .before .before .before .before .before .args .neighbours)) (now (c .before .before .before .before .before .before .before .before .before .before .before .before .before .args .link-flags)) (c .before .before .before .before .before .before .before .before .before .before .before .before .before .args .limit) _ (c .before .before .before .before .before .before .before .before .before .before .before .before .before .pre .1 .0) (c .before .before .before .before .before .before .before .before .before .before .before .before .before .pre .1 .1) _ _ (c .links-of .ensures .0) (c .links-of .ensures .1)
 
 -- src/lib.rt:192:9
 sub-walk-links-2 : tie.Need-sub-walk-links-2
-sub-walk-links-2 c = part-order (now (c .before .before .before .before .before .before .before .before .before .before .before .before .before .before .args .ids)) (now (c .before .before .before .before .before .before .before .before .before .before .before .before .before .before .args .flags)) (now (c .before .before .before .before .before .before .before .before .before .before .before .before .before .before .args .starts)) (now (c .before .before .before .before .before .before .before .before .before .before .before .before .before .before .args .neighbours)) (now (c .before .before .before .before .before .before .before .before .before .before .before .before .before .before .args .link-flags)) (c .before .before .before .before .before .before .before .before .before .before .before .before .before .before .args .limit) _ (c .before .before .before .before .before .before .before .before .before .before .before .before .before .before .pre .1 .0) (c .before .before .before .before .before .before .before .before .before .before .before .before .before .before .pre .1 .1) _ _ (c .before .links-of .ensures .0) (c .before .links-of .ensures .1)
+sub-walk-links-2 c = near-order (now (c .before .before .before .before .before .before .before .before .before .before .before .before .before .before .args .ids)) (now (c .before .before .before .before .before .before .before .before .before .before .before .before .before .before .args .flags)) (now (c .before .before .before .before .before .before .before .before .before .before .before .before .before .before .args .starts)) (now (c .before .before .before .before .before .before .before .before .before .before .before .before .before .before .args .neighbours)) (now (c .before .before .before .before .before .before .before .before .before .before .before .before .before .before .args .link-flags)) (c .before .before .before .before .before .before .before .before .before .before .before .before .before .before .args .limit) _ (c .before .before .before .before .before .before .before .before .before .before .before .before .before .before .pre .1 .0) (c .before .before .before .before .before .before .before .before .before .before .before .before .before .before .pre .1 .1) _ _ (c .before .links-of .ensures .0) (c .before .links-of .ensures .1)
 
 -- src/lib.rt:192:9
 part-walk-links-start-2 : tie.Need-part-walk-links-start-2
-part-walk-links-start-2 c = part-order (now (c .before .before .before .before .before .before .before .before .before .before .before .before .before .before .args .ids)) (now (c .before .before .before .before .before .before .before .before .before .before .before .before .before .before .args .flags)) (now (c .before .before .before .before .before .before .before .before .before .before .before .before .before .before .args .starts)) (now (c .before .before .before .before .before .before .before .before .before .before .before .before .before .before .args .neighbours)) (now (c .before .before .before .before .before .before .before .before .before .before .before .before .before .before .args .link-flags)) (c .before .before .before .before .before .before .before .before .before .before .before .before .before .before .args .limit) _ (c .before .before .before .before .before .before .before .before .before .before .before .before .before .before .pre .1 .0) (c .before .before .before .before .before .before .before .before .before .before .before .before .before .before .pre .1 .1) _ _ (c .before .links-of .ensures .0) (c .before .links-of .ensures .1)
+part-walk-links-start-2 c = near-order (now (c .before .before .before .before .before .before .before .before .before .before .before .before .before .before .args .ids)) (now (c .before .before .before .before .before .before .before .before .before .before .before .before .before .before .args .flags)) (now (c .before .before .before .before .before .before .before .before .before .before .before .before .before .before .args .starts)) (now (c .before .before .before .before .before .before .before .before .before .before .before .before .before .before .args .neighbours)) (now (c .before .before .before .before .before .before .before .before .before .before .before .before .before .before .args .link-flags)) (c .before .before .before .before .before .before .before .before .before .before .before .before .before .before .args .limit) _ (c .before .before .before .before .before .before .before .before .before .before .before .before .before .before .pre .1 .0) (c .before .before .before .before .before .before .before .before .before .before .before .before .before .before .pre .1 .1) _ _ (c .before .links-of .ensures .0) (c .before .links-of .ensures .1)
 
 -- src/lib.rt:192:9
 part-walk-links-end-2 : tie.Need-part-walk-links-end-2
-part-walk-links-end-2 c = part-end-locks (now (c .before .before .before .before .before .before .before .before .before .before .before .before .before .before .args .ids)) (now (c .before .before .before .before .before .before .before .before .before .before .before .before .before .before .args .flags)) (now (c .before .before .before .before .before .before .before .before .before .before .before .before .before .before .args .starts)) (now (c .before .before .before .before .before .before .before .before .before .before .before .before .before .before .args .neighbours)) (now (c .before .before .before .before .before .before .before .before .before .before .before .before .before .before .args .link-flags)) (c .before .before .before .before .before .before .before .before .before .before .before .before .before .before .args .limit) _ (c .before .before .before .before .before .before .before .before .before .before .before .before .before .before .pre .1 .0) (c .before .before .before .before .before .before .before .before .before .before .before .before .before .before .pre .1 .1) _ _ (c .before .links-of .ensures .0) (c .before .links-of .ensures .1)
+part-walk-links-end-2 c = near-end-locks (now (c .before .before .before .before .before .before .before .before .before .before .before .before .before .before .args .ids)) (now (c .before .before .before .before .before .before .before .before .before .before .before .before .before .before .args .flags)) (now (c .before .before .before .before .before .before .before .before .before .before .before .before .before .before .args .starts)) (now (c .before .before .before .before .before .before .before .before .before .before .before .before .before .before .args .neighbours)) (now (c .before .before .before .before .before .before .before .before .before .before .before .before .before .before .args .link-flags)) (c .before .before .before .before .before .before .before .before .before .before .before .before .before .before .args .limit) _ (c .before .before .before .before .before .before .before .before .before .before .before .before .before .before .pre .1 .0) (c .before .before .before .before .before .before .before .before .before .before .before .before .before .before .pre .1 .1) _ _ (c .before .links-of .ensures .0) (c .before .links-of .ensures .1)
 
 -- src/lib.rt:189:5
 walk-links-requires : tie.Need-walk-links-requires

@@ -1,0 +1,26 @@
+-- The reader's own promise. Assumes nothing.
+use Prim.Native.Nat.{ℕ}
+use mathlib.Core.Path.{ap}
+use mathlib.Core.List.{List}
+use lib.ListN.{getD}
+use borrow.Author.Needs.{needs}
+use Rattle.katmos.proofs.katmos_read_event.Statement.{statement}
+use Rattle.katmos.proofs.katmos_read_event.Tie as tie
+use Rattle.katmos.proofs.katmos_read_event.Reads as reads
+use Rattle.katmos.proofs.katmos_read_event.Lts as lts
+use Rattle.events.proofs.read_event.Reads as read-event-reads
+
+-- src/lib.rt:102:13
+read-event-requires : tie.Need-read-event-requires
+read-event-requires c κs = search needs
+
+-- src/lib.rt:104:5
+array-read-result : tie.Need-array-read-result
+array-read-result c = search needs
+
+-- src/lib.rt:98:1
+returns : tie.Need-returns
+returns c = (c .read-event .ensures, ap (λ (l : List ℕ). getD l 0 0) (c .read-event .ensures))
+
+pub katmos-read-event-spec : {M : Type 1} → statement M
+katmos-read-event-spec = tie.close (tie.spec read-event-requires array-read-result returns)

@@ -1,0 +1,153 @@
+-- How the scratch holds the way back: in the first array of words the turfs that the floor rips off, in the floats each row's amount and each rip's sum.
+use mathlib.Core.Path.{_≡_}
+use mathlib.Core.List.{List, [], _∷_, _++_, reverse}
+use mathlib.Core.Bool.{Bool, true, false, not, cond}
+use Prim.Native.Nat.{ℕ, _+_, _-_, _*_, _≤_, _<_}
+use lib.Dec.{T, eqb}
+use lib.ListN.{length, getD, take, drop, set, replicate}
+use lib.Ieee.{Float, nan, inf, fin}
+use Rattle.basics.specs.Loops.{run, every, if_then_else_}
+use Rattle.basics.specs.Floats.{0f, _+f_}
+use Rattle.basics.specs.Regions.{cut, region}
+use Rattle.turfs.specs.Board.{Board, turfCount, mixtureCount, mixOf}
+use Rattle.turfs.specs.Tables.{board}
+use Rattle.mixture.specs.Mixture.{total, clearAir}
+use Rattle.events.specs.Events.{encodeAll}
+use Rattle.events.specs.Area.{Wrote}
+use Rattle.events.specs.declared.Event.{Event}
+use Rattle.events.specs.declared.Event.the-variants.{HighPressure, Difference, FloorRip}
+use Rattle.index_set.specs.Line.{Below}
+use Rattle.walks.specs.Does.{Held}
+use Rattle.way_out.specs.Outed.{sizes, Mixed, shore}
+use Rattle.way_back.specs.Back.{Back, back}
+use Rattle.way_back.specs.declared.Way.{Way}
+use Rattle.way_back.specs.declared.Sums.{Sums}
+
+-- neither a NaN nor below zero: sums of such amounts stay so, and have bits of their own
+unfoldable pub notNegative : Float → Bool
+notNegative nan = false
+notNegative (inf s) = not s
+notNegative (fin s m e) = not s
+
+-- what a function of the way back may change
+pub record State : Type 0 where
+  pub way : Way
+  pub gas : List Float
+  pub area : List ℕ
+  pub words : List ℕ
+  pub floats : List Float
+
+abbrev pub at : Way → List Float → List ℕ → List ℕ → List Float → State
+at way gas area words floats = record { way = way; gas = gas; area = area; words = words; floats = floats }
+
+-- by row the amounts, and the sums of the rips
+abbrev pub lots : ℕ → List ℕ
+lots n = n ∷ n ∷ []
+
+-- the rips of these rows with these sums
+unfoldable pub ripsOf : List ℕ → List ℕ → List Float → List Event
+ripsOf ids [] xs = []
+ripsOf ids (r ∷ rs) [] = []
+ripsOf ids (r ∷ rs) (x ∷ xs) = FloorRip (getD ids r 0) x ∷ ripsOf ids rs xs
+
+abbrev pub backIn : List ℕ → Way → List Float → List (List ℕ) → List (List Float) → List Event → Back
+backIn ids s gas ws fs es = record { gas = gas; amount = getD fs 0 []; events = es; rips = ripsOf ids (take (s .rips) (getD ws 0 [])) (take (s .rips) (getD fs 1 [])) }
+
+-- the way back that the state holds
+unfoldable pub backOf : List ℕ → State → List Event → Back
+backOf ids a es = backIn ids (a .way) (a .gas) (cut (sizes (length ids)) (a .words)) (cut (lots (length ids)) (a .floats)) es
+
+-- what a step leaves as it is
+pub record Rest : Type 0 where
+  pub words : ℕ
+  pub arrays : List (List ℕ)  -- all but the first
+  pub floats : ℕ
+  pub beyond : List Float
+  pub gas : ℕ
+
+-- what holds between steps
+pub record Fit (b : Board) (a : State) : Type 0 where
+  pub small : turfCount b ≤ 4096
+  pub words : 5 * turfCount b ≤ length (a .words)
+  pub floats : 2 * turfCount b ≤ length (a .floats)
+  pub bytes : 84 * turfCount b ≤ length (a .area)
+  pub written : a .way .used ≤ 24 * turfCount b + 48 * a .way .rips
+  pub few : a .way .rips + a .way .left ≤ turfCount b
+  pub count : length (a .gas) ≡ mixtureCount b * b .gases
+  pub gas : T (every notNegative (a .gas))
+  pub amounts : T (every notNegative (region (lots (turfCount b)) 0 (a .floats)))
+  pub sums : T (every notNegative (take (a .way .rips) (region (lots (turfCount b)) 1 (a .floats))))
+  pub rows : Below (turfCount b) (take (a .way .rips) (region (sizes (turfCount b)) 0 (a .words)))
+  pub order : (i : ℕ) → i < a .way .left → getD (region (sizes (turfCount b)) 2 (a .words)) i 0 < turfCount b
+  pub directed : (r : ℕ) → getD (region (sizes (turfCount b)) 3 (a .words)) r 0 ≤ turfCount b
+
+-- the way back over a board
+abbrev pub backing : Board → Held State Back Rest
+backing b = record {
+  used = λ a. a .way .used;
+  area = λ a. a .area;
+  view = backOf (b .ids);
+  frame = λ a. record {
+    words = length (a .words);
+    arrays = drop 1 (cut (sizes (turfCount b)) (a .words));
+    floats = length (a .floats);
+    beyond = region (lots (turfCount b)) 2 (a .floats);
+    gas = length (a .gas);
+  };
+  Fit = Fit b;
+}
+
+-- a board of which no more than the ids and the mixtures is looked at
+abbrev pub air : List ℕ → List ℕ → List ℕ → ℕ → Board
+air ids mixtures immutable gases = board ids [] [] mixtures [] [] [] immutable gases
+
+-- the directions in the words
+abbrev pub directions : ℕ → List ℕ → List ℕ
+directions n w = region (sizes n) 3 w
+
+-- one turf's air and amounts: from gas and f to gas′ and f′
+pub record Settled (b : Board) (row d : ℕ) (r : Sums) (gas gas′ f f′ : List Float) : Type 0 where
+  pub cleared : gas′ ≡ clearAir b (mixOf b row) gas
+  pub sum : r .sum ≡ total b gas′ d
+  pub mine : r .mine ≡ getD f row nan +f r .sum
+  pub theirs : r .theirs ≡ getD (set f row (r .mine)) d nan +f r .mine
+  pub amounts : f′ ≡ set (set f row (r .mine)) d (r .theirs)
+
+-- one turf's events, but for the rip; the last is written where the next one has no direction
+unfoldable pub told : ℕ → Float → Float → Bool → List Event
+told id mine theirs last = HighPressure id ∷ Difference id mine id id ∷ (if last then Difference id theirs id id ∷ [] else [])
+
+-- `back` of the turf before those that are left
+abbrev pub backNext : Board → ℕ → List ℕ → Back → Back
+backNext b left w s = back b (directions (turfCount b) w) (getD (region (sizes (turfCount b)) 2 w) (left - 1) 0) s
+
+-- the rips that are yet to be written
+pub record Ripping (ids : List ℕ) (count used : ℕ) (e w : List ℕ) (f : List Float) : Type 0 where
+  pub words : count ≤ length w
+  pub floats : length ids + count ≤ length f
+  pub rows : Below (length ids) (take count w)
+  pub sums : T (every notNegative (take count (drop (length ids) f)))
+  pub room : used + 12 * count ≤ length e
+
+-- what the way back needs, from the first `count` turfs of the order and after `used` event bytes
+pub record Fits (b : Board) (count used : ℕ) (air : List Float) (e w : List ℕ) (f : List Float) : Type 0 where
+  pub small : turfCount b ≤ 4096
+  pub few : count ≤ turfCount b
+  pub words : 5 * turfCount b ≤ length w
+  pub floats : 2 * turfCount b ≤ length f
+  pub bytes : 84 * turfCount b ≤ length e
+  pub written : used ≤ 24 * turfCount b
+  pub total : length air ≡ mixtureCount b * b .gases
+  pub gas : T (every notNegative air)
+  pub order : (i : ℕ) → i < count → getD (region (sizes (turfCount b)) 2 w) i 0 < turfCount b
+  pub directed : (r : ℕ) → getD (region (sizes (turfCount b)) 3 w) r 0 ≤ turfCount b
+
+-- the way back is done
+pub record Backed (b : Board) (count used to : ℕ) (gas gas′ : List Float) (e e′ w w′ : List ℕ) (f f′ : List Float) : Type 0 where
+  pub words : region (sizes (turfCount b)) 5 w′ ≡ region (sizes (turfCount b)) 5 w
+  pub floats : region (lots (turfCount b)) 2 f′ ≡ region (lots (turfCount b)) 2 f
+  pub new : List Event
+  pub wrote : Wrote (encodeAll new) used to e e′
+  pub same : (es : List Event) →
+      let t = run (back b (directions (turfCount b) w)) (reverse (take count (region (sizes (turfCount b)) 2 w))) (record { gas = gas; amount = replicate (turfCount b) 0f; events = es; rips = [] }) in
+      (es ++ new ≡ t .events ++ t .rips) × (gas′ ≡ t .gas)

@@ -1,0 +1,222 @@
+-- The start of the way out: two arrays are cleared, and each space turf is given its place and its target, which no later one changes since none stands twice. Assumes nothing.
+use Prim.Native.Nat.{ℕ, zero, suc, _+_, _-_, _*_, _≤_, _<_}
+use native.Mathlib.Omega.{arith}
+use native.Mathlib.Numerals.{add-one}
+use native.Mathlib.Nat.{not-suc-le-zero, le-of-suc-le-suc}
+use native.Mathlib.Decide.{ℕ-discrete}
+use mathlib.Core.Path.{_≡_, refl, ap, _∙_, sym, subst}
+use mathlib.Core.Logic.{_≢_}
+use mathlib.Core.List.{List, [], _∷_, _++_, append-nil}
+use mathlib.Core.Bool.{false}
+use lib.Dec.{T}
+use lib.ListN.{length, getD, take, drop, set, replicate, length-set, length-drop, length-replicate, drop-of-length-le}
+use lib.Seq.{length-take-le, getD-take, getD-set-same, getD-set-other, drop-cons}
+use Rattle.basics.specs.Loops.{run, times, member}
+use Rattle.basics.specs.Regions.{cut, region, base}
+use Rattle.basics.proofs.Regions.{cut-set, cut-get, cut-length, cut-part}
+use Rattle.turfs.specs.Board.{Board, turfCount, idOf}
+use Rattle.events.specs.declared.Event.{Event}
+use Rattle.index_set.specs.Line.{Below, Apart, Line}
+use Rattle.index_set.proofs.Queue.{Below-at, at-member}
+use Rattle.walks.specs.Does.{Does}
+use Rattle.way_out.specs.Out.{Out, outNext, outward}
+use Rattle.way_out.specs.Outed.{State, at, sizes, outIn, outOf, Rest, Fit, outing, Owned, Outed}
+use Rattle.way_out.specs.declared.Front.{Front}
+
+-- ---- a cleared array
+
+size-at : (n k : ℕ) → k < 5 → getD (sizes n) k 0 ≡ n
+size-at n zero h = refl
+size-at n (suc zero) h = refl
+size-at n (suc (suc zero)) h = refl
+size-at n (suc (suc (suc zero))) h = refl
+size-at n (suc (suc (suc (suc zero)))) h = refl
+size-at n (suc (suc (suc (suc (suc k))))) h = absurd (omega arith)
+
+pub array-cleared : (n k : ℕ) (w ys : List ℕ) (from size : ℕ) → k < 5 → from ≡ base (sizes n) k → 5 * n ≤ length w → size ≡ n → from ≤ 4 * n
+    → ys ≡ replicate n 0 ++ drop n (take size (drop from w))
+    → cut (sizes n) (take from w ++ (ys ++ drop size (drop from w))) ≡ set (cut (sizes n) w) k (replicate n 0)
+array-cleared n k w ys from size h f l s m y =
+    let part : length (take n (drop from w)) ≡ n = length-take-le n (drop from w) (rw (length-drop from w) (omega arith)) in
+    let y′ : ys ≡ replicate n 0 =
+    y ∙ ap (λ (j : ℕ). replicate n 0 ++ drop n (take j (drop from w))) s
+    ∙ ap (λ (r : List ℕ). replicate n 0 ++ r) (drop-of-length-le (take n (drop from w)) {i = n} (omega arith))
+    ∙ append-nil (replicate n 0) in
+    cut-part (sizes n) w k ys from size h (omega arith) f (s ∙ sym (size-at n k h)) (ap length y′ ∙ length-replicate {A = ℕ} n 0 ∙ sym s)
+    ∙ ap (set (cut (sizes n) w) k) y′
+
+-- ---- places and targets
+
+-- a loop over what is left of a list: one turn, and the end
+run-drop : {S : Type 0} (f : ℕ → S → S) (xs : List ℕ) (i : ℕ) (t : S) → i < length xs → run f (drop i xs) t ≡ run f (drop (i + 1) xs) (f (getD xs i 0) t)
+unfolding run
+run-drop f xs i t h = rw (add-one i, drop-cons xs i 0 h)
+
+run-done : {S : Type 0} (f : ℕ → S → S) (xs : List ℕ) (i : ℕ) (t : S) → length xs ≤ i → run f (drop i xs) t ≡ t
+unfolding run
+run-done f xs i t h = rw (drop-of-length-le xs {i = i} h)
+
+-- two places of a list with none twice hold two numbers
+apart-at : (xs : List ℕ) (i j : ℕ) → Apart xs → i < j → j < length xs → getD xs j 0 ≢ getD xs i 0
+unfolding Apart
+apart-at [] i j a h l = absurd (omega arith)
+apart-at (x ∷ xs) zero zero a h l = absurd (omega arith)
+apart-at (x ∷ xs) zero (suc j) a h l = λ e. subst T (ap (λ (y : ℕ). member y xs) e ∙ a .0) (at-member xs j (omega arith))
+apart-at (x ∷ xs) (suc i) zero a h l = absurd (omega arith)
+apart-at (x ∷ xs) (suc i) (suc j) a h l = apart-at xs i j (a .1) (omega arith) (omega arith)
+
+module _ (ids : List ℕ) (count : ℕ) (w : List ℕ) where
+  abbrev n : ℕ
+  n = length ids
+
+  abbrev order : List ℕ
+  order = region (sizes n) 2 w
+
+  abbrev own : ℕ → List ℕ → List ℕ
+  own r t = set t r (getD ids r 0)
+
+  -- i of the space turfs are done
+  pub record Owning (i : ℕ) (w′ : List ℕ) : Type 0 where
+    pub words : length w′ ≡ length w
+    pub places : List ℕ
+    pub target : List ℕ
+    pub arrays : cut (sizes n) w′ ≡ (getD (cut (sizes n) w) 0 [] ∷ places ∷ order ∷ getD (cut (sizes n) w) 3 [] ∷ target ∷ getD (cut (sizes n) w) 5 [] ∷ [])
+    pub long : length places ≡ n
+    pub placed : (j : ℕ) → j < i → getD places (getD order j 0) 0 ≡ j
+    pub on : run own (drop i (take count order)) target ≡ run own (take count order) (region (sizes n) 4 w)
+
+  module _ (l : 5 * n ≤ length w) where
+    pub owning-start : Owning 0 w
+    owning-start = record {
+      words = refl;
+      places = region (sizes n) 1 w;
+      target = region (sizes n) 4 w;
+      arrays = refl;
+      long = cut-length (sizes n) w 1 (omega arith) (omega arith);
+      placed = λ j h. absurd (not-suc-le-zero h);
+      on = refl;
+    }
+
+    module _ (few : count ≤ n) (below : Below n (take count order)) (apart : Apart (take count order)) where
+      order-n : length order ≡ n
+      order-n = cut-length (sizes n) w 2 (omega arith) (omega arith)
+
+      taken : length (take count order) ≡ count
+      taken = length-take-le count order (omega (arith, order-n))
+
+      module _ (i : ℕ) (w′ : List ℕ) (o : Owning i w′) (h : i < count) where
+        abbrev row : ℕ
+        row = getD w′ (2 * n + i) 0
+
+        row-is : row ≡ getD order i 0
+        row-is = cut-get (sizes n) w′ 0 2 i (2 * n + i) (omega arith) (omega arith) (omega arith) ∙ ap (λ (rs : List (List ℕ)). getD (getD rs 2 []) i 0) (o .arrays)
+
+        row-taken : row ≡ getD (take count order) i 0
+        row-taken = row-is ∙ sym (getD-take count order i 0 h)
+
+        pub row-below : row < n
+        row-below = rw row-taken (Below-at n (take count order) i below (rw taken h))
+
+        pub owning-next : (w″ : List ℕ) → w″ ≡ set (set w′ (n + row) i) (4 * n + row) (getD ids row 0) → Owning (i + 1) w″
+        owning-next w″ q = record {
+          words = ap length q ∙ length-set (set w′ (n + row) i) (4 * n + row) (getD ids row 0) ∙ length-set w′ (n + row) i ∙ o .words;
+          places = set (o .places) row i;
+          target = set (o .target) row (getD ids row 0);
+          arrays = arrays;
+          long = length-set (o .places) row i ∙ o .long;
+          placed = placed;
+          on = on;
+        }
+          where
+            arrays : cut (sizes n) w″ ≡ (getD (cut (sizes n) w) 0 [] ∷ set (o .places) row i ∷ order ∷ getD (cut (sizes n) w) 3 [] ∷ set (o .target) row (getD ids row 0) ∷ getD (cut (sizes n) w) 5 [] ∷ [])
+            arrays =
+                ap (cut (sizes n)) q
+                ∙ cut-set (sizes n) (set w′ (n + row) i) 4 row (getD ids row 0) (4 * n + row) (omega arith) row-below (omega arith)
+                ∙ ap (λ (rs : List (List ℕ)). set rs 4 (set (getD rs 4 []) row (getD ids row 0)))
+                (cut-set (sizes n) w′ 1 row i (n + row) (omega arith) row-below (omega arith) ∙ ap (λ (rs : List (List ℕ)). set rs 1 (set (getD rs 1 []) row i)) (o .arrays))
+
+            placed : (j : ℕ) → j < i + 1 → getD (set (o .places) row i) (getD order j 0) 0 ≡ j
+            placed j k = go (ℕ-discrete j i)
+              where
+                go : Dec (j ≡ i) → getD (set (o .places) row i) (getD order j 0) 0 ≡ j
+                go (yes e) = ap (λ (x : ℕ). getD (set (o .places) row i) x 0) (ap (λ (m : ℕ). getD order m 0) e ∙ sym row-is) ∙ getD-set-same (o .places) row i 0 (omega (arith, row-below, o .long)) ∙ sym e
+                go (no e) =
+                    let k′ : j < i = omega arith in
+                    getD-set-other (o .places) row (getD order j 0) i 0
+                    (λ x. apart-at (take count order) j i apart k′ (rw taken h) (sym row-taken ∙ sym x ∙ sym (getD-take count order j 0 (omega arith))))
+                    ∙ o .placed j k′
+
+            on : run own (drop (i + 1) (take count order)) (set (o .target) row (getD ids row 0)) ≡ run own (take count order) (region (sizes n) 4 w)
+            on =
+                let less : i < length (take count order) = rw taken h in
+                ap (λ (x : ℕ). run own (drop (i + 1) (take count order)) (set (o .target) x (getD ids x 0))) row-taken
+                ∙ sym (run-drop own (take count order) i (o .target) less)
+                ∙ o .on
+
+      pub owning-end : (w′ : List ℕ) (i : ℕ) → i ≤ count → count ≤ i → Owning i w′ → Owned ids count w w′
+      owning-end w′ i h k o = record {
+        words = o .words;
+        places = o .places;
+        line = record { queue-n = order-n; places-n = o .long; few = few; rows = below; apart = apart; placed = λ j m. o .placed j (omega arith) };
+        arrays = o .arrays ∙ ap (λ (t : List ℕ). getD (cut (sizes n) w) 0 [] ∷ o .places ∷ order ∷ getD (cut (sizes n) w) 3 [] ∷ t ∷ getD (cut (sizes n) w) 5 [] ∷ []) all;
+      }
+        where
+          all : o .target ≡ run own (take count order) (region (sizes n) 4 w)
+          all =
+              sym (run-done own (take count order) i (o .target) (omega (arith, taken))) ∙ o .on
+
+-- ---- the start
+
+-- clearing the directions and the targets leaves the order
+pub order-kept : (n : ℕ) (w₀ w₁ w₂ : List ℕ) → cut (sizes n) w₁ ≡ set (cut (sizes n) w₀) 3 (replicate n 0) → cut (sizes n) w₂ ≡ set (cut (sizes n) w₁) 4 (replicate n 0) → region (sizes n) 2 w₂ ≡ region (sizes n) 2 w₀
+order-kept n w₀ w₁ w₂ c₃ c₄ = ap (λ (rs : List (List ℕ)). getD rs 2 []) (c₄ ∙ ap (λ (rs : List (List ℕ)). set rs 4 (replicate n 0)) c₃)
+
+module _ (b : Board) (limit spaces used : ℕ) (w₀ w₁ w₂ w e : List ℕ) (small : turfCount b ≤ 4096) (long : 5 * turfCount b ≤ length w₀) (room : 24 * turfCount b ≤ length e) (u : used ≤ 12 * (turfCount b + spaces))
+    (c₃ : cut (sizes (turfCount b)) w₁ ≡ set (cut (sizes (turfCount b)) w₀) 3 (replicate (turfCount b) 0)) (c₄ : cut (sizes (turfCount b)) w₂ ≡ set (cut (sizes (turfCount b)) w₁) 4 (replicate (turfCount b) 0))
+    (l₁ : length w₁ ≡ length w₀) (l₂ : length w₂ ≡ length w₁) (o : Owned (b .ids) spaces w₂ w) where
+  abbrev m : ℕ
+  m = turfCount b
+
+  abbrev space : List ℕ
+  space = take spaces (region (sizes m) 2 w₀)
+
+  cleared : cut (sizes m) w₂ ≡ (region (sizes m) 0 w₀ ∷ region (sizes m) 1 w₀ ∷ region (sizes m) 2 w₀ ∷ replicate m 0 ∷ replicate m 0 ∷ region (sizes m) 5 w₀ ∷ [])
+  cleared = c₄ ∙ ap (λ (rs : List (List ℕ)). set rs 4 (replicate m 0)) c₃
+
+  order-same : region (sizes m) 2 w₂ ≡ region (sizes m) 2 w₀
+  order-same = ap (λ (rs : List (List ℕ)). getD rs 2 []) cleared
+
+  arrays : cut (sizes m) w ≡ (region (sizes m) 0 w₀ ∷ o .places ∷ region (sizes m) 2 w₀ ∷ replicate m 0 ∷ run (λ r t. set t r (getD (b .ids) r 0)) space (replicate m 0) ∷ region (sizes m) 5 w₀ ∷ [])
+  arrays = o .arrays ∙ ap (λ (rs : List (List ℕ)). getD rs 0 [] ∷ o .places ∷ getD rs 2 [] ∷ getD rs 3 [] ∷ run (λ r t. set t r (getD (b .ids) r 0)) (take spaces (getD rs 2 [])) (getD rs 4 []) ∷ getD rs 5 [] ∷ []) cleared
+
+  abbrev first : Front
+  first = record { count = spaces; place = 0; used = used }
+
+  none-directed : (k x : ℕ) → getD (replicate k 0) x 0 ≤ m
+  none-directed zero x = omega arith
+  none-directed (suc k) zero = omega arith
+  none-directed (suc k) (suc x) = none-directed k x
+
+  pub start-fit : Fit m (at first w e)
+  start-fit = record {
+    small = small;
+    words = omega (arith, o .words, l₁, l₂);
+    bytes = room;
+    written = u;
+    past = omega arith;
+    line = subst (λ (rs : List (List ℕ)). Line m spaces (getD rs 2 []) (getD rs 1 [])) (sym arrays) (subst (λ (q : List ℕ). Line m spaces q (o .places)) order-same (o .line));
+    directed = subst (λ (rs : List (List ℕ)). (x : ℕ) → getD (getD rs 3 []) x 0 ≤ m) (sym arrays) (none-directed m);
+  }
+
+  pub outed : {g : Front} {w′ e′ : List ℕ} → Does (outing m) (times (outNext b limit) m) (at first w e) (at g w′ e′) → Outed b limit spaces used g w₀ w′ e e′
+  outed {g} {w′} {e′} d = record {
+    fit = d .fit;
+    words = ap (λ (r : Rest). r .words) (d .kept) ∙ o .words ∙ l₂ ∙ l₁;
+    beyond = ap (λ (r : Rest). r .beyond) (d .kept) ∙ ap (λ (rs : List (List ℕ)). getD rs 5 []) arrays;
+    new = d .new;
+    wrote = d .wrote;
+    same = λ es. d .same es ∙ start es;
+  }
+    where
+      start : (es : List Event) → times (outNext b limit) m (outOf m (at first w e) es) ≡ outward b limit space es
+      start es = unfold outOf outward in ap (λ (rs : List (List ℕ)). times (outNext b limit) m (outIn rs first es)) arrays

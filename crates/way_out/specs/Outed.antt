@@ -1,0 +1,101 @@
+-- How the scratch holds the way out: past the first walk's queue, each row's place in the order, the order, which starts as the space list, the directions and the targets.
+use mathlib.Core.Path.{_≡_}
+use mathlib.Core.List.{List, [], _∷_, _++_}
+use Prim.Native.Nat.{ℕ, _+_, _*_, _≤_, _<_}
+use lib.ListN.{length, getD, set, take}
+use Rattle.basics.specs.Loops.{run}
+use Rattle.basics.specs.Regions.{cut, region}
+use Rattle.turfs.specs.Board.{Board, turfCount, linkCount, mixtureCount, mixOf, end}
+use Rattle.turfs.specs.Tables.{board, Parts}
+use Rattle.events.specs.Events.{encodeAll}
+use Rattle.events.specs.Area.{Wrote}
+use Rattle.events.specs.declared.Event.{Event}
+use Rattle.index_set.specs.Line.{Below, Apart, Line}
+use Rattle.walks.specs.Does.{Held}
+use Rattle.way_out.specs.Out.{Out, outRow, outward}
+use Rattle.way_out.specs.declared.Front.{Front}
+
+-- what a function of the way out may change
+pub record State : Type 0 where
+  pub front : Front
+  pub words : List ℕ
+  pub area : List ℕ
+
+abbrev pub at : Front → List ℕ → List ℕ → State
+at front words area = record { front = front; words = words; area = area }
+
+-- the five arrays
+abbrev pub sizes : ℕ → List ℕ
+sizes n = n ∷ n ∷ n ∷ n ∷ n ∷ []
+
+abbrev pub outIn : List (List ℕ) → Front → List Event → Out
+outIn arrays g es = record { order = take (g .count) (getD arrays 2 []); place = g .place; direction = getD arrays 3 []; target = getD arrays 4 []; events = es }
+
+-- the way out that the state holds
+unfoldable pub outOf : ℕ → State → List Event → Out
+outOf n a es = outIn (cut (sizes n) (a .words)) (a .front) es
+
+-- what a step leaves as it is
+pub record Rest : Type 0 where
+  pub words : ℕ
+  pub beyond : List ℕ
+
+-- what holds between steps
+pub record Fit (n : ℕ) (a : State) : Type 0 where
+  pub small : n ≤ 4096
+  pub words : 5 * n ≤ length (a .words)
+  pub bytes : 24 * n ≤ length (a .area)
+  pub written : a .front .used ≤ 12 * (n + a .front .count)
+  pub past : a .front .place ≤ a .front .count
+  pub line : Line n (a .front .count) (region (sizes n) 2 (a .words)) (region (sizes n) 1 (a .words))
+  pub directed : (r : ℕ) → getD (region (sizes n) 3 (a .words)) r 0 ≤ n
+
+-- the way out over n turfs
+abbrev pub outing : ℕ → Held State Out Rest
+outing n = record {
+  used = λ a. a .front .used;
+  area = λ a. a .area;
+  view = outOf n;
+  frame = λ a. record { words = length (a .words); beyond = region (sizes n) 5 (a .words) };
+  Fit = Fit n;
+}
+
+-- a board of which no more than a part of the link list, the ids and the mixtures is looked at
+abbrev pub shore : List ℕ → List ℕ → List ℕ → List ℕ → Board
+shore ids mixtures near immutable = board ids [] [] mixtures [] near [] immutable 0
+
+-- every turf has a mixture
+pub record Mixed (b : Board) : Type 0 where
+  pub mixtures : length (b .mixtures) ≡ turfCount b
+  pub mixture : (r : ℕ) → r < turfCount b → mixOf b r < mixtureCount b
+
+-- a board of which no more than the ids, the mixtures and the links is looked at
+abbrev pub coast : List ℕ → List ℕ → List ℕ → List ℕ → List ℕ → Board
+coast ids mixtures starts neighbours immutable = board ids [] [] mixtures starts neighbours [] immutable 0
+
+-- what the way out needs of the tables
+pub record Coast (b : Board) : Type 0 where
+  pub mixed : Mixed (shore (b .ids) (b .mixtures) [] (b .immutable))
+  pub parts : Parts (turfCount b) (b .starts) (b .neighbours)
+  pub neighbour : (k : ℕ) → k < linkCount b → end b k < turfCount b
+
+-- `outNext` where there is a turf to pass
+abbrev pub passNext : Board → ℕ → Out → Out
+passNext b limit s = outRow b limit (getD (s .order) (s .place) 0) s
+
+-- the space turfs have their places, and are their own targets
+pub record Owned (ids : List ℕ) (count : ℕ) (w w′ : List ℕ) : Type 0 where
+  pub words : length w′ ≡ length w
+  pub places : List ℕ
+  pub line : Line (length ids) count (region (sizes (length ids)) 2 w) places
+  pub arrays : cut (sizes (length ids)) w′ ≡ (getD (cut (sizes (length ids)) w) 0 [] ∷ places ∷ getD (cut (sizes (length ids)) w) 2 [] ∷ getD (cut (sizes (length ids)) w) 3 []
+      ∷ run (λ r t. set t r (getD ids r 0)) (take count (region (sizes (length ids)) 2 w)) (region (sizes (length ids)) 4 w) ∷ getD (cut (sizes (length ids)) w) 5 [] ∷ [])
+
+-- the way out from the space list is done: from w and e it came to w′ and e′
+pub record Outed (b : Board) (limit spaces used : ℕ) (g : Front) (w w′ e e′ : List ℕ) : Type 0 where
+  pub fit : Fit (turfCount b) (at g w′ e′)
+  pub words : length w′ ≡ length w
+  pub beyond : region (sizes (turfCount b)) 5 w′ ≡ region (sizes (turfCount b)) 5 w
+  pub new : List Event
+  pub wrote : Wrote (encodeAll new) used (g .used) e e′
+  pub same : (es : List Event) → outOf (turfCount b) (at g w′ e′) (es ++ new) ≡ outward b limit (take spaces (region (sizes (turfCount b)) 2 w)) es
