@@ -50,16 +50,16 @@ difference-size : (id : ℕ) (x : Float) → length (encode (Difference id x id 
 difference-size id x = encode-size (Difference id x id id) ∙ difference-kind id x
 
 module _ (id : ℕ) (mine theirs : Float) (used : ℕ) (e : List ℕ) (room : used + 48 ≤ length e) where
-  pub high-room : used + length (encode (HighPressure id)) ≤ length e
-  high-room = omega (arith, high-size id)
+  pub high-room : used + 8 ≤ length e
+  high-room = omega arith
 
   module _ (e₁ : List ℕ) (u₁ : ℕ) (w₁ : Wrote (encode (HighPressure id)) used u₁ e e₁) where
-    pub mine-room : u₁ + length (encode (Difference id mine id id)) ≤ length e₁
-    mine-room = omega (arith, high-size id, difference-size id mine, w₁ .end, wrote-length w₁)
+    pub mine-room : u₁ + 20 ≤ length e₁
+    mine-room = omega (arith, high-size id, w₁ .end, wrote-length w₁)
 
     module _ (e₂ : List ℕ) (u₂ : ℕ) (w₂ : Wrote (encode (Difference id mine id id)) u₁ u₂ e₁ e₂) where
-      pub theirs-room : u₂ + length (encode (Difference id theirs id id)) ≤ length e₂
-      theirs-room = omega (arith, high-size id, difference-size id mine, difference-size id theirs, w₁ .end, w₂ .end, wrote-length w₁, wrote-length w₂)
+      pub theirs-room : u₂ + 20 ≤ length e₂
+      theirs-room = omega (arith, high-size id, difference-size id mine, w₁ .end, w₂ .end, wrote-length w₁, wrote-length w₂)
 
       two : Wrote (encodeAll (HighPressure id ∷ Difference id mine id id ∷ [])) used u₂ e e₂
       two = both-wrote (HighPressure id ∷ []) (Difference id mine id id ∷ []) (one-wrote (HighPressure id) w₁) (one-wrote (Difference id mine id id) w₂)

@@ -148,9 +148,6 @@ order-long n left w l h = omega (arith, cut-length (sizes n) w 2 (omega arith) (
 rip-size : (i : ℕ) (x : Float) → length (encode (FloorRip i x)) ≡ 12
 rip-size i x = encode-size (FloorRip i x) ∙ unfold sizeOf kindOf in refl
 
-pub rip-room : (i : ℕ) (x : Float) (used : ℕ) (e : List ℕ) → used + 12 ≤ length e → used + length (encode (FloorRip i x)) ≤ length e
-rip-room i x used e h = omega (arith, rip-size i x)
-
 rips-size : (ids rs : List ℕ) (xs : List Float) → length rs ≡ length xs → size (ripsOf ids rs xs) ≡ 12 * length rs
 unfolding ripsOf encodeAll
 rips-size ids [] xs l = refl

@@ -60,8 +60,8 @@ module _ (ids : List ℕ) (row a : ℕ) (s : Front) (w e : List ℕ) (h : Fit (l
   pub count-less : s .count < n
   count-less = count-below (h .line) a k new
 
-  pub target-room : (t : ℕ) → s .used + length (encode (Target (getD ids a 0) t)) ≤ length e
-  target-room t = omega (arith, target-size (getD ids a 0) t, count-less, h .written, h .bytes)
+  pub target-room : s .used + 12 ≤ length e
+  target-room = omega (arith, count-less, h .written, h .bytes)
 
   module _ (w₂ : List ℕ) (put : w₂ ≡ set (set w (2 * n + s .count) a) (n + a) (s .count)) where
     abbrev w₃ : List ℕ

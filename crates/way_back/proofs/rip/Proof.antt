@@ -1,10 +1,8 @@
 -- One record. Assumes nothing.
 use denote.Ref.{now}
 use Rattle.walks.proofs.Does.{one-wrote}
-use Rattle.way_back.proofs.Ways.{rip-room}
 use borrow.Author.Needs.{needs}
 use Rattle.events.proofs.Areas.{one-added}
-use Rattle.events.proofs.EachEvent.{encode-length}
 use Rattle.way_back.proofs.rip.Statement.{statement}
 use Rattle.way_back.proofs.rip.Tie as tie
 use Rattle.way_back.proofs.rip.Reads as reads
@@ -45,7 +43,7 @@ shared-slice-read-amount c = search needs
 
 -- src/lib.rt:215:5
 append-requires : tie.Need-append-requires
-append-requires c κs = (c .before .before .before .before .before .before .before .before .pre .1 .1 .0, rw encode-length at (rip-room _ _ _ (now (c .before .before .before .before .before .before .before .before .args .events)) (c .before .before .before .before .before .before .before .before .pre .1 .1 .1)))
+append-requires c κs = c .before .before .before .before .before .before .before .before .pre .1 .1
 
 -- src/lib.rt:199:1
 same-length : tie.Need-same-length

@@ -4,7 +4,6 @@ use denote.Ref.{now}
 use Rattle.way_back.proofs.Backs.{high-room, mine-room, theirs-room, told-two, told-three}
 use borrow.Author.Needs.{needs}
 use Rattle.events.proofs.Areas.{one-added}
-use Rattle.events.proofs.EachEvent.{encode-length}
 use Rattle.way_back.proofs.tell.Statement.{statement}
 use Rattle.way_back.proofs.tell.Tie as tie
 use Rattle.way_back.proofs.tell.Reads as reads
@@ -13,11 +12,11 @@ use Rattle.events.proofs.append.Reads as append-reads
 
 -- src/lib.rt:65:9
 append-requires : tie.Need-append-requires
-append-requires c κs = (tt, rw encode-length at (high-room (c .before .before .args .id) (c .before .before .args .mine) (c .before .before .args .theirs) (c .before .before .args .used) (now (c .before .before .args .events)) (c .before .before .pre .1)))
+append-requires c κs = (tt, high-room (c .before .before .args .id) (c .before .before .args .mine) (c .before .before .args .theirs) (c .before .before .args .used) (now (c .before .before .args .events)) (c .before .before .pre .1))
 
 -- src/lib.rt:66:9
 append-requires-2 : tie.Need-append-requires-2
-append-requires-2 c κs = (c .before .before .before .before .before .before .pre .0 .0, rw encode-length at (mine-room (c .before .before .before .before .before .before .args .id) (c .before .before .before .before .before .before .args .mine) (c .before .before .before .before .before .before .args .theirs) (c .before .before .before .before .before .before .args .used) (now (c .before .before .before .before .before .before .args .events)) (c .before .before .before .before .before .before .pre .1) _ _ (c .before .before .before .append .ensures)))
+append-requires-2 c κs = (c .before .before .before .before .before .before .pre .0 .0, mine-room (c .before .before .before .before .before .before .args .id) (c .before .before .before .before .before .before .args .mine) (c .before .before .before .before .before .before .args .theirs) (c .before .before .before .before .before .before .args .used) (now (c .before .before .before .before .before .before .args .events)) (c .before .before .before .before .before .before .pre .1) _ _ (one-added _ (c .before .before .before .append .ensures)))
 
 -- src/lib.rt:77:9
 same-length : tie.Need-same-length
@@ -29,7 +28,7 @@ returns c = told-two (c .before .before .before .before .before .before .before 
 
 -- src/lib.rt:79:5
 append-requires-3 : tie.Need-append-requires-3
-append-requires-3 c κs = (c .before .before .before .before .before .before .before .before .before .before .before .pre .0 .1, rw encode-length at (theirs-room (c .before .before .before .before .before .before .before .before .before .before .before .args .id) (c .before .before .before .before .before .before .before .before .before .before .before .args .mine) (c .before .before .before .before .before .before .before .before .before .before .before .args .theirs) (c .before .before .before .before .before .before .before .before .before .before .before .args .used) (now (c .before .before .before .before .before .before .before .before .before .before .before .args .events)) (c .before .before .before .before .before .before .before .before .before .before .before .pre .1) _ _ (c .before .before .before .before .before .before .before .before .append .ensures) _ _ (c .before .before .before .before .append2 .ensures)))
+append-requires-3 c κs = (c .before .before .before .before .before .before .before .before .before .before .before .pre .0 .1, theirs-room (c .before .before .before .before .before .before .before .before .before .before .before .args .id) (c .before .before .before .before .before .before .before .before .before .before .before .args .mine) (c .before .before .before .before .before .before .before .before .before .before .before .args .theirs) (c .before .before .before .before .before .before .before .before .before .before .before .args .used) (now (c .before .before .before .before .before .before .before .before .before .before .before .args .events)) (c .before .before .before .before .before .before .before .before .before .before .before .pre .1) _ _ (one-added _ (c .before .before .before .before .before .before .before .before .append .ensures)) _ _ (one-added _ (c .before .before .before .before .append2 .ensures)))
 
 -- src/lib.rt:61:1
 same-length-2 : tie.Need-same-length-2

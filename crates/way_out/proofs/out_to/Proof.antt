@@ -5,7 +5,6 @@ use denote.Ref.{now}
 use Rattle.way_out.proofs.Joins.{count-less, target-room, does-join}
 use borrow.Author.Needs.{needs}
 use Rattle.events.proofs.Areas.{one-added}
-use Rattle.events.proofs.EachEvent.{encode-length}
 use Rattle.way_out.proofs.out_to.Statement.{statement}
 use Rattle.way_out.proofs.out_to.Tie as tie
 use Rattle.way_out.proofs.out_to.Reads as reads
@@ -83,7 +82,7 @@ shared-slice-read-t15 c = search needs
 
 -- src/lib.rt:34:9
 append-requires : tie.Need-append-requires
-append-requires c κs = (tt, rw encode-length at (target-room (now (c .before .before .before .before .before .before .before .before .before .before .args .ids)) (c .before .before .before .before .before .before .before .before .before .before .args .row) (c .before .before .before .before .before .before .before .before .before .before .args .a) (c .before .before .before .before .before .before .before .before .before .before .args .s) (now (c .before .before .before .before .before .before .before .before .before .before .args .words)) (now (c .before .before .before .before .before .before .before .before .before .before .args .events)) (c .before .before .before .before .before .before .before .before .before .before .pre .0 .0) (c .before .before .before .before .before .before .before .before .before .before .pre .0 .1 .0) (c .before .before .before .before .before .before .before .before .before .before .pre .0 .1 .1) (c .before .before .before .before .before .before .before .before .before .before .pre .1) _))
+append-requires c κs = (tt, target-room (now (c .before .before .before .before .before .before .before .before .before .before .args .ids)) (c .before .before .before .before .before .before .before .before .before .before .args .row) (c .before .before .before .before .before .before .before .before .before .before .args .a) (c .before .before .before .before .before .before .before .before .before .before .args .s) (now (c .before .before .before .before .before .before .before .before .before .before .args .words)) (now (c .before .before .before .before .before .before .before .before .before .before .args .events)) (c .before .before .before .before .before .before .before .before .before .before .pre .0 .0) (c .before .before .before .before .before .before .before .before .before .before .pre .0 .1 .0) (c .before .before .before .before .before .before .before .before .before .before .pre .0 .1 .1) (c .before .before .before .before .before .before .before .before .before .before .pre .1))
 
 -- src/lib.rt:43:16
 add-t17 : tie.Need-add-t17
