@@ -12,13 +12,14 @@ use Rattle.turfs.specs.Draw.{Turf, to, lock, turf, disabled, planet, space, sta
 use Rattle.mixture.specs.Mixture.{sum, amounts, change, totalMix, total, clearAir, amountFits}
 use Rattle.events.specs.Events.{kindOf, fieldsOf, wordsBytes, encode, encodeAll}
 use Rattle.events.specs.declared.Event.{Event}
-use Rattle.events.specs.declared.Event.the-variants.{Firelock, Target, HighPressure, Difference, FloorRip}
+use Rattle.events.specs.declared.Event.the-variants.{Firelock, Target, HighPressure, FloorRip}
 use Rattle.lent.specs.Lent.{wordsRoom, floatsRoom, firstFailed, refusal, after}
 use Rattle.lent.specs.Worked.{lend, left}
 use Rattle.walks.specs.Walk.{walkLink, spread, walkNext, walk}
 use Rattle.walks.specs.Visit.{atSpace, visitSpace}
 use Rattle.way_out.specs.Out.{outTo, outLink, outRow, outNext, outward}
 use Rattle.way_back.specs.Back.{backTo, back}
+use Rattle.way_back.specs.Worked.{difference}
 use Rattle.depressurize.specs.Depressurize.{wayBack, fromWalk, fromRow, depressurize, depressurizeRoom, depressurizeNumber, depressurizeDone, depressurizeResult}
 
 -- limit, id, gas; then outcome and bytes, the gas and the events afterwards
@@ -29,10 +30,6 @@ depressurizes b limit id gas outcome bytes gas′ es =
     same (o .answer .number ∷ o .answer .outcome ∷ o .answer .bytes ∷ []) (0 ∷ outcome ∷ bytes ∷ [])
     ∷ left b (depressurizeRoom b) (whole gas′) es (o .lent)
     ∷ [])
-
--- one turf's events on the way back: both arrows run from the id to itself
-abbrev pub difference : ℕ → ℕ → Event
-difference id n = Difference id (ofCount n) id id
 
 pub worked : T (allOf (
     -- amounts add up on the way back; kind 7 again where the next one has no direction; kind 8 at the end

@@ -32,6 +32,7 @@ use Rattle.way_back.specs.Backed.{notNegative, State, at, lots, ripsOf, 
 use Rattle.way_back.specs.declared.Way.{Way}
 use Rattle.way_back.specs.declared.Sums.{Sums}
 use Rattle.way_back.proofs.Signs.{add-clear, clear-number, every-at, every-set, every-snoc, total-clear, cleared-clear}
+use Rattle.way_back.specs.Worked as worked  -- checked before the laws
 
 -- ---- the events of a turf
 

@@ -24,6 +24,7 @@ use Rattle.walks.proofs.Visits.{target-size}
 use Rattle.way_out.specs.Out.{Out, outTo, outLink}
 use Rattle.way_out.specs.Outed.{State, at, sizes, outIn, outOf, Rest, Fit, outing, shore, Mixed}
 use Rattle.way_out.specs.declared.Front.{Front}
+use Rattle.way_out.specs.Worked as worked  -- checked before the laws
 
 -- what is written stands in the area
 pub written-room : (n : ℕ) (a : State) → Fit n a → a .front .used ≤ length (a .area)

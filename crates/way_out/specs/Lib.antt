@@ -1,2 +1,3 @@
 pub mod Out
 pub mod Outed
+pub mod Worked
