@@ -21,7 +21,8 @@ use Rattle.equalize.specs.Worked.{ask, limited, allowed, threshold, done, cance
 use Rattle.planet_walk.specs.Planet.{planetRoom}
 use Rattle.planet_walk.specs.Worked.{walksPlanet}
 use Rattle.depressurize.specs.Depressurize.{depressurizeRoom}
-use Rattle.depressurize.specs.Worked.{depressurizes, difference}
+use Rattle.depressurize.specs.Worked.{depressurizes}
+use Rattle.way_back.specs.Worked.{difference}
 
 -- which turfs have the fast mark after planning
 unfoldable pub marks : Board → Ask → List Float → List ℕ → Bool
