@@ -18,13 +18,6 @@ use Rattle.plan_state.proofs.Stores.{does-as, does-frame, frame-then}
 use Rattle.plan_state.proofs.Nodes.{nodes-length}
 use Rattle.plan_zone.specs.Zone.{Plans}
 
-pub total-is : (mixtures : List ℕ) (gases : ℕ) (gas : List Float) (row : ℕ) (x : Float)
-    → x ≡ sum (take (getD mixtures row 0 * gases + gases - getD mixtures row 0 * gases) (drop (getD mixtures row 0 * gases) gas)) → x ≡ total (ground 0 [] [] mixtures gases) gas row
-unfolding total totalMix amounts
-total-is mixtures gases gas row x e =
-    let k : getD mixtures row 0 * gases + gases - getD mixtures row 0 * gases ≡ gases = omega arith in
-    e ∙ ap (λ (m : ℕ). sum (take m (drop (getD mixtures row 0 * gases) gas))) k
-
 pub delta-set : {n e r : ℕ} (x y average : Float) {a a′ : Area} → x ≡ y
     → Does n e (λ o p. store p r (record { delta = x -f average; amount = 0f; direction = 0; fast = 0 })) a a′
     → Does n e (λ o p. store p r (record { delta = y -f average; amount = 0f; direction = 0; fast = 0 })) a a′
