@@ -42,7 +42,7 @@ serve-board b o z side g p =
     let s : Seek = record { queue = g ∷ []; looked = 0; plan = store p g (record { delta = load p g .delta; amount = 0f; direction = 0; fast = load p g .fast }) } in
     ap (λ (m : ℕ). let t = times (seekNext b o z side g) m s in run (drain b o z) (reverse (t .queue)) (t .plan)) (length-replicate {A = ℕ} (turfCount b) 0)
 
-run-like : {A S : Type 0} (f g : A → S → S) → ((x : A) (s : S) → f x s ≡ g x s) → (xs : List A) (s : S) → run f xs s ≡ run g xs s
+pub run-like : {A S : Type 0} (f g : A → S → S) → ((x : A) (s : S) → f x s ≡ g x s) → (xs : List A) (s : S) → run f xs s ≡ run g xs s
 unfolding run
 run-like f g h [] s = refl
 run-like f g h (x ∷ xs) s = ap (run f xs) (h x s) ∙ run-like f g h xs (g x s)
