@@ -1,5 +1,5 @@
 -- A zone is read off three arrays past those that planning changes, so it stays what it was. Assumes nothing.
-use Prim.Native.Nat.{ℕ, suc, _+_, _-_, _≤_, _<_}
+use Prim.Native.Nat.{ℕ, zero, suc, _+_, _-_, _≤_, _<_}
 use native.Mathlib.Omega.{arith}
 use mathlib.Core.Path.{_≡_, refl, ap, ap₂, _∙_, sym, subst}
 use mathlib.Core.Logic.{_⊎_, inl, inr}
@@ -81,6 +81,13 @@ region-same {w = w} {w′ = w′} n e k b h l out =
 
 -- ---- what the code reads of zone z
 
+-- a part of a front
+front-part : {A : Type 0} (s m c : ℕ) (xs : List A) → s + c ≤ m → take c (drop s xs) ≡ take c (drop s (take m xs))
+front-part zero m c xs l = sym (take-take c m xs (omega (arith, l)))
+front-part (suc s) zero c xs l = absurd (omega (arith, l))
+front-part (suc s) (suc m) c [] l = refl
+front-part (suc s) (suc m) c (x ∷ xs) l = front-part s m c xs (omega (arith, l))
+
 module _ (n e z : ℕ) (w : List ℕ) (f : List Float) (h : z < n) where
   pub start-at : getD w (startsAt n e + z) 0 ≡ startOf n e w z
   start-at = cut-get (sizes n e) w 0 11 z (startsAt n e + z) (omega arith) (omega arith) (omega arith)
@@ -94,12 +101,10 @@ module _ (n e z : ℕ) (w : List ℕ) (f : List Float) (h : z < n) where
   -- the nodes as planning takes them
   pub nodes-are : startOf n e w z ≤ startOf n e w (z + 1) → startOf n e w (z + 1) ≤ n + e
       → nodesOf n e (view n e (area w f)) (nodesAt n e + startOf n e w z) (startOf n e w (z + 1) - startOf n e w z) ≡ zoneOf n e w f z .nodes
+  unfolding view
   nodes-are up low =
       nodes-in (view n e (area w f) .restW) (startOf n e w z) (startOf n e w (z + 1) - startOf n e w z) (omega (arith, up, low))
     where
-      drop-take : (s m : ℕ) (xs : List ℕ) (c : ℕ) → s + c ≤ m → take c (drop s xs) ≡ take c (drop s (take m xs))
-      drop-take s m xs c l = ?
-
       nodes-in : (r : List ℕ) (s c : ℕ) → s + c ≤ n + e
           → take c (drop (nodesAt n e + s - top n e) r) ≡ take c (drop s (take (n + e) (drop (n + 1) (drop n (drop n (drop n r))))))
       nodes-in r s c l =
@@ -109,4 +114,32 @@ module _ (n e z : ℕ) (w : List ℕ) (f : List Float) (h : z < n) where
           ∙ ap (λ (x : List ℕ). take c (drop s x)) (sym (drop-drop (n + 1) (n + n + n) r))
           ∙ ap (λ (x : List ℕ). take c (drop s (drop (n + 1) x))) (sym (drop-drop n (n + n) r))
           ∙ ap (λ (x : List ℕ). take c (drop s (drop (n + 1) (drop n x)))) (sym (drop-drop n n r))
-          ∙ drop-take s (n + e) (drop (n + 1) (drop n (drop n (drop n r)))) c l
+          ∙ front-part s (n + e) c (drop (n + 1) (drop n (drop n (drop n r)))) l
+
+pub room-fit : {n e : ℕ} {w : List ℕ} {f : List Float} → Room n e w f → Fit n e (area w f)
+room-fit r = record { words = omega (arith, r .words); reals = omega (arith, r .reals); turfs = r .sizes .turfs; links = r .sizes .links }
+
+-- zone z as the code hands it on, with `s` where the starts are and `q` where the nodes are
+module _ {n e z s : ℕ} {w : List ℕ} {f : List Float} (es : s ≡ startsAt n e) (h : z < n) (t : Ready n e z w f) where
+  from-is : getD w (s + z) 0 ≡ startOf n e w z
+  from-is = ap (λ (m : ℕ). getD w (m + z) 0) es ∙ start-at n e z w f h
+
+  to-is : getD w (s + z + 1) 0 ≡ startOf n e w (z + 1)
+  to-is = ap (λ (m : ℕ). getD w (m + z + 1) 0) es ∙ next-at n e z w f h
+
+  pub from-to : (getD w (s + z) 0 < getD w (s + z + 1) 0) × ((getD w (s + z + 1) 0 ≤ n + e) × (getD w (s + z + 1) 0 ≤ getD w (s + z) 0 + n))
+  from-to = (omega (arith, t .some, from-is, to-is), (omega (arith, t .within, to-is), omega (arith, t .few, from-is, to-is)))
+
+  module _ {q : ℕ} (eq : q ≡ nodesAt n e) where
+    pub nodes-handed : nodesOf n e (view n e (area w f)) (q + getD w (s + z) 0) (getD w (s + z + 1) 0 - getD w (s + z) 0) ≡ zoneOf n e w f z .nodes
+    nodes-handed =
+        ap (λ (m : ℕ). nodesOf n e (view n e (area w f)) (m + getD w (s + z) 0) (getD w (s + z + 1) 0 - getD w (s + z) 0)) eq
+        ∙ ap₂ (λ (x y : ℕ). nodesOf n e (view n e (area w f)) (nodesAt n e + x) (y - x)) from-is to-is
+        ∙ nodes-are n e z w f h (omega (arith, t .some)) (t .within)
+
+    pub handed : Room n e w f → Nodes n e (q + getD w (s + z) 0) (getD w (s + z + 1) 0 - getD w (s + z) 0) (area w f)
+    handed r = record {
+      past = omega (arith, eq);
+      room = omega (arith, eq, from-to .0, from-to .1 .0, r .words);
+      rows = subst (Below n) (sym nodes-handed) (t .rows);
+    }

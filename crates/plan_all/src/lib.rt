@@ -126,6 +126,15 @@ pub fn plan_all(
     reverse_links::find_reverses(starts, neighbours, n, e, work, words);
     clear_plan(n, e, words, reals);
     plan_zones(
-        zones, mixtures, gases, gas, starts, neighbours, n, e, words, reals,
+        zones,
+        mixtures,
+        gases,
+        gas,
+        starts,
+        neighbours,
+        n,
+        e,
+        words,
+        reals,
     );
 }
