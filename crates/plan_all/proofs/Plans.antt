@@ -2,15 +2,15 @@
 use Prim.Native.Nat.{ℕ, zero, suc, _+_, _-_, _≤_, _<_}
 use native.Mathlib.Omega.{arith}
 use mathlib.Core.Path.{_≡_, refl, ap, ap₂, _∙_, sym, subst}
-use mathlib.Core.Logic.{_⊎_, inl, inr, ⊎-elim}
+use mathlib.Core.Logic.{inl, inr, ⊎-elim}
 use mathlib.Core.List.{List, [], _∷_, _++_, map, append-nil}
 use lib.ListN.{length, getD, set, take, drop, replicate, length-drop, length-map, length-replicate, drop-of-length-le}
-use lib.Seq.{getD-take, getD-drop, length-take-le}
+use lib.Seq.{getD-drop, length-take-le}
 use lib.Ieee.{Float, nan}
 use Rattle.basics.specs.Floats.{0f}
 use Rattle.basics.specs.Loops.{run, upFrom}
 use Rattle.basics.specs.Regions.{cut, region, base}
-use Rattle.basics.proofs.Loops.{All, run-both, run-up, run-up-end}
+use Rattle.basics.proofs.Loops.{run-both, run-up, run-up-end}
 use Rattle.basics.proofs.Lists.{upFrom-at, upFrom-length, upFrom-below}
 use Rattle.basics.proofs.Regions.{cut-part, cut-clear, cut-rest}
 use Rattle.turfs.specs.Board.{Board, turfCount, linkCount}
@@ -20,12 +20,12 @@ use Rattle.finalize_eq.specs.Turns.{Zone, zoneAt}
 use Rattle.equalize.specs.Equalize.{Filled, planAll}
 use Rattle.reverse_links.specs.Reverse.{Reverses}
 use Rattle.reverse_links.specs.Words.{Outside, ButParts}
-use Rattle.plan_state.specs.Held.{ground, Area, area, wsizes, rsizes, viewIn, View, view, Fit, Frame, top, nodesOf}
+use Rattle.plan_state.specs.Held.{Area, area, wsizes, rsizes, viewIn, View, view, Fit, Frame, top, nodesOf}
 use Rattle.plan_state.proofs.Stores.{frame-none, frame-then, owner-at}
 use Rattle.plan_state.proofs.Nodes.{rest-is}
 use Rattle.plan_zone.specs.Zone.{Plans}
 use Rattle.plan_zone.proofs.Whole.{tablesOf, run-like, plan-board}
-use Rattle.plan_all.specs.Zones.{floatSizes, molesAt, zoneOf, filledOf, Room, Ready, Zoned, blank, Blanks, planZones, PlansAll}
+use Rattle.plan_all.specs.Zones.{molesAt, zoneOf, filledOf, Ready, Zoned, blank, Blanks, planZones, PlansAll}
 use Rattle.plan_all.proofs.Zones.{Alike, zone-alike, zoned-alike, alike-then, frame-alike, region-same, moles-at, nodes-handed}
 
 -- ---- a blank plan
@@ -42,7 +42,7 @@ rows-cleared at n k w ys h q y =
     rw (q, new)
 
 -- the floats past the plan's
-reals-rest : (n e : ℕ) (a : Area) → view n e a .restR ≡ drop (e + n + n) (a .reals)
+pub reals-rest : (n e : ℕ) (a : Area) → view n e a .restR ≡ drop (e + n + n) (a .reals)
 unfolding view
 reals-rest n e a =
     let k : e + (n + (n + 0)) ≡ e + n + n = omega arith in
@@ -134,7 +134,7 @@ going-end {n} {e} {zones} {z} {b} {gas} {a} {a′} g l = record {
 -- ---- what the definition says of the zones as they stand in the areas
 
 -- a zone of the list is the zone itself
-zone-is : (zone : ℕ → Zone) (zones z : ℕ) → z < zones → zoneAt (map zone (upFrom 0 zones)) z ≡ zone z
+pub zone-is : (zone : ℕ → Zone) (zones z : ℕ) → z < zones → zoneAt (map zone (upFrom 0 zones)) z ≡ zone z
 zone-is zone zones z l = go (upFrom 0 zones) z (omega (arith, l, upFrom-length 0 zones)) ∙ ap zone (upFrom-at 0 zones z l ∙ omega arith)
   where
     go : (xs : List ℕ) (i : ℕ) → i < length xs → zoneAt (map zone xs) i ≡ zone (getD xs i 0)

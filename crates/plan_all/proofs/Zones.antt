@@ -2,13 +2,12 @@
 use Prim.Native.Nat.{ℕ, zero, suc, _+_, _-_, _≤_, _<_}
 use native.Mathlib.Omega.{arith}
 use mathlib.Core.Path.{_≡_, refl, ap, ap₂, _∙_, sym, subst}
-use mathlib.Core.Logic.{_⊎_, inl, inr}
 use mathlib.Core.List.{List, [], _∷_}
 use lib.ListN.{length, getD, take, drop, length-drop}
 use lib.Seq.{ext-getD, getD-take, getD-drop, length-take-le, drop-drop, take-take}
 use lib.Ieee.{Float, nan}
-use Rattle.basics.specs.Regions.{cut, region, base}
-use Rattle.basics.proofs.Regions.{cut-get, cut-length, region-part}
+use Rattle.basics.specs.Regions.{region, base}
+use Rattle.basics.proofs.Regions.{cut-get, region-part}
 use Rattle.index_set.specs.Line.{Below}
 use Rattle.flood_fill.specs.Held.{sizes, startsAt, nodesAt}
 use Rattle.finalize_eq.specs.Turns.{Zone}

@@ -1,17 +1,16 @@
 -- `process_zone` as a whole: the plan looks at the links, the mixtures and the number of turfs alone. Assumes nothing.
-use Prim.Native.Nat.{ℕ, _+_, _-_, _*_, _≤_, _<_}
-use native.Mathlib.Omega.{arith}
+use Prim.Native.Nat.{ℕ}
 use mathlib.Core.Path.{_≡_, refl, ap, _∙_, sym}
 use mathlib.Core.List.{List, [], _∷_, reverse}
 use lib.IntN.{pos}
-use lib.ListN.{length, getD, take, drop, length-replicate}
+use lib.ListN.{length, length-replicate}
 use lib.Ieee.{Float, ofInt, binary32}
 use Rattle.basics.specs.Floats.{0f, _-f_, _/f_}
 use Rattle.basics.specs.Loops.{run, times}
 use Rattle.turfs.specs.Board.{Board, turfCount, linksOf}
-use Rattle.mixture.specs.Mixture.{sum, amounts, totalMix, total}
+use Rattle.mixture.specs.Mixture.{amounts, totalMix, total}
 use Rattle.process_zone.specs.Edges.{edgesOf, edge, adjust}
-use Rattle.process_zone.specs.Plan.{Plan, Seek, load, store, fastMove, eligible, fastTurf, seekLink, seekRow, seekNext, drainTo, drain, serve, fastPass, shareOut, deltas, planZone, chosen}
+use Rattle.process_zone.specs.Plan.{Plan, Seek, load, store, fastMove, eligible, fastTurf, seekLink, seekRow, seekNext, drainTo, drain, serve, fastPass, shareOut, deltas, planZone}
 use Rattle.process_zone.specs.declared.Side.{Side}
 use Rattle.plan_state.specs.Held.{grid, ground, Area, View, view, Does, Nodes, nodesOf}
 use Rattle.plan_state.proofs.Stores.{does-as, does-frame, frame-then}

@@ -1,5 +1,4 @@
 -- Two arrays of words and three of floats are cleared, and the others stand. Assumes nothing.
-use native.Mathlib.Omega.{arith}
 use mathlib.Core.Path.{_∙_}
 use Rattle.plan_all.proofs.Plans.{blanked}
 use borrow.Author.Needs.{needs}

@@ -1,5 +1,4 @@
 -- The total, then one store. Assumes nothing.
-use native.Mathlib.Omega.{arith}
 use mathlib.Core.Path.{refl}
 use borrow.Author.Needs.{needs}
 use Rattle.plan_zone.proofs.Whole.{delta-set}
