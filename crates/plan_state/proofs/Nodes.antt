@@ -63,7 +63,7 @@ module _ {S : Type 0} (f : ℕ → S → S) (xs : List ℕ) (i : ℕ) where
 
 -- ---- the nodes
 
-rest-is : (n e : ℕ) (a : Area) → view n e a .restW ≡ drop (top n e) (a .words)
+pub rest-is : (n e : ℕ) (a : Area) → view n e a .restW ≡ drop (top n e) (a .words)
 unfolding view
 rest-is n e a =
     let k : e + (e + (n + (n + (n + (n + (n + (n + 0))))))) ≡ e + e + n + n + n + n + n + n = omega arith in

@@ -1,29 +1,21 @@
 -- `process_zone` as a whole: the plan looks at the links, the mixtures and the number of turfs alone. Assumes nothing.
-use Prim.Native.Nat.{ℕ, _+_, _-_, _*_, _≤_, _<_}
-use native.Mathlib.Omega.{arith}
+use Prim.Native.Nat.{ℕ}
 use mathlib.Core.Path.{_≡_, refl, ap, _∙_, sym}
 use mathlib.Core.List.{List, [], _∷_, reverse}
 use lib.IntN.{pos}
-use lib.ListN.{length, getD, take, drop, length-replicate}
+use lib.ListN.{length, length-replicate}
 use lib.Ieee.{Float, ofInt, binary32}
 use Rattle.basics.specs.Floats.{0f, _-f_, _/f_}
 use Rattle.basics.specs.Loops.{run, times}
 use Rattle.turfs.specs.Board.{Board, turfCount, linksOf}
-use Rattle.mixture.specs.Mixture.{sum, amounts, totalMix, total}
+use Rattle.mixture.specs.Mixture.{amounts, totalMix, total}
 use Rattle.process_zone.specs.Edges.{edgesOf, edge, adjust}
-use Rattle.process_zone.specs.Plan.{Plan, Seek, load, store, fastMove, eligible, fastTurf, seekLink, seekRow, seekNext, drainTo, drain, serve, fastPass, shareOut, deltas, planZone, chosen}
+use Rattle.process_zone.specs.Plan.{Plan, Seek, load, store, fastMove, eligible, fastTurf, seekLink, seekRow, seekNext, drainTo, drain, serve, fastPass, shareOut, deltas, planZone}
 use Rattle.process_zone.specs.declared.Side.{Side}
 use Rattle.plan_state.specs.Held.{grid, ground, Area, View, view, Does, Nodes, nodesOf}
 use Rattle.plan_state.proofs.Stores.{does-as, does-frame, frame-then}
 use Rattle.plan_state.proofs.Nodes.{nodes-length}
 use Rattle.plan_zone.specs.Zone.{Plans}
-
-pub total-is : (mixtures : List ℕ) (gases : ℕ) (gas : List Float) (row : ℕ) (x : Float)
-    → x ≡ sum (take (getD mixtures row 0 * gases + gases - getD mixtures row 0 * gases) (drop (getD mixtures row 0 * gases) gas)) → x ≡ total (ground 0 [] [] mixtures gases) gas row
-unfolding total totalMix amounts
-total-is mixtures gases gas row x e =
-    let k : getD mixtures row 0 * gases + gases - getD mixtures row 0 * gases ≡ gases = omega arith in
-    e ∙ ap (λ (m : ℕ). sum (take m (drop (getD mixtures row 0 * gases) gas))) k
 
 pub delta-set : {n e r : ℕ} (x y average : Float) {a a′ : Area} → x ≡ y
     → Does n e (λ o p. store p r (record { delta = x -f average; amount = 0f; direction = 0; fast = 0 })) a a′
@@ -49,7 +41,7 @@ serve-board b o z side g p =
     let s : Seek = record { queue = g ∷ []; looked = 0; plan = store p g (record { delta = load p g .delta; amount = 0f; direction = 0; fast = load p g .fast }) } in
     ap (λ (m : ℕ). let t = times (seekNext b o z side g) m s in run (drain b o z) (reverse (t .queue)) (t .plan)) (length-replicate {A = ℕ} (turfCount b) 0)
 
-run-like : {A S : Type 0} (f g : A → S → S) → ((x : A) (s : S) → f x s ≡ g x s) → (xs : List A) (s : S) → run f xs s ≡ run g xs s
+pub run-like : {A S : Type 0} (f g : A → S → S) → ((x : A) (s : S) → f x s ≡ g x s) → (xs : List A) (s : S) → run f xs s ≡ run g xs s
 unfolding run
 run-like f g h [] s = refl
 run-like f g h (x ∷ xs) s = ap (run f xs) (h x s) ∙ run-like f g h xs (g x s)

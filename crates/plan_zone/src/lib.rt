@@ -7,7 +7,7 @@ ghost use lib.Ieee.{nan};
 ghost use lib.ListN.{length, getD, take, set};
 ghost use Rattle.basics.specs.Loops.{run};
 ghost use Rattle.basics.specs.Floats.{0f, _-f_};
-ghost use Rattle.mixture.specs.Mixture.{sum, total};
+ghost use Rattle.mixture.specs.Mixture.{total};
 ghost use Rattle.process_zone.specs.Plan.{store, log2, picks, chosen, serve, fastPass, shareOut, deltas, planZone};
 ghost use Rattle.process_zone.specs.declared.Side.the-variants.{Giving, Taking};
 ghost use Rattle.index_set.specs.Line.{Below};
@@ -210,30 +210,6 @@ fn share_out(
     serve_all(side, listed, starts, neighbours, z, n, e, words, reals);
 }
 
-// The sum of the amounts from the left.
-fn total(a: &[f32]) -> f32
-    ensures { λ r. ⌜ r ≡ sum (now (a .entry)) ⌝ }
-{
-    let mut t: f32 = 0.0;
-    let mut i: usize = 0;
-    while i < a.len() {
-        t = t + a[i];
-        i += 1;
-    }
-    t
-}
-
-// What the mixture of the turf at `row` holds, of `gases` amounts.
-fn total_of(mixtures: &[u32], gases: usize, gas: &[f32], row: usize) -> f32
-    requires { ⌜ Gassed (length (now mixtures)) (now mixtures) gases (now gas) × (row < length (now mixtures)) ⌝ }
-    ensures { λ r. ⌜ r ≡ total (ground 0 [] [] (now (mixtures .entry)) gases) (now (gas .entry)) row ⌝ }
-{
-    let m = mixtures[row] as usize;
-    let from = m * gases;
-    let to = from + gases;
-    total(&gas[from..to])
-}
-
 // The planning state of the turf r at first.
 fn first_delta(
     r: u32,
@@ -250,7 +226,7 @@ fn first_delta(
     ensures { λ _. ⌜ Does n e (λ o p. store p r (record { delta = total (ground 0 [] [] (now (mixtures .entry)) gases) (now (gas .entry)) r -f average; amount = 0f; direction = 0; fast = 0 })) (area (now (words .entry)) (now (reals .entry))) (area (now (words .exit)) (now (reals .exit))) ⌝ }
 {
     let row = r as usize;
-    let moles = total_of(mixtures, gases, gas, row);
+    let moles = mixture::total(mixtures, gas, gases, row);
     let info = MonstermosInfo {
         delta: moles - average,
         amount: 0.0,

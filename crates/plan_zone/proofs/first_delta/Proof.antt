@@ -1,11 +1,12 @@
 -- The total, then one store. Assumes nothing.
+use mathlib.Core.Path.{refl}
 use borrow.Author.Needs.{needs}
 use Rattle.plan_zone.proofs.Whole.{delta-set}
 use Rattle.plan_zone.proofs.first_delta.Statement.{statement}
 use Rattle.plan_zone.proofs.first_delta.Tie as tie
 
-total-of-requires : tie.Need-total-of-requires
-total-of-requires c κs = (rw (c .before .before .before .before .pre .0 .mixtures-n) (c .before .before .before .before .pre .0), rw (c .before .before .before .before .pre .0 .mixtures-n) (c .before .before .before .before .pre .1 .1))
+total-requires : tie.Need-total-requires
+total-requires c κs = (rw (c .before .before .before .before .pre .0 .mixtures-n) (c .before .before .before .before .pre .1 .1), c .before .before .before .before .pre .0 .within _ (c .before .before .before .before .pre .1 .1))
 
 store-requires : tie.Need-store-requires
 store-requires c κs = search needs
@@ -17,8 +18,8 @@ same-length-2 : tie.Need-same-length-2
 same-length-2 c = search needs
 
 returns : tie.Need-returns
-returns c = delta-set _ _ _ (c .before .before .before .before .before .before .before .total-of .ensures) (c .before .before .before .before .store .ensures)
+returns c = delta-set _ _ _ (c .before .before .before .before .before .before .before .total .ensures _ refl refl) (c .before .before .before .before .store .ensures)
 
 pub first-delta-spec : {M : Type 1} → statement M
 first-delta-spec =
-    tie.close (tie.spec total-of-requires store-requires same-length same-length-2 returns)
+    tie.close (tie.spec total-requires store-requires same-length same-length-2 returns)

@@ -1,0 +1,104 @@
+-- What a caller hands over and gets: the zones of a fill are such as planning asks for, the arrays that planning leaves are the same, and the plan is the whole board's.
+-- Assumes nothing.
+use Prim.Native.Nat.{ℕ, _+_, _-_, _≤_, _<_}
+use native.Mathlib.Omega.{arith}
+use mathlib.Core.Path.{_≡_, ap, ap₂, _∙_, sym, subst}
+use mathlib.Core.Logic.{inl, inr}
+use mathlib.Core.List.{List, [], _∷_, map}
+use lib.ListN.{length, take, drop, length-drop, length-map}
+use lib.Seq.{length-take-le}
+use lib.Ieee.{Float}
+use Rattle.basics.specs.Loops.{run, upFrom}
+use Rattle.basics.specs.Regions.{region}
+use Rattle.basics.proofs.Loops.{All}
+use Rattle.basics.proofs.Lists.{upFrom-length}
+use Rattle.basics.proofs.Regions.{cut-length}
+use Rattle.turfs.specs.Board.{Board, turfCount, linkCount}
+use Rattle.turfs.proofs.Line.{Line, line-short}
+use Rattle.index_set.specs.Line.{Below}
+use Rattle.flood_fill.specs.Held.{sizes, nodesAt}
+use Rattle.process_zone.specs.Plan.{planZone}
+use Rattle.finalize_eq.specs.Turns.{Zone, zoneAt}
+use Rattle.equalize.specs.Equalize.{Filled, planAll}
+use Rattle.plan_state.specs.Held.{area, view}
+use Rattle.plan_zone.proofs.Whole.{tablesOf}
+use Rattle.plan_all.specs.Zones.{floatSizes, zoneOf, startOf, filledOf, Room, Zoned, blank, PlansAll}
+use Rattle.plan_all.proofs.Zones.{part-same, region-same}
+use Rattle.plan_all.proofs.Plans.{reals-rest, zone-is, plan-all-board}
+
+-- ---- before
+
+below-all : (n : ℕ) (xs : List ℕ) → All (λ x. x < n) xs → Below n xs
+unfolding Below
+below-all n [] h = tt
+below-all n (x ∷ xs) h = (h .0, below-all n xs (h .1))
+
+-- zones whose nodes stand one after the other, each with a node, none twice
+pub zoned-of : (b : Board) {e zones : ℕ} {w : List ℕ} {f : List Float} (zs : List Zone) → Room (turfCount b) e w f → zones ≤ turfCount b
+    → zs ≡ map (zoneOf (turfCount b) e w f) (upFrom 0 zones)
+    → ((z : ℕ) → z < zones → (startOf (turfCount b) e w z ≤ startOf (turfCount b) e w (z + 1)) × (startOf (turfCount b) e w (z + 1) ≤ turfCount b + e))
+    → ((z : ℕ) → z < length zs → (1 ≤ length (zoneAt zs z .nodes)) × Line b (zoneAt zs z .nodes))
+    → Zoned (turfCount b) e zones w f
+zoned-of b {e} {zones} {w} {f} zs r few same rise has =
+    let n : ℕ = turfCount b in
+    let count : length zs ≡ zones = ap length same ∙ length-map (upFrom 0 zones) (zoneOf n e w f) ∙ upFrom-length 0 zones in
+    let node : (z : ℕ) → z < zones → zoneAt zs z ≡ zoneOf n e w f z = λ z l. ap (λ (v : List Zone). zoneAt v z) same ∙ zone-is (zoneOf n e w f) zones z l in
+    let long : length (region (sizes n e) 12 w) ≡ n + e = cut-length (sizes n e) w 12 (omega arith) (omega (arith, r .words)) in
+    let size : (z : ℕ) → z < zones → length (zoneAt zs z .nodes) ≡ startOf n e w (z + 1) - startOf n e w z =
+    λ z l.
+    ap (λ (v : Zone). length (v .nodes)) (node z l)
+    ∙ length-take-le (startOf n e w (z + 1) - startOf n e w z) (drop (startOf n e w z) (region (sizes n e) 12 w))
+    (omega (arith, rise z l .0, rise z l .1, long, length-drop (startOf n e w z) (region (sizes n e) 12 w))) in
+    record {
+      room = r;
+      few = few;
+      each = λ z l.
+          let h = has z (omega (arith, l, count)) in
+          record {
+            some = omega (arith, h .0, size z l);
+            few = omega (arith, size z l, line-short b (zoneAt zs z .nodes) (h .1));
+            within = rise z l .1;
+            rows = subst (λ (v : Zone). Below n (v .nodes)) (node z l) (below-all n (zoneAt zs z .nodes) (h .1 .rows));
+          };
+    }
+
+-- ---- afterwards
+
+-- the arrays that planning leaves; m words more, up to those that it works with
+pub record Stays (n e work : ℕ) (w w′ : List ℕ) (f f′ : List Float) : Type 0 where
+  pub owner : region (sizes n e) 0 w′ ≡ region (sizes n e) 0 w
+  pub found : region (sizes n e) 8 w′ ≡ region (sizes n e) 8 w
+  pub cursor : region (sizes n e) 9 w′ ≡ region (sizes n e) 9 w
+  pub live : region (sizes n e) 10 w′ ≡ region (sizes n e) 10 w
+  pub starts : region (sizes n e) 11 w′ ≡ region (sizes n e) 11 w
+  pub nodes : region (sizes n e) 12 w′ ≡ region (sizes n e) 12 w
+  pub more : (m : ℕ) → nodesAt n e + n + e + m ≤ work → take m (drop (nodesAt n e + n + e) w′) ≡ take m (drop (nodesAt n e + n + e) w)
+  pub lifted : region (floatSizes n e) 3 f′ ≡ region (floatSizes n e) 3 f
+  pub moles : region (floatSizes n e) 4 f′ ≡ region (floatSizes n e) 4 f
+
+pub all-stays : {n e zones work : ℕ} {b : Board} {gas : List Float} {w w′ : List ℕ} {f f′ : List Float} → nodesAt n e + n + e ≤ work → work + e + n + n ≤ length w
+    → PlansAll n e zones work b gas w w′ f f′ → Stays n e work w w′ f f′
+unfolding view
+all-stays {n} {e} {w = w} {w′} {f} {f′} past room p = record {
+  owner = region-same n e 0 (p .words) (omega arith) (omega (arith, past, room)) (λ i l k. (inl (omega (arith, k)), inl (omega (arith, k, past))));
+  found = region-same n e 8 (p .words) (omega arith) (omega (arith, past, room)) (λ i l k. (inr (omega (arith, l)), inl (omega (arith, k, past))));
+  cursor = region-same n e 9 (p .words) (omega arith) (omega (arith, past, room)) (λ i l k. (inr (omega (arith, l)), inl (omega (arith, k, past))));
+  live = region-same n e 10 (p .words) (omega arith) (omega (arith, past, room)) (λ i l k. (inr (omega (arith, l)), inl (omega (arith, k, past))));
+  starts = region-same n e 11 (p .words) (omega arith) (omega (arith, past, room)) (λ i l k. (inr (omega (arith, l)), inl (omega (arith, k, past))));
+  nodes = region-same n e 12 (p .words) (omega arith) (omega (arith, past, room)) (λ i l k. (inr (omega (arith, l)), inl (omega (arith, k, past))));
+  more = λ m q. part-same (p .words) (nodesAt n e + n + e) m (omega (arith, q, room)) (λ i l k. (inr (omega (arith, l)), inl (omega (arith, k, q))));
+  lifted = ap (take e) rest;
+  moles = ap (λ (r : List Float). take n (drop e r)) rest;
+}
+  where
+    rest : drop n (drop n (drop e f′)) ≡ drop n (drop n (drop e f))
+    rest = reals-rest n e (area w′ f′) ∙ p .reals .1 ∙ sym (reals-rest n e (area w f))
+
+-- the plan of the whole board, of what filling came to
+pub planned-filled : (b : Board) (s : Filled) {zones work : ℕ} {gas : List Float} {w w′ : List ℕ} {f f′ : List Float}
+    → PlansAll (turfCount b) (linkCount b) zones work (tablesOf b) gas w w′ f f′ → s .owner ≡ region (sizes (turfCount b) (linkCount b)) 0 w
+    → s .zones ≡ map (zoneOf (turfCount b) (linkCount b) w f) (upFrom 0 zones) → view (turfCount b) (linkCount b) (area w′ f′) .plan ≡ planAll b gas s
+unfolding planAll
+planned-filled b s {zones} {gas = gas} {w = w} {f = f} p eo ez =
+    p .plan ∙ plan-all-board b gas (filledOf (turfCount b) (linkCount b) zones w f)
+    ∙ ap₂ (λ (o : List ℕ) (zs : List Zone). run (λ z q. planZone b o z gas (zoneAt zs z .nodes) (zoneAt zs z .moles) q) (upFrom 0 (length zs)) (blank (turfCount b) (linkCount b))) (sym eo) (sym ez)

@@ -1,0 +1,3 @@
+pub mod Zones
+pub mod Plans
+pub mod Calls

@@ -1,0 +1,223 @@
+-- Zone after zone is the run of the definition, over zones that stay what they are; and the plan looks at the tables alone. Assumes nothing.
+use Prim.Native.Nat.{ℕ, zero, suc, _+_, _-_, _≤_, _<_}
+use native.Mathlib.Omega.{arith}
+use mathlib.Core.Path.{_≡_, refl, ap, ap₂, _∙_, sym, subst}
+use mathlib.Core.Logic.{inl, inr, ⊎-elim}
+use mathlib.Core.List.{List, [], _∷_, _++_, map, append-nil}
+use lib.ListN.{length, getD, set, take, drop, replicate, length-drop, length-map, length-replicate, drop-of-length-le}
+use lib.Seq.{getD-drop, length-take-le}
+use lib.Ieee.{Float, nan}
+use Rattle.basics.specs.Floats.{0f}
+use Rattle.basics.specs.Loops.{run, upFrom}
+use Rattle.basics.specs.Regions.{cut, region, base}
+use Rattle.basics.proofs.Loops.{run-both, run-up, run-up-end}
+use Rattle.basics.proofs.Lists.{upFrom-at, upFrom-length, upFrom-below}
+use Rattle.basics.proofs.Regions.{cut-part, cut-clear, cut-rest}
+use Rattle.turfs.specs.Board.{Board, turfCount, linkCount}
+use Rattle.process_zone.specs.Plan.{Plan, planZone}
+use Rattle.flood_fill.specs.Held.{sizes, startsAt, nodesAt}
+use Rattle.finalize_eq.specs.Turns.{Zone, zoneAt}
+use Rattle.equalize.specs.Equalize.{Filled, planAll}
+use Rattle.reverse_links.specs.Reverse.{Reverses}
+use Rattle.reverse_links.specs.Words.{Outside, ButParts}
+use Rattle.plan_state.specs.Held.{Area, area, wsizes, rsizes, viewIn, View, view, Fit, Frame, top, nodesOf}
+use Rattle.plan_state.proofs.Stores.{frame-none, frame-then, owner-at}
+use Rattle.plan_state.proofs.Nodes.{rest-is}
+use Rattle.plan_zone.specs.Zone.{Plans}
+use Rattle.plan_zone.proofs.Whole.{tablesOf, run-like, plan-board}
+use Rattle.plan_all.specs.Zones.{molesAt, zoneOf, filledOf, Ready, Zoned, blank, Blanks, planZones, PlansAll}
+use Rattle.plan_all.proofs.Zones.{Alike, zone-alike, zoned-alike, alike-then, frame-alike, region-same, moles-at, nodes-handed}
+
+-- ---- a blank plan
+
+-- a part that was lent and came back with its first n words cleared, all of them
+pub rows-cleared : (at n k : ℕ) (w ys : List ℕ) → at + n ≤ length w → k ≡ n → ys ≡ replicate n 0 ++ drop n (take k (drop at w))
+    → take at w ++ (ys ++ drop k (drop at w)) ≡ take at w ++ (replicate n 0 ++ drop n (drop at w))
+rows-cleared at n k w ys h q y =
+    let l : length (take n (drop at w)) ≡ n = length-take-le n (drop at w) (omega (arith, h, length-drop at w)) in
+    let new : ys ≡ replicate n 0 =
+    y ∙ ap (λ (m : ℕ). replicate n 0 ++ drop n (take m (drop at w))) q
+    ∙ ap (λ (r : List ℕ). replicate n 0 ++ r) (drop-of-length-le (take n (drop at w)) {i = n} (omega (arith, l)))
+    ∙ append-nil (replicate n 0) in
+    rw (q, new)
+
+-- the floats past the plan's
+pub reals-rest : (n e : ℕ) (a : Area) → view n e a .restR ≡ drop (e + n + n) (a .reals)
+unfolding view
+reals-rest n e a =
+    let k : e + (n + (n + 0)) ≡ e + n + n = omega arith in
+    cut-rest (rsizes n e) (a .reals) ∙ ap (λ (m : ℕ). drop m (a .reals)) k
+
+pub blanked : {n e : ℕ} {w : List ℕ} {f : List Float} (w₁ w₂ : List ℕ) (f′ : List Float) → Fit n e (area w f)
+    → w₁ ≡ take (e + e) w ++ (replicate n 0 ++ drop n (drop (e + e) w))
+    → w₂ ≡ take (e + e + n + n) w₁ ++ (replicate n 0 ++ drop n (drop (e + e + n + n) w₁))
+    → f′ ≡ replicate (e + n + n) 0f ++ drop (e + n + n) f
+    → length w₂ ≡ length w → length w₁ ≡ length w → length f′ ≡ length f → Blanks n e (area w f) (area w₂ f′)
+unfolding view
+blanked {n} {e} {w} {f} w₁ w₂ f′ h q₁ q₂ q l₂ l₁ l =
+    let c₁ : cut (wsizes n e) w₁ ≡ set (cut (wsizes n e) w) 2 (replicate n 0) =
+    ap (cut (wsizes n e)) q₁ ∙ cut-part (wsizes n e) w 2 (replicate n 0) (e + e) n (omega arith) (omega (arith, h .words)) (omega arith) refl (length-replicate {A = ℕ} n 0) in
+    let c₂ : cut (wsizes n e) w₂ ≡ set (set (cut (wsizes n e) w) 2 (replicate n 0)) 4 (replicate n 0) =
+    ap (cut (wsizes n e)) q₂
+    ∙ cut-part (wsizes n e) w₁ 4 (replicate n 0) (e + e + n + n) n (omega arith) (omega (arith, h .words, l₁)) (omega arith) refl (length-replicate {A = ℕ} n 0)
+    ∙ ap (λ (x : List (List ℕ)). set x 4 (replicate n 0)) c₁ in
+    let k : e + n + n ≡ base (rsizes n e) (length (rsizes n e)) = omega arith in
+    let t : drop (e + n + n) f ≡ drop n (drop n (drop e f)) = sym (reals-rest n e (area w f)) in
+    let c : cut (rsizes n e) f′ ≡ replicate e 0f ∷ replicate n 0f ∷ replicate n 0f ∷ drop n (drop n (drop e f)) ∷ [] =
+    ap (cut (rsizes n e)) (q ∙ ap₂ (λ (m : ℕ) (x : List Float). replicate m 0f ++ x) k t) ∙ cut-clear 0f (rsizes n e) (drop n (drop n (drop e f))) in
+    let v : view n e (area w₂ f′) ≡ viewIn (set (set (cut (wsizes n e) w) 2 (replicate n 0)) 4 (replicate n 0)) (replicate e 0f ∷ replicate n 0f ∷ replicate n 0f ∷ drop n (drop n (drop e f)) ∷ []) =
+    ap₂ viewIn c₂ c in
+    record {
+      fit = record { words = omega (arith, h .words, l₂); reals = omega (arith, h .reals, l); turfs = h .turfs; links = h .links };
+      frame = record {
+        owner = ap (λ (x : View). x .owner) v;
+        reverse = ap (λ (x : View). x .reverse) v;
+        restW = ap (λ (x : View). x .restW) v;
+        restR = ap (λ (x : View). x .restR) v;
+      };
+      plan = ap (λ (x : View). x .plan) v;
+    }
+
+-- ---- one zone
+
+pub zone-planned : {n e z s q : ℕ} {w : List ℕ} {f : List Float} {a′ : Area} (b : Board) (gas : List Float) → s ≡ startsAt n e → z < n → Ready n e z w f → q ≡ nodesAt n e
+    → Plans n e (λ o p. planZone b o z gas (nodesOf n e (view n e (area w f)) (q + getD w (s + z) 0) (getD w (s + z + 1) 0 - getD w (s + z) 0)) (getD f (molesAt n e + z) nan) p) (area w f) a′
+    → Plans n e (λ o p. planZone b o z gas (zoneOf n e w f z .nodes) (zoneOf n e w f z .moles) p) (area w f) a′
+zone-planned {n} {e} {z} {w = w} {f} b gas es h t eq d = record {
+  fit = d .fit;
+  frame = d .frame;
+  plan = d .plan
+      ∙ ap₂ (λ (xs : List ℕ) (m : Float). planZone b (view n e (area w f) .owner) z gas xs m (view n e (area w f) .plan)) (nodes-handed es h t eq) (moles-at n e z w f h);
+}
+
+-- ---- zone after zone
+
+-- the zones from z on come, from here, to all zones from the start
+pub record Going (n e zones : ℕ) (b : Board) (gas : List Float) (a a′ : Area) (z : ℕ) : Type 0 where
+  pub fit : Fit n e a′
+  pub frame : Frame n e a a′
+  pub on : planZones b gas (zoneOf n e (a .words) (a .reals)) (upFrom z (zones - z)) (view n e a .owner) (view n e a′ .plan)
+      ≡ planZones b gas (zoneOf n e (a .words) (a .reals)) (upFrom 0 zones) (view n e a .owner) (view n e a .plan)
+
+pub going-start : {n e zones : ℕ} (b : Board) (gas : List Float) {a : Area} → Fit n e a → Going n e zones b gas a a 0
+going-start {n} {e} {zones} b gas {a} h =
+    let k : zones - 0 ≡ zones = omega arith in
+    record {
+      fit = h;
+      frame = frame-none;
+      on = ap (λ (m : ℕ). planZones b gas (zoneOf n e (a .words) (a .reals)) (upFrom 0 m) (view n e a .owner) (view n e a .plan)) k;
+    }
+
+pub going-next : {n e zones z : ℕ} {b : Board} {gas : List Float} {a a′ a″ : Area} → Going n e zones b gas a a′ z → z < zones
+    → Plans n e (λ o p. planZone b o z gas (zoneOf n e (a′ .words) (a′ .reals) z .nodes) (zoneOf n e (a′ .words) (a′ .reals) z .moles) p) a′ a″
+    → Going n e zones b gas a a″ (z + 1)
+going-next {n} {e} {zones} {z} {b} {gas} {a} {a′} {a″} g l d =
+    let f : ℕ → Plan → Plan = λ y q. planZone b (view n e a .owner) y gas (zoneOf n e (a .words) (a .reals) y .nodes) (zoneOf n e (a .words) (a .reals) y .moles) q in
+    let s : view n e a″ .plan ≡ f z (view n e a′ .plan) =
+    d .plan
+    ∙ ap (λ (o : List ℕ). planZone b o z gas (zoneOf n e (a′ .words) (a′ .reals) z .nodes) (zoneOf n e (a′ .words) (a′ .reals) z .moles) (view n e a′ .plan)) (g .frame .owner)
+    ∙ ap (λ (y : ℕ → Zone). planZone b (view n e a .owner) z gas (y z .nodes) (y z .moles) (view n e a′ .plan)) (zone-alike (frame-alike (g .frame))) in
+    record {
+      fit = d .fit;
+      frame = frame-then (g .frame) (d .frame);
+      on = ap (run f (upFrom (z + 1) (zones - (z + 1)))) s ∙ sym (run-up f z zones (view n e a′ .plan) l) ∙ g .on;
+    }
+
+pub going-end : {n e zones z : ℕ} {b : Board} {gas : List Float} {a a′ : Area} → Going n e zones b gas a a′ z → zones ≤ z
+    → Plans n e (planZones b gas (zoneOf n e (a .words) (a .reals)) (upFrom 0 zones)) a a′
+going-end {n} {e} {zones} {z} {b} {gas} {a} {a′} g l = record {
+  fit = g .fit;
+  frame = g .frame;
+  plan = sym (run-up-end (λ y q. planZone b (view n e a .owner) y gas (zoneOf n e (a .words) (a .reals) y .nodes) (zoneOf n e (a .words) (a .reals) y .moles) q) z zones (view n e a′ .plan) l) ∙ g .on;
+}
+
+-- ---- what the definition says of the zones as they stand in the areas
+
+-- a zone of the list is the zone itself
+pub zone-is : (zone : ℕ → Zone) (zones z : ℕ) → z < zones → zoneAt (map zone (upFrom 0 zones)) z ≡ zone z
+zone-is zone zones z l = go (upFrom 0 zones) z (omega (arith, l, upFrom-length 0 zones)) ∙ ap zone (upFrom-at 0 zones z l ∙ omega arith)
+  where
+    go : (xs : List ℕ) (i : ℕ) → i < length xs → zoneAt (map zone xs) i ≡ zone (getD xs i 0)
+    go [] i k = absurd (omega (arith, k))
+    go (x ∷ xs) zero k = refl
+    go (x ∷ xs) (suc i) k = go xs i (omega (arith, k))
+
+pub all-planned : (n e zones : ℕ) (b : Board) (gas : List Float) (w : List ℕ) (f : List Float) → turfCount b ≡ n → linkCount b ≡ e
+    → planZones b gas (zoneOf n e w f) (upFrom 0 zones) (region (sizes n e) 0 w) (blank n e) ≡ planAll b gas (filledOf n e zones w f)
+unfolding planAll
+all-planned n e zones b gas w f en ee =
+    let o : List ℕ = region (sizes n e) 0 w in
+    let zs : List Zone = map (zoneOf n e w f) (upFrom 0 zones) in
+    let g : ℕ → Plan → Plan = λ z p. planZone b o z gas (zoneOf n e w f z .nodes) (zoneOf n e w f z .moles) p in
+    let h : ℕ → Plan → Plan = λ z p. planZone b o z gas (zoneAt zs z .nodes) (zoneAt zs z .moles) p in
+    let k : length zs ≡ zones = length-map (upFrom 0 zones) (zoneOf n e w f) ∙ upFrom-length 0 zones in
+    run-both (λ z. z < 0 + zones) (λ p q. p ≡ q) g h
+    (λ z p q l s. ap (g z) s ∙ ap (λ (v : Zone). planZone b o z gas (v .nodes) (v .moles) q) (sym (zone-is (zoneOf n e w f) zones z (omega (arith, l)))))
+    (upFrom 0 zones) (blank n e) (blank n e) (upFrom-below 0 zones) refl
+    ∙ ap (λ (m : ℕ). run h (upFrom 0 m) (blank n e)) (sym k)
+    ∙ ap₂ (λ (m j : ℕ). run h (upFrom 0 (length zs)) (blank m j)) (sym en) (sym ee)
+
+-- the plan of all zones looks at the tables alone
+pub plan-all-board : (b : Board) (gas : List Float) (s : Filled) → planAll (tablesOf b) gas s ≡ planAll b gas s
+unfolding planAll
+plan-all-board b gas s =
+    ap (λ (m : ℕ). run (λ z p. planZone (tablesOf b) (s .owner) z gas (zoneAt (s .zones) z .nodes) (zoneAt (s .zones) z .moles) p) (upFrom 0 (length (s .zones))) (blank m (linkCount b)))
+    (length-replicate {A = ℕ} (turfCount b) 0)
+    ∙ run-like (λ z p. planZone (tablesOf b) (s .owner) z gas (zoneAt (s .zones) z .nodes) (zoneAt (s .zones) z .moles) p)
+    (λ z p. planZone b (s .owner) z gas (zoneAt (s .zones) z .nodes) (zoneAt (s .zones) z .moles) p)
+    (λ z p. plan-board b (s .owner) z gas (zoneAt (s .zones) z .nodes) (zoneAt (s .zones) z .moles) p) (upFrom 0 (length (s .zones))) (blank (turfCount b) (linkCount b))
+
+-- ---- all of it
+
+module _ {n e zones work : ℕ} {w w₁ w₂ : List ℕ} {f f₂ : List Float} (z : Zoned n e zones w f) (past : nodesAt n e + n + e ≤ work) (b₁ : ButParts e (e + e) work (work + e + n + n) w w₁)
+    (k : Blanks n e (area w₁ f) (area w₂ f₂)) where
+  -- the reverses are none of the zones' words
+  found-alike : Alike n e w w₁ f f
+  found-alike = record {
+    starts = region-same n e 11 b₁ (omega arith) (omega (arith, z .room .words)) (λ i l m. (inr (omega (arith, l)), inl (omega (arith, m, past))));
+    nodes = region-same n e 12 b₁ (omega arith) (omega (arith, z .room .words)) (λ i l m. (inr (omega (arith, l)), inl (omega (arith, m, past))));
+    moles = refl;
+  }
+
+  owners-stay : region (sizes n e) 0 w₁ ≡ region (sizes n e) 0 w
+  owners-stay = region-same n e 0 b₁ (omega arith) (omega (arith, z .room .words)) (λ i l m. (inl (omega (arith, m)), inl (omega (arith, m, past))))
+
+  all-alike : Alike n e w w₂ f f₂
+  all-alike = alike-then found-alike (frame-alike (k .frame))
+
+  pub cleared-zoned : length w₂ ≡ length w₁ → length f₂ ≡ length f → Zoned n e zones w₂ f₂
+  cleared-zoned l m = zoned-alike all-alike (l ∙ b₁ .len) m z
+
+  pub cleared-reverses : {b : Board} → Reverses b n (take e (drop e w₁)) → Reverses b n (view n e (area w₂ f₂) .reverse)
+  unfolding view
+  cleared-reverses {b} v = subst (Reverses b n) (sym (k .frame .reverse)) v
+
+  module _ {w₃ : List ℕ} {f₃ : List Float} (fr : Frame n e (area w₂ f₂) (area w₃ f₃)) where
+    since : Frame n e (area w₁ f) (area w₃ f₃)
+    since = frame-then (k .frame) fr
+
+    word-stays : (i : ℕ) → Outside e (top n e) i → getD w₃ i 0 ≡ getD w₁ i 0
+    word-stays i (inl l) = owner-at n e i w₃ f₃ l ∙ ap (λ (r : List ℕ). getD r i 0) (since .owner) ∙ sym (owner-at n e i w₁ f l)
+    word-stays i (inr l) =
+        let q : top n e + (i - top n e) ≡ i = omega (arith, l) in
+        let past-top : (v : List ℕ) → getD v i 0 ≡ getD (drop (top n e) v) (i - top n e) 0 =
+        λ v. ap (λ (j : ℕ). getD v j 0) (sym q) ∙ sym (getD-drop (top n e) v (i - top n e) 0) in
+        past-top w₃ ∙ ap (λ (r : List ℕ). getD r (i - top n e) 0) (sym (rest-is n e (area w₃ f₃)) ∙ since .restW ∙ rest-is n e (area w₁ f)) ∙ sym (past-top w₁)
+
+  pub planned-all : {w₃ : List ℕ} {f₃ : List Float} {b : Board} {gas : List Float} → Plans n e (planZones b gas (zoneOf n e w₂ f₂) (upFrom 0 zones)) (area w₂ f₂) (area w₃ f₃)
+      → length w₃ ≡ length w₁ → length f₃ ≡ length f → turfCount b ≡ n → linkCount b ≡ e
+      → ((c : Board) → c .starts ≡ b .starts → c .neighbours ≡ b .neighbours → Reverses c n (take e (drop e w₁)))
+      → PlansAll n e zones work b gas w w₃ f f₃
+  unfolding view
+  planned-all {w₃} {f₃} {b} {gas} d l m en ee v = record {
+    words = record {
+      len = l ∙ b₁ .len;
+      same = λ i o p. word-stays (d .frame) i o ∙ b₁ .same i (⊎-elim (λ q. inl q) (λ q. inr (omega (arith, q))) o) p;
+    };
+    reals = (m, sym (reals-rest n e (area w₃ f₃)) ∙ since (d .frame) .restR ∙ reals-rest n e (area w₁ f));
+    reverses = λ c es et. subst (Reverses c n) (sym (since (d .frame) .reverse)) (v c es et);
+    plan = d .plan
+        ∙ ap (λ (y : ℕ → Zone). planZones b gas y (upFrom 0 zones) (view n e (area w₂ f₂) .owner) (view n e (area w₂ f₂) .plan)) (zone-alike all-alike)
+        ∙ ap₂ (planZones b gas (zoneOf n e w f) (upFrom 0 zones)) (k .frame .owner ∙ owners-stay) (k .plan)
+        ∙ all-planned n e zones b gas w f en ee;
+  }

@@ -1,0 +1,144 @@
+-- A zone is read off three arrays past those that planning changes, so it stays what it was. Assumes nothing.
+use Prim.Native.Nat.{ℕ, zero, suc, _+_, _-_, _≤_, _<_}
+use native.Mathlib.Omega.{arith}
+use mathlib.Core.Path.{_≡_, refl, ap, ap₂, _∙_, sym, subst}
+use mathlib.Core.List.{List, [], _∷_}
+use lib.ListN.{length, getD, take, drop, length-drop}
+use lib.Seq.{ext-getD, getD-take, getD-drop, length-take-le, drop-drop, take-take}
+use lib.Ieee.{Float, nan}
+use Rattle.basics.specs.Regions.{region, base}
+use Rattle.basics.proofs.Regions.{cut-get, region-part}
+use Rattle.index_set.specs.Line.{Below}
+use Rattle.flood_fill.specs.Held.{sizes, startsAt, nodesAt}
+use Rattle.finalize_eq.specs.Turns.{Zone}
+use Rattle.reverse_links.specs.Words.{Outside, ButParts}
+use Rattle.plan_state.specs.Held.{Area, area, view, Fit, Frame, top, Nodes, nodesOf}
+use Rattle.plan_all.specs.Zones.{floatSizes, molesAt, zoneIn, zoneOf, startOf, Room, Ready, Zoned}
+
+-- ---- the same zones
+
+pub record Alike (n e : ℕ) (w w′ : List ℕ) (f f′ : List Float) : Type 0 where
+  pub starts : region (sizes n e) 11 w′ ≡ region (sizes n e) 11 w
+  pub nodes : region (sizes n e) 12 w′ ≡ region (sizes n e) 12 w
+  pub moles : region (floatSizes n e) 4 f′ ≡ region (floatSizes n e) 4 f
+
+module _ {n e : ℕ} {w w′ : List ℕ} {f f′ : List Float} (h : Alike n e w w′ f f′) where
+  pub zone-alike : zoneOf n e w′ f′ ≡ zoneOf n e w f
+  zone-alike = λ i. zoneIn (h .starts i) (h .nodes i) (h .moles i)
+
+  pub ready-alike : (z : ℕ) → Ready n e z w f → Ready n e z w′ f′
+  ready-alike z r =
+      let s : startOf n e w′ z ≡ startOf n e w z = ap (λ (l : List ℕ). getD l z 0) (h .starts) in
+      let t : startOf n e w′ (z + 1) ≡ startOf n e w (z + 1) = ap (λ (l : List ℕ). getD l (z + 1) 0) (h .starts) in
+      record {
+        some = omega (arith, r .some, s, t);
+        few = omega (arith, r .few, s, t);
+        within = omega (arith, r .within, t);
+        rows = subst (Below n) (sym (ap (λ (g : ℕ → Zone). g z .nodes) zone-alike)) (r .rows);
+      }
+
+  pub zoned-alike : {zones : ℕ} → length w′ ≡ length w → length f′ ≡ length f → Zoned n e zones w f → Zoned n e zones w′ f′
+  zoned-alike l m z = record {
+    room = record { sizes = z .room .sizes; words = omega (arith, z .room .words, l); reals = omega (arith, z .room .reals, m) };
+    few = z .few;
+    each = λ k i. ready-alike k (z .each k i);
+  }
+
+pub alike-then : {n e : ℕ} {w w′ w″ : List ℕ} {f f′ f″ : List Float} → Alike n e w w′ f f′ → Alike n e w′ w″ f′ f″ → Alike n e w w″ f f″
+alike-then a b = record { starts = b .starts ∙ a .starts; nodes = b .nodes ∙ a .nodes; moles = b .moles ∙ a .moles }
+
+-- planning leaves the zones
+pub frame-alike : {n e : ℕ} {a a′ : Area} → Frame n e a a′ → Alike n e (a .words) (a′ .words) (a .reals) (a′ .reals)
+unfolding view
+frame-alike {n} {e} fr = record {
+  starts = ap (λ (r : List ℕ). take (n + 1) (drop n (drop n (drop n r)))) (fr .restW);
+  nodes = ap (λ (r : List ℕ). take (n + e) (drop (n + 1) (drop n (drop n (drop n r))))) (fr .restW);
+  moles = ap (λ (r : List Float). take n (drop e r)) (fr .restR);
+}
+
+-- ---- a part that two changed parts leave
+
+pub part-same : {lo hi lo′ hi′ : ℕ} {w w′ : List ℕ} → ButParts lo hi lo′ hi′ w w′ → (at size : ℕ) → at + size ≤ length w
+    → ((i : ℕ) → at ≤ i → i < at + size → Outside lo hi i × Outside lo′ hi′ i) → take size (drop at w′) ≡ take size (drop at w)
+part-same {w = w} {w′ = w′} b at size h out =
+    let l : length (take size (drop at w)) ≡ size = length-take-le size (drop at w) (omega (arith, h, length-drop at w)) in
+    let l′ : length (take size (drop at w′)) ≡ size = length-take-le size (drop at w′) (omega (arith, h, length-drop at w′, b .len)) in
+    ext-getD 0 (take size (drop at w′)) (take size (drop at w)) (l′ ∙ sym l)
+    (λ i k.
+    let k′ : i < size = omega (arith, k, l′) in
+    let o = out (at + i) (omega arith) (omega (arith, k′)) in
+    getD-take size (drop at w′) i 0 k′ ∙ getD-drop at w′ i 0 ∙ b .same (at + i) (o .0) (o .1)
+    ∙ sym (getD-take size (drop at w) i 0 k′ ∙ getD-drop at w i 0))
+
+-- an array of the whole call, likewise
+pub region-same : {lo hi lo′ hi′ : ℕ} {w w′ : List ℕ} (n e k : ℕ) → ButParts lo hi lo′ hi′ w w′ → k < length (sizes n e)
+    → base (sizes n e) k + getD (sizes n e) k 0 ≤ length w
+    → ((i : ℕ) → base (sizes n e) k ≤ i → i < base (sizes n e) k + getD (sizes n e) k 0 → Outside lo hi i × Outside lo′ hi′ i)
+    → region (sizes n e) k w′ ≡ region (sizes n e) k w
+region-same {w = w} {w′ = w′} n e k b h l out =
+    region-part (sizes n e) w′ k h ∙ part-same b (base (sizes n e) k) (getD (sizes n e) k 0) l out ∙ sym (region-part (sizes n e) w k h)
+
+-- ---- what the code reads of zone z
+
+-- a part of a front
+front-part : {A : Type 0} (s m c : ℕ) (xs : List A) → s + c ≤ m → take c (drop s xs) ≡ take c (drop s (take m xs))
+front-part zero m c xs l = sym (take-take c m xs (omega (arith, l)))
+front-part (suc s) zero c xs l = absurd (omega (arith, l))
+front-part (suc s) (suc m) c [] l = refl
+front-part (suc s) (suc m) c (x ∷ xs) l = front-part s m c xs (omega (arith, l))
+
+module _ (n e z : ℕ) (w : List ℕ) (f : List Float) (h : z < n) where
+  pub start-at : getD w (startsAt n e + z) 0 ≡ startOf n e w z
+  start-at = cut-get (sizes n e) w 0 11 z (startsAt n e + z) (omega arith) (omega arith) (omega arith)
+
+  pub next-at : getD w (startsAt n e + z + 1) 0 ≡ startOf n e w (z + 1)
+  next-at = cut-get (sizes n e) w 0 11 (z + 1) (startsAt n e + z + 1) (omega arith) (omega arith) (omega arith)
+
+  pub moles-at : getD f (molesAt n e + z) nan ≡ zoneOf n e w f z .moles
+  moles-at = cut-get (floatSizes n e) f nan 4 z (molesAt n e + z) (omega arith) h (omega arith)
+
+  -- the nodes as planning takes them
+  pub nodes-are : startOf n e w z ≤ startOf n e w (z + 1) → startOf n e w (z + 1) ≤ n + e
+      → nodesOf n e (view n e (area w f)) (nodesAt n e + startOf n e w z) (startOf n e w (z + 1) - startOf n e w z) ≡ zoneOf n e w f z .nodes
+  unfolding view
+  nodes-are up low =
+      nodes-in (view n e (area w f) .restW) (startOf n e w z) (startOf n e w (z + 1) - startOf n e w z) (omega (arith, up, low))
+    where
+      nodes-in : (r : List ℕ) (s c : ℕ) → s + c ≤ n + e
+          → take c (drop (nodesAt n e + s - top n e) r) ≡ take c (drop s (take (n + e) (drop (n + 1) (drop n (drop n (drop n r))))))
+      nodes-in r s c l =
+          let k : nodesAt n e + s - top n e ≡ n + n + n + (n + 1) + s = omega arith in
+          ap (λ (m : ℕ). take c (drop m r)) k
+          ∙ ap (take c) (sym (drop-drop s (n + n + n + (n + 1)) r))
+          ∙ ap (λ (x : List ℕ). take c (drop s x)) (sym (drop-drop (n + 1) (n + n + n) r))
+          ∙ ap (λ (x : List ℕ). take c (drop s (drop (n + 1) x))) (sym (drop-drop n (n + n) r))
+          ∙ ap (λ (x : List ℕ). take c (drop s (drop (n + 1) (drop n x)))) (sym (drop-drop n n r))
+          ∙ front-part s (n + e) c (drop (n + 1) (drop n (drop n (drop n r)))) l
+
+pub room-fit : {n e : ℕ} {w : List ℕ} {f : List Float} → Room n e w f → Fit n e (area w f)
+room-fit r = record { words = omega (arith, r .words); reals = omega (arith, r .reals); turfs = r .sizes .turfs; links = r .sizes .links }
+
+-- zone z as the code hands it on, with `s` where the starts are and `q` where the nodes are
+module _ {n e z s : ℕ} {w : List ℕ} {f : List Float} (es : s ≡ startsAt n e) (h : z < n) (t : Ready n e z w f) where
+  from-is : getD w (s + z) 0 ≡ startOf n e w z
+  from-is = ap (λ (m : ℕ). getD w (m + z) 0) es ∙ start-at n e z w f h
+
+  to-is : getD w (s + z + 1) 0 ≡ startOf n e w (z + 1)
+  to-is = ap (λ (m : ℕ). getD w (m + z + 1) 0) es ∙ next-at n e z w f h
+
+  pub from-to : (getD w (s + z) 0 < getD w (s + z + 1) 0) × ((getD w (s + z + 1) 0 ≤ n + e) × (getD w (s + z + 1) 0 ≤ getD w (s + z) 0 + n))
+  from-to = (omega (arith, t .some, from-is, to-is), (omega (arith, t .within, to-is), omega (arith, t .few, from-is, to-is)))
+
+  module _ {q : ℕ} (eq : q ≡ nodesAt n e) where
+    pub nodes-handed : nodesOf n e (view n e (area w f)) (q + getD w (s + z) 0) (getD w (s + z + 1) 0 - getD w (s + z) 0) ≡ zoneOf n e w f z .nodes
+    nodes-handed =
+        ap (λ (m : ℕ). nodesOf n e (view n e (area w f)) (m + getD w (s + z) 0) (getD w (s + z + 1) 0 - getD w (s + z) 0)) eq
+        ∙ ap₂ (λ (x y : ℕ). nodesOf n e (view n e (area w f)) (nodesAt n e + x) (y - x)) from-is to-is
+        ∙ nodes-are n e z w f h (omega (arith, t .some)) (t .within)
+
+    pub handed : Room n e w f → Nodes n e (q + getD w (s + z) 0) (getD w (s + z + 1) 0 - getD w (s + z) 0) (area w f)
+    handed r = record {
+      past = omega (arith, eq);
+      room = omega (arith, eq, from-to .0, from-to .1 .0, r .words);
+      rows = subst (Below n) (sym nodes-handed) (t .rows);
+    }

@@ -1,0 +1,94 @@
+-- The zones as filling leaves them in the work areas, and what planning them all promises.
+use Prim.Native.Nat.{ℕ, _+_, _-_, _≤_, _<_}
+use mathlib.Core.Path.{_≡_}
+use mathlib.Core.List.{List, [], _∷_, map}
+use mathlib.Core.Bool.{false}
+use lib.ListN.{length, getD, take, drop, replicate}
+use lib.Ieee.{Float, nan}
+use Rattle.basics.specs.Floats.{0f}
+use Rattle.basics.specs.Loops.{run, upFrom}
+use Rattle.basics.specs.Regions.{region}
+use Rattle.turfs.specs.Board.{Board}
+use Rattle.index_set.specs.Line.{Below}
+use Rattle.flood_fill.specs.Held.{sizes, nodesAt, Sizes}
+use Rattle.process_zone.specs.Plan.{Plan, planZone}
+use Rattle.finalize_eq.specs.Turns.{Zone}
+use Rattle.equalize.specs.Equalize.{Filled, planAll}
+use Rattle.reverse_links.specs.Reverse.{Reverses}
+use Rattle.reverse_links.specs.Words.{ButParts}
+use Rattle.plan_state.specs.Held.{Area, area, view, Fit, Frame, top}
+
+-- The floats of the whole call. By link: weight. By row: delta, amount. By link: lifted. By zone: its total as filled.
+abbrev pub floatSizes : ℕ → ℕ → List ℕ
+floatSizes n e = e ∷ n ∷ n ∷ e ∷ n ∷ []
+
+-- where the totals start
+abbrev pub molesAt : ℕ → ℕ → ℕ
+molesAt n e = e + n + n + e
+
+-- ---- the zones
+
+-- zone z: `starts` says where its nodes and those of the next one start
+abbrev pub zoneIn : List ℕ → List ℕ → List Float → ℕ → Zone
+zoneIn starts nodes moles z = record { nodes = take (getD starts (z + 1) 0 - getD starts z 0) (drop (getD starts z 0) nodes); moles = getD moles z nan }
+
+abbrev pub zoneOf : ℕ → ℕ → List ℕ → List Float → ℕ → Zone
+zoneOf n e w f = zoneIn (region (sizes n e) 11 w) (region (sizes n e) 12 w) (region (floatSizes n e) 4 f)
+
+-- where the nodes of zone z start
+abbrev pub startOf : ℕ → ℕ → List ℕ → ℕ → ℕ
+startOf n e w z = getD (region (sizes n e) 11 w) z 0
+
+-- as many zones, and the owners of their links
+abbrev pub filledOf : ℕ → ℕ → ℕ → List ℕ → List Float → Filled
+filledOf n e zones w f = record {
+  found = [];
+  owner = region (sizes n e) 0 w;
+  zones = map (zoneOf n e w f) (upFrom 0 zones);
+  tests = 0;
+  events = [];
+  cancelled = false;
+}
+
+-- the areas are long enough, and the sizes within their limits
+pub record Room (n e : ℕ) (w : List ℕ) (f : List Float) : Type 0 where
+  pub sizes : Sizes n e
+  pub words : nodesAt n e + n + e ≤ length w
+  pub reals : molesAt n e + n ≤ length f
+
+-- zone z has nodes, at most n, which are rows
+pub record Ready (n e z : ℕ) (w : List ℕ) (f : List Float) : Type 0 where
+  pub some : startOf n e w z < startOf n e w (z + 1)
+  pub few : startOf n e w (z + 1) ≤ startOf n e w z + n
+  pub within : startOf n e w (z + 1) ≤ n + e
+  pub rows : Below n (zoneOf n e w f z .nodes)
+
+-- what filling leaves
+pub record Zoned (n e zones : ℕ) (w : List ℕ) (f : List Float) : Type 0 where
+  pub room : Room n e w f
+  pub few : zones ≤ n
+  pub each : (z : ℕ) → z < zones → Ready n e z w f
+
+-- ---- planning
+
+-- nothing planned yet
+abbrev pub blank : ℕ → ℕ → Plan
+blank n e = record { weight = replicate e 0f; delta = replicate n 0f; amount = replicate n 0f; direction = replicate n 0; fast = replicate n 0 }
+
+-- the plan is blank, and what planning leaves is as it was
+pub record Blanks (n e : ℕ) (a a′ : Area) : Type 0 where
+  pub fit : Fit n e a′
+  pub frame : Frame n e a a′
+  pub plan : view n e a′ .plan ≡ blank n e
+
+-- the zones zs one after the other
+abbrev pub planZones : Board → List Float → (ℕ → Zone) → List ℕ → List ℕ → Plan → Plan
+planZones b gas zone zs o p = run (λ z q. planZone b o z gas (zone z .nodes) (zone z .moles) q) zs p
+
+-- All zones are planned, as `planAll` says. Every word but the reverses, those that planning works with and those that the search for the reverses works with
+-- is as it was, and every float past the plan's.
+pub record PlansAll (n e zones work : ℕ) (b : Board) (gas : List Float) (w w′ : List ℕ) (f f′ : List Float) : Type 0 where
+  pub words : ButParts e (top n e) work (work + e + n + n) w w′
+  pub reals : (length f′ ≡ length f) × (drop (e + n + n) f′ ≡ drop (e + n + n) f)
+  pub reverses : (c : Board) → c .starts ≡ b .starts → c .neighbours ≡ b .neighbours → Reverses c n (take e (drop e w′))
+  pub plan : view n e (area w′ f′) .plan ≡ planAll b gas (filledOf n e zones w f)

@@ -1,0 +1,140 @@
+// Planning of all zones, as filling left them: the reverses once, then zone after zone.
+ghost use mathlib.Core.Path.{_≡_};
+ghost use mathlib.Core.List.{_++_};
+ghost use Prim.Native.Nat.{_+_, _≤_, _<_};
+ghost use lib.ListN.{length, take, drop, replicate};
+ghost use Rattle.basics.specs.Loops.{upFrom};
+ghost use Rattle.flood_fill.specs.Held.{nodesAt};
+ghost use Rattle.process_zone.specs.Plan.{planZone};
+ghost use Rattle.reverse_links.specs.Reverse.{Linked, Reverses};
+ghost use Rattle.plan_state.specs.Held.{grid, ground, area, view, Fit};
+ghost use Rattle.plan_zone.specs.Zone.{Gassed, Plans};
+ghost use Rattle.plan_all.specs.Zones.{zoneOf, Room, Ready, Zoned, Blanks, planZones, PlansAll};
+
+// Sets the n words from `at` on to zero.
+fn clear_rows(at: usize, n: usize, words: &mut [u32])
+    requires { ⌜ at + n ≤ length (now words) ⌝ }
+    ensures { λ _. ⌜ now (words .exit) ≡ take at (now (words .entry)) ++ (replicate n 0 ++ drop n (drop at (now (words .entry)))) ⌝ }
+{
+    let to = at + n;
+    basics::clear(&mut words[at..to], n);
+}
+
+// Nothing is planned yet: no weights, no planning state.
+fn clear_plan(n: usize, e: usize, words: &mut [u32], reals: &mut [f32])
+    requires { ⌜ Fit n e (area (now words) (now reals)) ⌝ }
+    ensures { λ _. ⌜ Blanks n e (area (now (words .entry)) (now (reals .entry))) (area (now (words .exit)) (now (reals .exit))) ⌝ }
+{
+    let direction = e + e;
+    clear_rows(direction, n, words);
+    clear_rows(direction + n + n, n, words);
+    basics::clear_floats(reals, e + n + n);
+}
+
+// The zone z.
+fn plan_zone_at(
+    z: usize,
+    mixtures: &[u32],
+    gases: usize,
+    gas: &[f32],
+    starts: &[u32],
+    neighbours: &[u32],
+    n: usize,
+    e: usize,
+    words: &mut [u32],
+    reals: &mut [f32],
+)
+    requires { ⌜ Gassed n (now mixtures) gases (now gas) × (Linked n (now starts) (now neighbours) × ((length (now neighbours) ≡ e) × (Room n e (now words) (now reals) × (z < n)))) ⌝ }
+    requires { ⌜ Reverses (grid n (now starts) (now neighbours)) n (view n e (area (now words) (now reals)) .reverse) × Ready n e z (now words) (now reals) ⌝ }
+    ensures { λ _. ⌜ Plans n e (λ o p. planZone (ground n (now (starts .entry)) (now (neighbours .entry)) (now (mixtures .entry)) gases) o z (now (gas .entry)) (zoneOf n e (now (words .entry)) (now (reals .entry)) z .nodes) (zoneOf n e (now (words .entry)) (now (reals .entry)) z .moles) p) (area (now (words .entry)) (now (reals .entry))) (area (now (words .exit)) (now (reals .exit))) ⌝ }
+{
+    let at = flood_fill::starts_at(n, e) + z;
+    let from = words[at] as usize;
+    let to = words[at + 1] as usize;
+    let first = flood_fill::nodes_at(n, e) + from;
+    let moles = reals[e + n + n + e + z];
+    plan_zone::process_zone(
+        first,
+        to - from,
+        moles,
+        mixtures,
+        gases,
+        gas,
+        starts,
+        neighbours,
+        z as u32,
+        n,
+        e,
+        words,
+        reals,
+    );
+}
+
+// The zones one after the other.
+fn plan_zones(
+    zones: usize,
+    mixtures: &[u32],
+    gases: usize,
+    gas: &[f32],
+    starts: &[u32],
+    neighbours: &[u32],
+    n: usize,
+    e: usize,
+    words: &mut [u32],
+    reals: &mut [f32],
+)
+    requires { ⌜ Gassed n (now mixtures) gases (now gas) × (Linked n (now starts) (now neighbours) × ((length (now neighbours) ≡ e) × Zoned n e zones (now words) (now reals))) ⌝ }
+    requires { ⌜ Reverses (grid n (now starts) (now neighbours)) n (view n e (area (now words) (now reals)) .reverse) ⌝ }
+    ensures { λ _. ⌜ Plans n e (planZones (ground n (now (starts .entry)) (now (neighbours .entry)) (now (mixtures .entry)) gases) (now (gas .entry)) (zoneOf n e (now (words .entry)) (now (reals .entry))) (upFrom 0 zones)) (area (now (words .entry)) (now (reals .entry))) (area (now (words .exit)) (now (reals .exit))) ⌝ }
+{
+    let mut z = 0;
+    while z < zones {
+        plan_zone_at(
+            z,
+            mixtures,
+            gases,
+            gas,
+            starts,
+            neighbours,
+            n,
+            e,
+            words,
+            reals,
+        );
+        z += 1;
+    }
+}
+
+// All zones of a board of n turfs and e links. The e + n + n words from `work` on are worked with.
+pub fn plan_all(
+    zones: usize,
+    mixtures: &[u32],
+    gases: usize,
+    gas: &[f32],
+    starts: &[u32],
+    neighbours: &[u32],
+    n: usize,
+    e: usize,
+    work: usize,
+    words: &mut [u32],
+    reals: &mut [f32],
+)
+    requires { ⌜ Gassed n (now mixtures) gases (now gas) × (Linked n (now starts) (now neighbours) × (length (now neighbours) ≡ e)) ⌝ }
+    requires { ⌜ Zoned n e zones (now words) (now reals) × ((nodesAt n e + n + e ≤ work) × (work + e + n + n ≤ length (now words))) ⌝ }
+    ensures { λ _. ⌜ PlansAll n e zones work (ground n (now (starts .entry)) (now (neighbours .entry)) (now (mixtures .entry)) gases) (now (gas .entry)) (now (words .entry)) (now (words .exit)) (now (reals .entry)) (now (reals .exit)) ⌝ }
+{
+    reverse_links::find_reverses(starts, neighbours, n, e, work, words);
+    clear_plan(n, e, words, reals);
+    plan_zones(
+        zones,
+        mixtures,
+        gases,
+        gas,
+        starts,
+        neighbours,
+        n,
+        e,
+        words,
+        reals,
+    );
+}
