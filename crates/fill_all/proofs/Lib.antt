@@ -1,0 +1,6 @@
+pub mod Near
+pub mod Back
+pub mod Stores
+pub mod After
+pub mod Hot
+pub mod Loop
