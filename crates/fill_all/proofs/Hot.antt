@@ -19,7 +19,7 @@ use Rattle.turfs.specs.Board.{Board, anyBit, turfCount, linkCount, enabled, lin
 use Rattle.turfs.specs.Tables.{Parts}
 use Rattle.turfs.proofs.Accepted.{Accepted, row-below}
 use Rattle.mixture.specs.Mixture.{total}
-use Rattle.mixture.specs.Steps.{Holds}
+use Rattle.mixture.specs.Moves.{Holds}
 use Rattle.events.specs.declared.Event.{Event}
 use Rattle.flood_fill.specs.Fill.{fill}
 use Rattle.flood_fill.specs.Held.{sizes, foundAt}

@@ -18,6 +18,7 @@ use Rattle.basics.proofs.Regions.{cut-length}
 use Rattle.turfs.specs.Board.{Board, turfCount, linkCount}
 use Rattle.turfs.proofs.Accepted.{Accepted, source}
 use Rattle.events.specs.Events.{encodeAll}
+use Rattle.events.specs.Area.{Wrote}
 use Rattle.events.specs.declared.Event.{Event}
 use Rattle.events.proofs.Areas.{wrote-length}
 use Rattle.events.proofs.Sizes.{requests-size}
@@ -178,8 +179,10 @@ module _ {b : Board} {m : ℕ} (h : Accepted b m) (w w₁ : List ℕ) (f : List 
   all-filled gas hot threshold limit allowance {r} {w′} {f′} {area′} d = record {
     stored = d .stored;
     same = ap (view n₁ e₁ r w′ f′) (sym events) ∙ whole;
-    wrote = subst (λ (k : ℕ). Rattle.events.specs.Area.Wrote (encodeAll (fillAll b gas (ask hot threshold limit allowance) .events)) k (r .used) area area′) (ap (λ (x : Filling). x .used) es)
-        (subst (λ (x : List Event). Rattle.events.specs.Area.Wrote (encodeAll x) (s .used) (r .used) area area′) events (d .does .wrote));
+    wrote = record {
+      wrote = subst (λ (k : ℕ). Wrote (encodeAll (fillAll b gas (ask hot threshold limit allowance) .events)) k (r .used) area area′) (ap (λ (x : Filling). x .used) es)
+          (subst (λ (x : List Event). Wrote (encodeAll x) (s .used) (r .used) area area′) events (d .does .wrote));
+    };
   }
     where
       whole : view n₁ e₁ r w′ f′ (d .does .more) ≡ record { filled = fillAll b gas (ask hot threshold limit allowance); around = aroundIn (cut (sizes n₁ e₁) w) (cut (rsizes n₁ e₁) f) }

@@ -10,6 +10,7 @@ use Rattle.basics.specs.Loops.{run, upFrom}
 use Rattle.basics.specs.Regions.{cut, region}
 use Rattle.turfs.specs.Board.{Board, turfCount, linkCount}
 use Rattle.turfs.proofs.Accepted.{source}
+use Rattle.events.specs.Area.{Holds}
 use Rattle.events.specs.declared.Event.{Event}
 use Rattle.flood_fill.specs.Fill.{isOver}
 use Rattle.flood_fill.specs.Held.{sizes, startsAt, nodesAt, Sizes, zeros, Does}
@@ -179,4 +180,4 @@ pub record Begun (b : Board) (s : Filling) (w area : List ℕ) : Type 0 where
 pub record FillsAll (n e : ℕ) (all : Filled) (r : Filling) (w w′ : List ℕ) (f f′ : List Float) (area area′ : List ℕ) : Type 0 where
   pub stored : Stored n e r w′ f′
   pub same : view n e r w′ f′ (all .events) ≡ record { filled = all; around = aroundIn (cut (Rattle.flood_fill.specs.Held.sizes n e) w) (cut (rsizes n e) f) }
-  pub wrote : Rattle.events.specs.Area.Wrote (Rattle.events.specs.Events.encodeAll (all .events)) 0 (r .used) area area′
+  pub wrote : Holds (all .events) (r .used) area area′

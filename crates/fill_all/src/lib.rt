@@ -18,7 +18,7 @@ ghost use Rattle.turfs.specs.Board.{Board, linksOf, rowOf};
 ghost use Rattle.turfs.specs.Tables.{Parts, board};
 ghost use Rattle.turfs.proofs.Accepted.{Accepted};
 ghost use Rattle.mixture.specs.Mixture.{total};
-ghost use Rattle.mixture.specs.Steps.{Holds};
+ghost use Rattle.mixture.specs.Moves.{Holds};
 ghost use Rattle.flood_fill.specs.Fill.{isOver};
 ghost use Rattle.flood_fill.specs.Held.{nodesAt, Sizes, Fit};
 ghost use Rattle.equalize.specs.Equalize.{Ask, 10f, near, hotRow, hotId, fillAll};

@@ -1,5 +1,5 @@
 use Rattle.fill_all.proofs.Hot.{fills-id, fills-unknown, row-in}
-use Rattle.fill_zone.proofs.Boards.{true-of}
+use lib.Ieee.Bits.{is-true}
 use Rattle.fill_all.specs.Held.{ask}
 use mathlib.Core.Path.{refl, sym, _∙_}
 use borrow.Author.Needs.{needs}
@@ -12,7 +12,7 @@ use Rattle.turfs.proofs.find.Reads as find-reads
 
 -- src/lib.rt:289:25
 find-requires : tie.Need-find-requires
-find-requires c κs = true-of _ (c .before .before .before .before .before .before .before .before .before .before .before .before .pre .0 .0 .ascends)
+find-requires c κs = is-true _ (c .before .before .before .before .before .before .before .before .before .before .before .before .pre .0 .0 .ascends)
 
 -- src/lib.rt:289:18
 enum-known-row : tie.Need-enum-known-row

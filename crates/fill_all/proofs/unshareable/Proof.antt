@@ -1,5 +1,5 @@
 use Rattle.fill_all.proofs.Near.{none-linked, few-moles, all-tested, near-asks}
-use Rattle.mixture.specs.Steps.{Holds}
+use Rattle.mixture.specs.Moves.{Holds}
 use Rattle.mixture.specs.Mixture.{total}
 use Rattle.basics.specs.Floats.{abs, _-f_}
 use Rattle.basics.specs.Loops.{every}
