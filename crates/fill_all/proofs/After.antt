@@ -48,7 +48,8 @@ fills-none {n} {e} g {s} {w} {f} h l q = record {
 
 -- ---- zones that stay
 
-take-in : {A : Type 0} (l : List A) (a m k : ℕ) → a + m ≤ k → take m (drop a (take k l)) ≡ take m (drop a l)
+-- a part of the front
+pub take-in : {A : Type 0} (l : List A) (a m k : ℕ) → a + m ≤ k → take m (drop a (take k l)) ≡ take m (drop a l)
 take-in l zero zero k h = refl
 take-in [] zero (suc m) zero h = refl
 take-in (x ∷ l) zero (suc m) zero h = absurd (omega arith)

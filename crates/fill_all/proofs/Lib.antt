@@ -4,3 +4,4 @@ pub mod Stores
 pub mod After
 pub mod Hot
 pub mod Loop
+pub mod Words
