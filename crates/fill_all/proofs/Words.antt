@@ -92,6 +92,10 @@ module _ {n e : ℕ} {all : Filled} {r : Filling} {w w′ : List ℕ} {f f′ : 
   pub moles-are : (i : ℕ) → i < r .zones → zoneAt (all .zones) i .moles ≡ getD f′ (molesAt n e + i) nan
   moles-are i l = ap (λ (z : Zone). z .moles) (zone-is i l) ∙ sym (cut-get (rsizes n e) f′ nan 4 i (molesAt n e + i) (omega arith) (omega (arith, d .stored .zones)) (omega arith))
 
+  pub tests-are : r .tests ≡ all .tests
+  unfolding view
+  tests-are = ap (λ (v : View). v .filled .tests) (d .same)
+
   -- the owners of the links, whose laws are those of the definition
   pub owners-are : region (sizes n e) 0 w′ ≡ all .owner
   unfolding view
