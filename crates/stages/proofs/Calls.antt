@@ -1,9 +1,9 @@
 -- A part on its own: refused as equalize's number says, when nothing is changed; else its own promise, on tables that the refusals let pass. Assumes nothing.
 use Prim.Native.Nat.{ℕ, zero, suc, _+_, _*_, _≤_, _<_}
 use native.Mathlib.Omega.{arith}
-use native.Mathlib.Decide.{decEq}
+use native.Mathlib.Decide.{ℕ-discrete}
 use mathlib.Core.Path.{_≡_, refl, ap, _∙_, sym}
-use mathlib.Core.List.{List, []}
+use mathlib.Core.List.{List, [], _∷_}
 use mathlib.Core.Bool.{true, _&&_}
 use lib.Dec.{leb}
 use lib.Ieee.{Float}
@@ -17,14 +17,14 @@ use Rattle.events.proofs.Sizes.{size}
 use Rattle.lent.specs.Lent.{Lent, Extra, wordsRoom, floatsRoom, refusal}
 use Rattle.lent.proofs.Passed.{Passed, passed}
 use Rattle.flood_fill.specs.Held.{nodesAt}
-use Rattle.equalize.specs.Equalize.{Ask, fillAll}
+use Rattle.equalize.specs.Equalize.{Ask, fillAll, bit}
 use Rattle.equalize.specs.Result.{equalizeRoom, equalizeNumber}
 use Rattle.equalize.proofs.Zones.{test-room}
 use Rattle.equalize.proofs.Room.{requests-bytes}
 use Rattle.fill_all.specs.Held.{molesAt, start, FillsAll}
 use Rattle.fill_all.specs.declared.Filling.{Filling}
 use Rattle.fill_all.proofs.Words.{nodes-few, tests-are}
-use Rattle.stages.specs.Stages.{Fills}
+use Rattle.stages.specs.Stages.{Fills, FillAnswers}
 
 module _ (b : Board) (q : Ask) (l : Lent) where
   -- what only equalize is lent
@@ -64,7 +64,7 @@ module _ (b : Board) (q : Ask) (l : Lent) where
     pub used : s .used ≤ 65536
 
   pub few : {l′ : Lent} {number : ℕ} {s : Filling} → Fills b q l l′ number s → Few s
-  few {l′} {number} {s} f = go (decEq number 0)
+  few {l′} {number} {s} f = go (ℕ-discrete number 0)
     where
       go : Dec (number ≡ 0) → Few s
       go (no z) = let e = f .refused z .0 in rw e (record { zones = omega arith; nodes = omega arith; tests = omega arith; used = omega arith })
@@ -77,3 +77,8 @@ module _ (b : Board) (q : Ask) (l : Lent) where
             tests = omega (arith, tests-are d, test-room b a (l .gas) q, a .turfs .1);
             used = omega (arith, d .wrote .wrote .end, requests-bytes b (l .gas) a q, a .turfs .1);
           }
+
+  -- as numbers
+  pub fill-answers : {l′ : Lent} {number mark : ℕ} {s : Filling} → Fills b q l l′ number s → mark ≡ bit (s .cancelled)
+      → FillAnswers b q l l′ number (number ∷ mark ∷ s .zones ∷ s .nodes ∷ s .tests ∷ s .used ∷ [])
+  fill-answers {l′} {number} {mark} {s} f e = record { filling = s; fills = f; written = ap (λ (x : ℕ). number ∷ x ∷ s .zones ∷ s .nodes ∷ s .tests ∷ s .used ∷ []) e }
