@@ -8,7 +8,8 @@ use boards::{Call, Case, Outcome, Played, call};
 use std::collections::HashSet;
 use std::time::Instant;
 
-const HELP: &str = "stages filling EACH SEED   what filling leaves on EACH boards a family, of large ones a hundredth, against the text";
+const HELP: &str = "stages filling EACH SEED   what filling leaves on EACH boards a family, of large ones a hundredth, against the text
+stages time                how long filling takes on the boards that speed is measured on";
 
 boards::calls! {
     fn stages_fill(amounts: *const f32, amounts_len: usize, hot: *const u32, hot_len: usize, threshold: f32, limit: u32, allowance: u32);
@@ -122,12 +123,27 @@ fn filling(each: u64, seed: u64) {
     println!("filling: {compared:?}, no difference");
 }
 
+/// The least time of a few runs, and what it is for each turf and link.
+fn time() {
+    for (name, case) in boards::bench::boards() {
+        let run = |_| {
+            let begun = Instant::now();
+            fill(&case).map(|left| (begun.elapsed().as_nanos(), left.answer[2]))
+        };
+        let best = (0..5).map(run).min().expect("a run");
+        let (taken, zones) = best.expect("a promise of the boundary");
+        let size = (case.board.ids.len() + case.board.neighbours.len()) as u128;
+        println!("{name}: {zones} zones, {taken} ns, {} ns for each turf and link", taken / size);
+    }
+}
+
 fn main() {
     let words: Vec<String> = std::env::args().skip(1).collect();
     let number = |at: usize| words.get(at).and_then(|word| word.parse::<u64>().ok());
     let begun = Instant::now();
     match (words.first().map_or("", String::as_str), number(1), number(2)) {
         ("filling", Some(each), Some(seed)) => filling(each, seed),
+        ("time", None, None) => time(),
         _ => println!("{HELP}"),
     }
     eprintln!("{} s", begun.elapsed().as_secs());
