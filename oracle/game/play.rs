@@ -3,7 +3,7 @@
 use crate::turfs::processing;
 use crate::{gas::types, watch};
 use auxcallback::run_all;
-use boards::outcome::turn_order;
+use boards::outcome::{Filling, turn_order};
 use boards::refusal::refusal;
 use boards::{Board, Call, Case, Equalize, Event, Outcome, Played, Walk};
 use byondapi::{ByondValue, Seen, take_seen};
@@ -23,7 +23,9 @@ fn equalize(board: &Board, ask: &Equalize) -> Played {
     watch::begin(ask.threshold, true, !ask.turns.is_empty());
     let (processed, cancelled) = processing::equalize(ask.limit, &ask.hot.iter().copied().collect(), ask.allowance);
     let tests = coarsetime::readings() as u32;
-    let (zones, planned) = (watch::take_zones(), watch::take_planned());
+    let (zones, planned, mut filling) = (watch::take_zones(), watch::take_planned(), watch::take_filling());
+    filling.found.iter_mut().for_each(|id| *id = board.ids.binary_search(id).expect("a turf") as u32);
+    filling.found.sort_unstable();
     run_all().expect("what was sent can be called");
     let mut events: Vec<Event> = watch::take_requests().into_iter().map(|(kind, id)| Event::wanted(kind, id)).collect();
     let mut records = watch::take_records().into_iter().enumerate().flat_map(|(zone, count)| vec![zone as u32; count]);
@@ -38,7 +40,7 @@ fn equalize(board: &Board, ask: &Equalize) -> Played {
         let pressures = processing::finish_turf(nodes[zone][place], &deferred[zone]);
         events.extend(pressures.into_iter().map(|(amount, from, to)| Event::Pressure { zone: zone as u32, amount, from, to }));
     }
-    Played { amounts: types::amounts(), events, cancelled, processed: processed as u32, tests, zones, planned, vented: false }
+    Played { amounts: types::amounts(), events, cancelled, processed: processed as u32, tests, filling, zones, planned, vented: false }
 }
 
 /// How long the text's `equalize` takes, the board loaded and what it sends to the game not run: the least of so many runs.
@@ -77,7 +79,8 @@ fn walked() -> Played {
         _ => panic!("{seen:?}"),
     };
     let events = take_seen().into_iter().filter_map(&mut event).collect();
-    Played { amounts: types::amounts(), events, cancelled: false, processed: 0, tests: 0, zones: Vec::new(), planned: Vec::new(), vented }
+    let (filling, zones, planned) = (Filling::default(), Vec::new(), Vec::new());
+    Played { amounts: types::amounts(), events, cancelled: false, processed: 0, tests: 0, filling, zones, planned, vented }
 }
 
 /// `explosively_depressurize` by the text.

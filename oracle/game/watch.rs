@@ -1,6 +1,6 @@
 //! What the runs see of the text at work: requests asked of the game, zones as filled, planned and finished. Told by the shim `tracing`.
 
-use boards::outcome::{Edge, Zone};
+use boards::outcome::{Edge, Filling, Zone};
 use petgraph::{graph::NodeIndex, graphmap::DiGraphMap};
 use std::cell::{Cell, RefCell};
 use std::cmp::Ordering;
@@ -14,6 +14,7 @@ struct Watch {
     deferring: bool,
     quiet: bool,
     requests: Vec<(u16, u32)>,
+    filling: Filling,
     zones: Vec<Zone>,
     planned: Vec<Vec<Edge>>,
     records: Vec<usize>,
@@ -69,6 +70,13 @@ pub fn filled(zone: Option<(&Graph, f32)>) {
     }
 }
 
+/// What was found up to now, by this fill and those before it; whether the clock ran out.
+pub fn found(ids: impl Iterator<Item = u32>, over: bool) {
+    if !with(|w| w.quiet) {
+        with(|w| w.filling = Filling { found: ids.collect(), tests: coarsetime::readings() as u32, over });
+    }
+}
+
 /// A zone was planned, in the order in which zones were filled.
 pub fn planned(graph: &Graph) {
     if !with(|w| w.quiet) {
@@ -98,6 +106,11 @@ pub fn take_requests() -> Vec<(u16, u32)> {
 
 pub fn take_zones() -> Vec<Zone> {
     with(|w| std::mem::take(&mut w.zones))
+}
+
+/// The turfs found are ids here.
+pub fn take_filling() -> Filling {
+    with(|w| std::mem::take(&mut w.filling))
 }
 
 pub fn take_planned() -> Vec<Vec<Edge>> {

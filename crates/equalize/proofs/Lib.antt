@@ -1,3 +1,4 @@
+pub mod Extra
 pub mod Apart
 pub mod Hot
 pub mod Ends

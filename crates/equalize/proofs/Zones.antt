@@ -1,4 +1,4 @@
--- What filling comes to on an accepted board: at most N zones, each with a node, N+E nodes in all, 2N requests; no fill runs past the clock unnoticed. Each fill
+-- What filling comes to on an accepted board: at most N zones, each with a node, N+E nodes in all, 2N requests, N clock tests; no fill runs past the clock unnoticed. Each fill
 -- marks its first turf, owns only links that no zone owned, and asks only where it marks. Assumes nothing.
 use mathlib.Core.Path.{_≡_, sym, subst}
 use mathlib.Core.List.{List, [], _∷_}
@@ -20,7 +20,7 @@ use Rattle.flood_fill.specs.Fill.{Fill, fill}
 use Rattle.flood_fill.proofs.Counts.{marked, marked-length, mark-new, was-new, Counted, fill-counts}
 use Rattle.flood_fill.proofs.Joins.{Rows, fill-rows}
 use Rattle.flood_fill.proofs.Owned.{Fresh, fill-fresh}
-use Rattle.flood_fill.proofs.Rest.{Clocked, fill-clocked}
+use Rattle.flood_fill.proofs.Rest.{Clocked, fill-tests, fill-line, fill-clocked}
 use Rattle.finalize_eq.specs.Turns.{Zone, nodesAt, nodeCount}
 use Rattle.equalize.specs.Equalize.{Ask, Filled, afterFill, fillFrom, fillAll}
 use Rattle.equalize.proofs.Hot.{Starts, fill-all-keeps}
@@ -44,6 +44,7 @@ module _ (b : Board) {n : ℕ} (h : Accepted b n) (gas : List Float) (q : Ask) w
     pub kept : Kept (s .found) (s .owner) (s .zones)
     pub asked : length (s .events) ≤ 2 * marked (s .found)
     pub spoken : All (λ e. T (isRequest e)) (s .events)
+    pub popped : s .tests ≤ marked (s .found)
     pub inTime : s .cancelled ≡ false → s .tests ≤ q .allowance
     pub over : s .cancelled ≡ true → s .tests ≡ q .allowance + 1
 
@@ -54,6 +55,7 @@ module _ (b : Board) {n : ℕ} (h : Accepted b n) (gas : List Float) (q : Ask) w
     kept = pick (t .reach .ignored);
     asked = omega (arith, c .asked, m, g .asked);
     spoken = c .spoken;
+    popped = omega (arith, c .line, m, g .popped, fill-tests b gas (q .limit) (q .allowance) (length (s .zones)) r (s .found) (s .owner) (s .events) (s .tests), fill-line b gas (q .limit) (q .allowance) (length (s .zones)) r (s .found) (s .owner) (s .events) (s .tests));
     inTime = w .inTime;
     over = w .over;
   }
@@ -98,6 +100,7 @@ module _ (b : Board) {n : ℕ} (h : Accepted b n) (gas : List Float) (q : Ask) w
     kept = record { links = length-replicate (linkCount b) 0; free = λ k e. unowned (linkCount b) k; zones = omega arith; nodes = omega arith; some = tt };
     asked = omega arith;
     spoken = tt;
+    popped = omega arith;
     inTime = λ e. omega arith;
     over = λ e. absurd (subst T (sym e) tt);
   })
@@ -111,6 +114,10 @@ module _ (b : Board) {n : ℕ} (h : Accepted b n) (gas : List Float) (q : Ask) w
   -- N zones
   pub zone-room : length (fillAll b gas q .zones) ≤ turfCount b
   zone-room = omega (arith, zoned .kept .zones, zoned .marks, marked-length (fillAll b gas q .found))
+
+  -- N clock tests
+  pub test-room : fillAll b gas q .tests ≤ turfCount b
+  test-room = omega (arith, zoned .popped, zoned .marks, marked-length (fillAll b gas q .found))
 
   -- 2N requests
   pub request-room : length (fillAll b gas q .events) ≤ 2 * turfCount b

@@ -1,4 +1,12 @@
 // `equalize`: fill from the hot turfs, plan every zone, finish by turns. Its definition stands in specs/.
+use lent::ExtraTests;
+ghost use mathlib.Core.Path.{_≡_};
+ghost use mathlib.Core.Bool.{_&&_};
+ghost use lib.Dec.{leb};
+ghost use lib.ListN.{length};
+ghost use Rattle.basics.specs.Floats.{finiteSignClear};
+ghost use Rattle.turfs.specs.Refuse.{ascending};
+ghost use Rattle.lent.specs.Given.{extraOf};
 
 // What the call answers.
 pub struct EqualizeAnswer {
@@ -9,4 +17,25 @@ pub struct EqualizeAnswer {
     pub zones: u32,
     pub apart: u32,
     pub bytes: u32,
+}
+
+// Refusal 1 of so many hot ids and turns.
+fn counts_fit(hot: usize, turns: usize) -> bool
+    ensures { λ r. ⌜ r ≡ (leb hot 4096 && leb turns 65536) ⌝ }
+{
+    if 4096 < hot {
+        return false;
+    }
+    turns <= 65536
+}
+
+// What only equalize is lent, tested: the sizes of the hot ids and of the turns, the threshold, the order of the hot ids.
+pub fn extra_tests(hot: &[u32], turns: usize, threshold: f32) -> ExtraTests
+    ensures { λ r. ⌜ extraOf r ≡ record { sizes = leb (length (now (hot .entry))) 4096 && leb turns 65536; threshold = finiteSignClear threshold; hot = ascending (now (hot .entry)) } ⌝ }
+{
+    ExtraTests {
+        sizes: counts_fit(hot.len(), turns),
+        threshold: mixture::finite_sign_clear(threshold),
+        hot: turfs::refuse::ascending(hot),
+    }
 }

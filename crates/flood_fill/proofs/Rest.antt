@@ -2,19 +2,20 @@
 -- Assumes nothing.
 use mathlib.Core.Path.{_≡_, refl, sym, ap, _∙_, subst}
 use mathlib.Core.Logic.{_⊎_, inl, inr}
-use mathlib.Core.List.{List}
+use mathlib.Core.List.{List, [], _∷_}
 use mathlib.Core.Bool.{Bool, true, false, _&&_, _||_, cond}
 use Prim.Native.Nat.{ℕ, _+_, _≤_, _<_}
 use native.Mathlib.Omega.{arith}
-use lib.Dec.{T, ltb}
-use lib.ListN.{length, getD}
+use lib.Dec.{T, eqb, ltb}
+use lib.ListN.{length, getD, length-append}
 use lib.Ieee.{Float}
 use borrow.Author.Tests.{ltb-true, ltb-false, le-ltb}
-use Rattle.basics.proofs.Loops.{All, times-keeps, times-rests}
-use Rattle.turfs.specs.Board.{Board, turfCount, end, planetary}
+use Rattle.basics.specs.Loops.{run, snoc}
+use Rattle.basics.proofs.Loops.{All, All-any, run-keeps, times-keeps, times-rests}
+use Rattle.turfs.specs.Board.{Board, turfCount, end, enabled, planetary, linksOf}
 use Rattle.events.specs.declared.Event.{Event}
 use Rattle.events.proofs.Compared.{isRequest}
-use Rattle.flood_fill.specs.Fill.{Fill, isOn, isOver, expand, endFill, pop, popNext, fill}
+use Rattle.flood_fill.specs.Fill.{Reach, Fill, isOn, isOver, reachLink, expand, endFill, pop, popNext, fill}
 use Rattle.flood_fill.specs.declared.Going.{Going}
 use Rattle.flood_fill.specs.declared.Going.the-variants.{On, Broken, Over}
 use Rattle.flood_fill.proofs.Steps.{startFill}
@@ -62,6 +63,45 @@ module _ (b : Board) (gas : List Float) (limit allowance z : ℕ) where
       go true e = let p = pop-one (row s) s in rw (next-pops s e) (omega (arith, p .0, p .1, h))
       go false e = rw (still s e) h
 
+  -- ---- no turf is popped that wasn't pushed
+
+  link-line : (r k : ℕ) (s : Reach) → length (s .queue) ≤ length (reachLink b z r k s .queue)
+  unfolding reachLink
+  link-line r k s = go (eqb (getD (s .found) (end b k) 0) 0 && enabled b (end b k))
+    where
+      go : (t : Bool) → length (s .queue) ≤ length (cond t (snoc (s .queue) (end b k)) (s .queue))
+      go true = omega (arith, length-append (s .queue) (end b k ∷ []))
+      go false = omega arith
+
+  links-line : (r : ℕ) (s : Reach) → length (s .queue) ≤ length (run (reachLink b z r) (linksOf b r) s .queue)
+  links-line r s = run-keeps (λ k. Unit {0}) (λ t. length (s .queue) ≤ length (t .queue)) (reachLink b z r) (λ k t u h. omega (arith, link-line r k t, h)) (linksOf b r) s (All-any _ (λ k. tt) (linksOf b r)) (omega arith)
+
+  abbrev InLine : Fill → Type 0
+  InLine s = s .popped ≤ length (s .reach .queue)
+
+  pop-line : (r : ℕ) (s : Fill) → s .popped < length (s .reach .queue) → InLine (pop b gas limit allowance z r s)
+  unfolding pop endFill expand
+  pop-line r s h = go (ltb allowance (s .tests + 1)) ((s .planet || planetary b r) && ltb limit (length (s .reach .nodes)))
+    where
+      planet : Bool
+      planet = s .planet || planetary b r
+
+      go : (t u : Bool) → InLine (cond t (endFill Over (s .planet) s) (cond u (endFill Broken planet s) (expand b gas limit allowance z r planet s)))
+      go true u = omega arith
+      go false true = omega arith
+      go false false = omega (arith, links-line r (s .reach))
+
+  next-line : (s : Fill) → InLine s → InLine (next s)
+  next-line s h = go (going s) refl
+    where
+      second : (t u : Bool) → t && u ≡ true → u ≡ true
+      second true u e = e
+      second false u e = absurd (subst T (sym e) tt)
+
+      go : (t : Bool) → going s ≡ t → InLine (next s)
+      go true e = rw (next-pops s e) (pop-line (row s) s (ltb-true (s .popped) (length (s .reach .queue)) (second (isOn (s .state)) (ltb (s .popped) (length (s .reach .queue))) e)))
+      go false e = rw (still s e) h
+
   -- ---- the clock
 
   -- over at the first test that exceeds the allowance
@@ -105,6 +145,10 @@ module _ (b : Board) (gas : List Float) (limit allowance z : ℕ) where
     pub fill-tests : filled .tests ≡ tests + filled .popped
     unfolding fill
     fill-tests = times-keeps (λ s. s .tests ≡ tests + s .popped) next (next-tests tests) (turfCount b) (startFill r found owner events tests) (omega arith)
+
+    pub fill-line : filled .popped ≤ length (filled .reach .queue)
+    unfolding fill
+    fill-line = times-keeps InLine next next-line (turfCount b) (startFill r found owner events tests) (omega arith)
 
     pub fill-clocked : tests ≤ allowance → Clocked filled
     unfolding fill

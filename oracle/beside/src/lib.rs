@@ -1,6 +1,5 @@
 //! Runs beside the Rust: the text with the FILLED mixture, the text with the published one, and the document's model.
 
-pub mod filling;
 pub mod judged;
 pub mod lister;
 

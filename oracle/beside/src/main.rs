@@ -1,8 +1,7 @@
 //! The commands of the runs beside the Rust. With no word it says which there are.
 
-use beside::{Agreement, Numbers, Published, accepted, agree, deepest, drop_small, filling, heaviest, judged, lister, two_turfs, vectors};
+use beside::{Agreement, Numbers, Published, accepted, agree, deepest, drop_small, heaviest, judged, lister, two_turfs, vectors};
 use boards::refusal::refusal;
-use std::io::Write;
 use std::process::Command;
 use std::time::Instant;
 
@@ -12,8 +11,6 @@ beside published EACH SEED   the text with the FILLED mixture against the text w
 beside numbers EACH SEED     weights and amounts on accepted boards: the largest, and the odd ones
 beside vectors EACH SEED     cases with the text's answers, to standard output
 beside judged EACH SEED      small cases with the text's answers as rows that the checker computes, to standard output
-beside filling-boards EACH SEED   the boards that the program fill_main reads, to standard output
-beside filling EACH SEED     what the text's filling leaves on them: clock tests, requests, zones
 beside bench                 how long the text's equalize takes on the boards that speed is measured on
 beside lister EACH SEED COMMAND..   events, damaged, torn and over-long ones too, listed by a command and by the lister here
 beside paper                 document 01's boards, played by the text: amounts before and after, the answer, the events as lines
@@ -95,8 +92,6 @@ fn main() {
             Ok(inputs) => println!("lister: {inputs} inputs, no disagreement"),
             Err(first) => println!("lister: {first}"),
         },
-        ("filling-boards", Some(each), Some(seed)) => std::io::stdout().write_all(&filling::boards(each, seed)).expect("a write"),
-        ("filling", Some(each), Some(seed)) => print!("{}", filling::lines(each, seed)),
         ("stack-of", Some(kib), None) => stack_of(kib as usize),
         ("stack", None, None) => stack(),
         ("paper", None, None) => paper(),

@@ -4,11 +4,13 @@
 pub mod bench;
 pub mod events;
 pub mod families;
+pub mod guarded;
 pub mod model;
 pub mod outcome;
 pub mod paper;
 pub mod random;
 pub mod refusal;
+pub mod scratch;
 pub mod vectors;
 
 pub use events::Event;

@@ -2,7 +2,7 @@
 //! text and the port are compared, and the judge of lists of turns.
 
 use crate::events::Event;
-use crate::outcome::{Edge, Played, Rows, Zone, turn_order};
+use crate::outcome::{Edge, Filling, Played, Rows, Zone, turn_order};
 use crate::{Board, Call, Case, Equalize, Walk};
 
 /// A board in play: the tables, and the gas as it stands.
@@ -59,6 +59,7 @@ impl<'a> Play<'a> {
             cancelled: false,
             processed: 0,
             tests: 0,
+            filling: Filling::default(),
             zones: Vec::new(),
             planned: Vec::new(),
             vented: false,
@@ -268,6 +269,11 @@ fn kept(zones: &[(Weights, f32)]) -> Vec<Zone> {
     zones.iter().map(|(weights, moles)| Zone { nodes: rows(weights), edges: weights.listed(), moles: *moles }).collect()
 }
 
+/// The rows that are marked.
+fn rows(found: &[bool]) -> Vec<u32> {
+    (0..).zip(found).filter(|mark| *mark.1).map(|mark| mark.0).collect()
+}
+
 /// Modules 7 and 8.
 fn equalize(board: &Board, ask: &Equalize) -> Played {
     let mut play = Play::new(board);
@@ -280,13 +286,17 @@ fn equalize(board: &Board, ask: &Equalize) -> Played {
         match fill(&mut play, row, &mut found, ask, &mut tests) {
             Filled::Zone(weights, moles) => zones.push((weights, moles)),
             Filled::Ignored => (),
-            Filled::Over => return Played { cancelled: true, tests, zones: kept(&zones), ..play.finished() },
+            Filled::Over => {
+                let filling = Filling { found: rows(&found), tests, over: true };
+                return Played { cancelled: true, tests, filling, zones: kept(&zones), ..play.finished() };
+            }
         }
     }
     let filled = kept(&zones);
+    let filling = Filling { found: rows(&found), tests, over: false };
     tests += 1;
     if tests > ask.allowance {
-        return Played { cancelled: true, tests, zones: filled, ..play.finished() };
+        return Played { cancelled: true, tests, filling, zones: filled, ..play.finished() };
     }
     zones.iter_mut().for_each(|(weights, moles)| plan(&play, weights, *moles));
     let planned = zones.iter().map(|(weights, _)| weights.listed()).collect();
@@ -300,7 +310,7 @@ fn equalize(board: &Board, ask: &Equalize) -> Played {
             finish(&mut play, &mut zones[zone].0, zone as u32, row);
         }
     }
-    Played { cancelled, processed, tests, zones: filled, planned, ..play.finished() }
+    Played { cancelled, processed, tests, filling, zones: filled, planned, ..play.finished() }
 }
 
 /// The walk that depressurize and the planet walk begin with; `ends` says of a turf whether the walk ends there, or after it.

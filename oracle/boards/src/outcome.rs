@@ -26,6 +26,14 @@ pub struct Zone {
     pub moles: f32,
 }
 
+/// What filling alone came to: the rows found, ascending; its clock tests; whether the clock ran out in it.
+#[derive(Clone, Debug, Default, PartialEq)]
+pub struct Filling {
+    pub found: Vec<u32>,
+    pub tests: u32,
+    pub over: bool,
+}
+
 /// What the text did with a board.
 #[derive(Clone, Debug, PartialEq)]
 pub struct Played {
@@ -34,6 +42,7 @@ pub struct Played {
     pub cancelled: bool,
     pub processed: u32,
     pub tests: u32,
+    pub filling: Filling,
     /// the zones kept, as filled
     pub zones: Vec<Zone>,
     /// by zone, its edges as planned
@@ -52,7 +61,8 @@ pub struct Outcome {
     pub floats: Vec<f32>,
 }
 
-fn bits(floats: &[f32]) -> Vec<u32> {
+/// Floats as bits.
+pub fn bits(floats: &[f32]) -> Vec<u32> {
     floats.iter().map(|x| x.to_bits()).collect()
 }
 

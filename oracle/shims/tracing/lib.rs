@@ -9,8 +9,10 @@ fn looks(name: &str) -> (&'static str, &'static str, &'static str) {
         "explosively_depressurize" => ("if crate::watch::requested(1, initial_index) { return Ok(()); }", "", ""),
         "planet_equalize" => ("if crate::watch::requested(2, initial_index) { return Ok(()); }", "", ""),
         "flood_fill_zones" => (
-            "",
-            "crate::watch::filled(match &answer { FloodFillResult::Complete(graph, moles) => Some((graph, *moles)), _ => None });",
+            "let lent = found_turfs; let mut own = std::mem::take(lent); let found_turfs = &mut own;",
+            "crate::watch::filled(match &answer { FloodFillResult::Complete(graph, moles) => Some((graph, *moles)), _ => None });
+            crate::watch::found(own.iter().copied(), matches!(answer, FloodFillResult::Overtime));
+            *lent = own;",
             "",
         ),
         "process_zone" => ("", "crate::watch::planned(&answer);", ""),

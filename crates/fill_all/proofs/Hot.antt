@@ -1,0 +1,120 @@
+-- A hot turf: passed over, or a zone is filled from it; and hot ids one after the other. Where filling stands the laws of the definition hold, so each fill has what it
+-- asks. Assumes nothing.
+use Prim.Native.Nat.{ℕ, zero, suc, _+_, _-_, _*_, _≤_, _<_}
+use native.Mathlib.Omega.{arith}
+use mathlib.Core.Path.{_≡_, refl, ap, ap₂, _∙_, sym, subst}
+use mathlib.Core.List.{List, [], _∷_, _++_}
+use mathlib.Core.Bool.{Bool, true, false, not, _||_, cond}
+use lib.Dec.{eqb}
+use lib.Ieee.{Float, lt}
+use lib.ListN.{length, getD, set, take}
+use borrow.Author.Tests.{eq-eqb, ne-eqb}
+use Rattle.basics.specs.Loops.{run, every}
+use Rattle.basics.specs.Floats.{finiteSignClear}
+use Rattle.basics.specs.Regions.{cut, region}
+use Rattle.basics.specs.declared.Spot.{Spot}
+use Rattle.basics.specs.declared.Spot.the-variants.{At, Nowhere}
+use Rattle.basics.proofs.Loops.{Found}
+use Rattle.turfs.specs.Board.{Board, anyBit, turfCount, linkCount, enabled, linksOf, rowOf}
+use Rattle.turfs.specs.Tables.{Parts}
+use Rattle.turfs.proofs.Accepted.{Accepted, row-below}
+use Rattle.mixture.specs.Mixture.{total}
+use Rattle.mixture.specs.Moves.{Holds}
+use Rattle.events.specs.declared.Event.{Event}
+use Rattle.flood_fill.specs.Fill.{fill}
+use Rattle.flood_fill.specs.Held.{sizes, foundAt}
+use Rattle.flood_fill.proofs.Does.{does-as}
+use Rattle.flood_fill.proofs.Stores.{found-at}
+use Rattle.fill_zone.specs.Held.{Begins}
+use Rattle.fill_zone.specs.declared.Flood.{Flood}
+use Rattle.fill_zone.proofs.Boards.{parts, gas-holds}
+use Rattle.equalize.specs.Equalize.{Ask, Filled, 10f, near, passedOver, hotRow, hotId}
+use Rattle.fill_all.specs.Held.{view, onFilled, Stored, Open, Fills, After}
+use Rattle.fill_all.specs.declared.Filling.{Filling}
+use Rattle.fill_all.proofs.After.{fills-none, kept-fills, dropped-fills}
+
+-- ---- passed over
+
+module _ (b : Board) (gas : List Float) (q : Ask) (r : ℕ) where
+  abbrev rest : Bool
+  rest = eqb (length (linksOf b r)) 0 || (lt (total b gas r) 10f || every (near b gas q r) (linksOf b r))
+
+  pub is-found : (found : List ℕ) → (getD found r 0 ≡ 0 → ⊥) → passedOver b gas q r found ≡ true
+  unfolding passedOver
+  is-found found ne = rw (ne-eqb (getD found r 0) 0 ne)
+
+  pub is-off : (found : List ℕ) → getD found r 0 ≡ 0 → anyBit (getD (b .flags) r 0) ≡ false → passedOver b gas q r found ≡ true
+  unfolding passedOver enabled
+  is-off found e o = rw (eq-eqb (getD found r 0) 0 e, o)
+
+  pub is-rest : (found : List ℕ) → getD found r 0 ≡ 0 → anyBit (getD (b .flags) r 0) ≡ true → (t : Bool) → t ≡ rest → passedOver b gas q r found ≡ t
+  unfolding passedOver enabled
+  is-rest found e o t i = rw (eq-eqb (getD found r 0) 0 e, o) (sym i)
+
+  pub row-passed : (s : Filled) → passedOver b gas q r (s .found) ≡ true → s ≡ hotRow b gas q (At r) s
+  unfolding hotRow
+  row-passed s t = rw t
+
+module _ (b : Board) (gas : List Float) (q : Ask) (i : ℕ) where
+  pub id-unknown : (s : Filled) → rowOf b i ≡ Nowhere → s ≡ hotId b gas q i s
+  unfolding hotId hotRow
+  id-unknown s e = rw e (go (s .cancelled))
+    where
+      go : (t : Bool) → s ≡ cond t s s
+      go true = refl
+      go false = refl
+
+  pub id-known : (s : Filled) → s .cancelled ≡ false → (r : ℕ) → rowOf b i ≡ At r → hotRow b gas q (At r) s ≡ hotId b gas q i s
+  unfolding hotId
+  id-known s c r e = rw (c, e)
+
+-- ---- what the tests of a turf are asked
+
+pub share-asks : {b : Board} {m : ℕ} (h : Accepted b m) (gas : List Float) → m ≡ length gas → (threshold : Float) → finiteSignClear threshold ≡ true → (row : ℕ) → row < turfCount b
+    → ((finiteSignClear threshold ≡ true) × ((row < length (b .mixtures)) × Parts (length (b .mixtures)) (b .starts) (b .neighbours)))
+    × (((k : ℕ) → getD (b .neighbours) k 0 < length (b .mixtures)) × ((r : ℕ) → r < length (b .mixtures) → Holds gas (b .gases) (getD (b .mixtures) r 0)))
+share-asks {b} h gas e threshold t row l = (
+  (t, (rw (h .mixes) l, subst (λ (k : ℕ). Parts k (b .starts) (b .neighbours)) (sym (h .mixes)) (parts h))),
+  (λ k. rw (h .mixes) (h .ends k), λ r _. gas-holds h gas e r),
+)
+
+-- ---- the turf at `row`
+
+module _ {b : Board} (q : Ask) {s : Filling} {w : List ℕ} {f : List Float} {area : List ℕ} (st : Stored (turfCount b) (linkCount b) s w f) (op : Open b (q .allowance) s w area) (row : ℕ) (hr : row < turfCount b)
+    (at : ℕ) (ea : at ≡ foundAt (turfCount b) (linkCount b)) where
+  pub mark-is : getD w (at + row) 0 ≡ getD (region (sizes (turfCount b) (linkCount b)) 8 w) row 0
+  mark-is = found-at (turfCount b) (linkCount b) w (st .words) row (at + row) (omega arith) hr
+
+  pub row-none : (gas : List Float) → passedOver b gas q row (region (sizes (turfCount b) (linkCount b)) 8 w) ≡ true
+      → Fills (turfCount b) (linkCount b) (hotRow b gas q (At row)) s s w w f f area area
+  unfolding view
+  row-none gas t = fills-none (hotRow b gas q (At row)) st (omega (arith, op .bytes)) (λ es. row-passed b gas q row (view (turfCount b) (linkCount b) s w f es .filled) t)
+
+pub after-fills : {b : Board} {m : ℕ} (h : Accepted b m) (gas : List Float) (q : Ask) (row : ℕ) {s : Filling} {w : List ℕ} {f : List Float} {area : List ℕ} (st : Stored (turfCount b) (linkCount b) s w f)
+    (op : Open b (q .allowance) s w area) (hr : row < turfCount b) (new : getD (region (sizes (turfCount b) (linkCount b)) 8 w) row 0 ≡ 0)
+    → passedOver b gas q row (region (sizes (turfCount b) (linkCount b)) 8 w) ≡ false → {t : Flood} {w₁ area₁ : List ℕ}
+    → Begins (turfCount b) (linkCount b) (s .zones) (s .nodes) (s .used) (λ found owner es. fill b gas (q .limit) (q .allowance) (s .zones) row found owner es (s .tests)) t w w₁ area area₁
+    → {r : Filling} {w′ : List ℕ} {f′ : List Float} → After (turfCount b) (linkCount b) (b .starts) s t r w₁ w′ f f′
+    → Fills (turfCount b) (linkCount b) (hotRow b gas q (At row)) s r w w′ f f′ area area₁
+after-fills {b} h gas q row {s} {w} {f} {area} st op hr new pass {t} {w₁} {area₁} B {r} {w′} {f′} a = go (t .reach .ignored) refl
+  where
+    go : (x : Bool) → t .reach .ignored ≡ x → Fills (turfCount b) (linkCount b) (hotRow b gas q (At row)) s r w w′ f f′ area area₁
+    go true i = dropped-fills h gas q row st op hr new B (λ es. pass) i (a .drops i)
+    go false i = kept-fills h gas q row st op hr new B (λ es. pass) i (a .keeps i)
+
+-- ---- the hot id i
+
+pub fills-id : (b : Board) (gas : List Float) (q : Ask) (i row : ℕ) {s s′ : Filling} {w w′ : List ℕ} {f f′ : List Float} {area area′ : List ℕ} → s .cancelled ≡ false → rowOf b i ≡ At row
+    → Fills (turfCount b) (linkCount b) (hotRow b gas q (At row)) s s′ w w′ f f′ area area′ → Fills (turfCount b) (linkCount b) (hotId b gas q i) s s′ w w′ f f′ area area′
+unfolding view
+fills-id b gas q i row {s} {w = w} {f = f} c e d = record {
+  stored = d .stored;
+  does = does-as (d .does) (λ es. ap (λ (x : Filled). onFilled (λ _. x) (view (turfCount b) (linkCount b) s w f es)) (id-known b gas q i (view (turfCount b) (linkCount b) s w f es .filled) c row e));
+}
+
+pub fills-unknown : (b : Board) (gas : List Float) (q : Ask) (i : ℕ) {s : Filling} {w : List ℕ} {f : List Float} {area : List ℕ} → Stored (turfCount b) (linkCount b) s w f → Open b (q .allowance) s w area
+    → rowOf b i ≡ Nowhere → Fills (turfCount b) (linkCount b) (hotId b gas q i) s s w w f f area area
+fills-unknown b gas q i {s} {w} {f} st op e = fills-none (hotId b gas q i) st (omega (arith, op .bytes)) (λ es. id-unknown b gas q i (view (turfCount b) (linkCount b) s w f es .filled) e)
+
+pub row-in : {b : Board} {m : ℕ} → Accepted b m → (i : ℕ) (o : Spot) → rowOf b i ≡ o → (row : ℕ) → o ≡ At row → row < turfCount b
+row-in {b} h i o e row a = subst (λ (x : Spot). Found (λ r. r < turfCount b) x) (e ∙ a) (row-below b i)

@@ -1,0 +1,7 @@
+pub mod Near
+pub mod Back
+pub mod Stores
+pub mod After
+pub mod Hot
+pub mod Loop
+pub mod Words

@@ -1,0 +1,111 @@
+-- What planning and finishing ask of the words that filling leaves: where a zone's nodes stand, that there is one, that they are different rows below N. The
+-- words are the definition's zones, whose laws say so. Assumes nothing.
+use Prim.Native.Nat.{ℕ, zero, suc, _+_, _-_, _≤_, _<_}
+use native.Mathlib.Omega.{arith}
+use native.Mathlib.Nat.{zero-add}
+use mathlib.Core.Path.{_≡_, refl, ap, _∙_, sym, subst}
+use mathlib.Core.List.{List, [], _∷_, map}
+use lib.Ieee.{Float, nan}
+use lib.ListN.{length, getD, take, drop, List·getD-map, length-drop}
+use lib.Seq.{drop-drop, length-take-le}
+use Rattle.basics.specs.Loops.{upFrom}
+use Rattle.basics.specs.Regions.{cut, region, base}
+use Rattle.basics.specs.Floats.{0f}
+use Rattle.basics.proofs.Lists.{upFrom-at, upFrom-length}
+use Rattle.basics.proofs.Regions.{cut-get, region-part}
+use Rattle.turfs.specs.Board.{Board, turfCount, linkCount}
+use Rattle.turfs.proofs.Accepted.{Accepted}
+use Rattle.turfs.proofs.Line.{Line}
+use Rattle.flood_fill.specs.Held.{sizes, startsAt, nodesAt}
+use Rattle.finalize_eq.specs.Turns.{Zone, zoneAt}
+use Rattle.equalize.specs.Equalize.{Ask, Filled, fillAll}
+use Rattle.equalize.proofs.Zones.{zone-has}
+use Rattle.fill_all.specs.Held.{rsizes, molesAt, zoneIn, View, view, startsIn, FillsAll}
+use Rattle.fill_all.specs.declared.Filling.{Filling}
+use Rattle.fill_all.proofs.After.{map-length, take-in}
+
+-- another default, within a list
+getD-any : {A : Type 0} (l : List A) (i : ℕ) (x y : A) → i < length l → getD l i x ≡ getD l i y
+getD-any [] i x y h = absurd (omega arith)
+getD-any (a ∷ l) zero x y h = refl
+getD-any (a ∷ l) (suc i) x y h = getD-any l i x y (omega arith)
+
+module _ {n e : ℕ} {all : Filled} {r : Filling} {w w′ : List ℕ} {f f′ : List Float} {area area′ : List ℕ} (d : FillsAll n e all r w w′ f f′ area area′) where
+  -- the word that says where zone i's nodes start
+  abbrev pub at : ℕ → ℕ
+  at i = getD w′ (startsAt n e + i) 0
+
+  -- the words that are zone i's nodes
+  abbrev pub rowsOf : ℕ → List ℕ
+  rowsOf i = take (at (i + 1) - at i) (drop (nodesAt n e + at i) w′)
+
+  starts-word : (i : ℕ) → i ≤ r .zones → at i ≡ getD (startsIn n e w′) i 0
+  starts-word i l = cut-get (sizes n e) w′ 0 11 i (startsAt n e + i) (omega arith) (omega (arith, d .stored .zones)) (omega arith)
+
+  -- they start one after the other
+  pub starts-rise : (i : ℕ) → i < r .zones → at i ≤ at (i + 1)
+  starts-rise i l = omega (arith, starts-word i (omega arith), starts-word (i + 1) (omega arith), d .stored .rise i l)
+
+  pub starts-below : (i : ℕ) → i ≤ r .zones → at i ≤ r .nodes
+  starts-below i l = omega (arith, starts-word i l, d .stored .below i l)
+
+  -- at most N+E in all
+  pub nodes-few : r .nodes ≤ n + e
+  nodes-few = omega (arith, d .stored .nodes, d .stored .zones)
+
+  zones-are : all .zones ≡ map (zoneIn (startsIn n e w′) (region (sizes n e) 12 w′) (region (rsizes n e) 4 f′)) (upFrom 0 (r .zones))
+  unfolding view
+  zones-are = sym (ap (λ (v : View). v .filled .zones) (d .same))
+
+  -- as many zones as the answer says
+  pub zones-count : length (all .zones) ≡ r .zones
+  zones-count = ap length zones-are ∙ map-length _ (upFrom 0 (r .zones)) ∙ upFrom-length 0 (r .zones)
+
+  zone-is : (i : ℕ) → i < r .zones → zoneAt (all .zones) i ≡ zoneIn (startsIn n e w′) (region (sizes n e) 12 w′) (region (rsizes n e) 4 f′) i
+  zone-is i l =
+      let g : ℕ → Zone = zoneIn (startsIn n e w′) (region (sizes n e) 12 w′) (region (rsizes n e) 4 f′) in
+      getD-any (all .zones) i (record { nodes = []; moles = 0f }) (g 0) (omega (arith, zones-count))
+      ∙ ap (λ (zs : List Zone). getD zs i (g 0)) zones-are
+      ∙ List·getD-map g (upFrom 0 (r .zones)) i 0
+      ∙ ap g (upFrom-at 0 (r .zones) i l ∙ zero-add i)
+
+  -- the words are the zone's nodes
+  pub rows-are : (i : ℕ) → i < r .zones → zoneAt (all .zones) i .nodes ≡ rowsOf i
+  rows-are i l =
+      let a : ℕ = at i in
+      let c : ℕ = at (i + 1) in
+      let p : base (sizes n e) 12 + a ≡ nodesAt n e + a = omega arith in
+      ap (λ (z : Zone). z .nodes) (zone-is i l)
+      ∙ ap (λ (x : ℕ). take (getD (startsIn n e w′) (i + 1) 0 - x) (drop x (region (sizes n e) 12 w′))) (sym (starts-word i (omega arith)))
+      ∙ ap (λ (x : ℕ). take (x - a) (drop a (region (sizes n e) 12 w′))) (sym (starts-word (i + 1) (omega arith)))
+      ∙ ap (λ (x : List ℕ). take (c - a) (drop a x)) (region-part (sizes n e) w′ 12 (omega arith))
+      ∙ take-in (drop (base (sizes n e) 12) w′) a (c - a) (n + e) (omega (arith, starts-rise i l, starts-below (i + 1) (omega arith), nodes-few))
+      ∙ ap (take (c - a)) (drop-drop a (base (sizes n e) 12) w′)
+      ∙ ap (λ (x : ℕ). take (c - a) (drop x w′)) p
+
+  -- as many as there are between two starts
+  pub rows-length : (i : ℕ) → i < r .zones → length (rowsOf i) ≡ at (i + 1) - at i
+  rows-length i l = length-take-le (at (i + 1) - at i) (drop (nodesAt n e + at i) w′)
+      (rw (length-drop (nodesAt n e + at i) w′) (omega (arith, starts-rise i l, starts-below (i + 1) (omega arith), nodes-few, d .stored .words)))
+
+  -- the float is the zone's total
+  pub moles-are : (i : ℕ) → i < r .zones → zoneAt (all .zones) i .moles ≡ getD f′ (molesAt n e + i) nan
+  moles-are i l = ap (λ (z : Zone). z .moles) (zone-is i l) ∙ sym (cut-get (rsizes n e) f′ nan 4 i (molesAt n e + i) (omega arith) (omega (arith, d .stored .zones)) (omega arith))
+
+  pub tests-are : r .tests ≡ all .tests
+  unfolding view
+  tests-are = ap (λ (v : View). v .filled .tests) (d .same)
+
+  -- the owners of the links, whose laws are those of the definition
+  pub owners-are : region (sizes n e) 0 w′ ≡ all .owner
+  unfolding view
+  owners-are = ap (λ (v : View). v .filled .owner) (d .same)
+
+-- a zone that filling kept has a node, and its nodes are different rows below N
+module _ {b : Board} {m : ℕ} (h : Accepted b m) (gas : List Float) (q : Ask) {r : Filling} {w w′ : List ℕ} {f f′ : List Float} {area area′ : List ℕ}
+    (d : FillsAll (turfCount b) (linkCount b) (fillAll b gas q) r w w′ f f′ area area′) where
+  pub rows-line : (i : ℕ) → i < r .zones → Line b (rowsOf d i)
+  rows-line i l = subst (Line b) (rows-are d i l) (zone-has b h gas q i (omega (arith, zones-count d)) .1)
+
+  pub rows-some : (i : ℕ) → i < r .zones → at d i < at d (i + 1)
+  rows-some i l = omega (arith, zone-has b h gas q i (omega (arith, zones-count d)) .0, ap length (rows-are d i l), rows-length d i l)
