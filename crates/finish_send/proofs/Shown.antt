@@ -1,6 +1,6 @@
 -- What the areas show is what the code reads, and a reverse weight set to 0 changes the weights alone: each array is a part of its own. Assumes nothing.
 use mathlib.Core.Path.{_≡_, refl, ap, ap₂, _∙_, sym, subst}
-use mathlib.Core.List.{List, [], _∷_}
+use mathlib.Core.List.{List, [], _∷_, _++_}
 use mathlib.Core.Bool.{Bool, true, false, _&&_, cond}
 use Prim.Native.Nat.{ℕ, _+_, _-_, _*_, _≤_, _<_}
 use native.Mathlib.Omega.{arith}
@@ -12,6 +12,7 @@ use lib.Ieee.{Float, nan}
 use borrow.Author.Tests.{eq-eqb, ne-eqb}
 use Rattle.basics.specs.Regions.{cut, region, base}
 use Rattle.basics.proofs.Regions.{cut-set, cut-get, cut-length}
+use Rattle.basics.specs.Loops.{snoc}
 use Rattle.basics.specs.Floats.{0f}
 use Rattle.basics.specs.declared.Spot.{Spot}
 use Rattle.basics.specs.declared.Spot.the-variants.{At, Nowhere}
@@ -20,10 +21,11 @@ use Rattle.turfs.specs.Board.{Board, turfCount, linkCount, mixtureCount, mixOf,
 use Rattle.turfs.proofs.Accepted.{Accepted}
 use Rattle.mixture.specs.Mixture.{moveAir}
 use Rattle.mixture.proofs.Parts.{Fits, move-fits}
-use Rattle.events.specs.Events.{encode}
-use Rattle.events.specs.Area.{Wrote}
+use Rattle.events.specs.Events.{encode, encodeAll}
+use Rattle.events.specs.Area.{Wrote, Holds}
 use Rattle.events.specs.declared.Event.the-variants.{Pressure}
-use Rattle.events.proofs.Areas.{wrote-length, wrote-rest, holds-more}
+use Rattle.events.specs.declared.Event.{Event}
+use Rattle.events.proofs.Areas.{wrote-length, wrote-rest, adds-one, adds-adds}
 use Rattle.process_zone.specs.Edges.{alter, owned, edge}
 use Rattle.reverse_links.specs.Reverse.{InRow}
 use Rattle.plan_state.specs.Steps.{backLink}
@@ -31,7 +33,7 @@ use Rattle.plan_state.proofs.Weights.{alter-length}
 use Rattle.plan_state.proofs.Links.{edge-back, reverse-within}
 use Rattle.finalize_eq.specs.Finish.{send}
 use Rattle.finalize_eq.proofs.Slices.{Held, sendHeld}
-use Rattle.finish_send.specs.Areas.{Areas, areas, ownerIn, reverseIn, fsizes, liftedAt, weightIn, liftedIn, others, Shows, Ready, Kept}
+use Rattle.finish_send.specs.Areas.{Areas, areas, Written, ownerIn, reverseIn, fsizes, liftedAt, weightIn, liftedIn, others, Shows, Ready, Kept}
 use Rattle.finish_send.specs.Sending.{marks, shared, Sends, SendFits}
 use Rattle.finish_send.proofs.Edge.{back-below, pressure-size}
 
@@ -91,6 +93,22 @@ kept-then {b} {a} {a′} {a″} k l = record {
         let q : a″ .used ≡ a′ .used + d = omega (arith, e) in
         rw q (sym (drop-drop d (a′ .used) (a′ .bytes)) ∙ ap (drop d) (k .past) ∙ drop-drop d (a′ .used) (a .bytes))
 
+-- ---- the events
+
+-- what an area holds doesn't turn on what was lent
+pub holds-written : {es : List Event} {used : ℕ} {lent area : List ℕ} → Holds es used lent area → Written es used area
+holds-written {es} {used} {lent} {area} h = record {
+  wrote = record {
+    bytes = h .wrote .bytes ∙ ap (λ (l : List ℕ). encodeAll es ++ l) (sym (wrote-rest (h .wrote)));
+    end = h .wrote .end;
+    room = omega (arith, h .wrote .room, wrote-length (h .wrote));
+  };
+}
+
+-- one more was written
+pub written-more : (e : Event) {es : List Event} {used used′ : ℕ} {area area′ : List ℕ} → Written es used area → Wrote (encode e) used used′ area area′ → Written (snoc es e) used′ area′
+written-more e h w = holds-written (adds-adds h (adds-one e w))
+
 -- ---- one edge
 
 -- the same air, the same length
@@ -137,5 +155,5 @@ module _ (b : Board) (words : List ℕ) (z r k : ℕ) (a a′ : Areas) (ready : 
     weight = sent-weight ∙ ap₂ (λ (o : Spot) (w : List Float). alter o (λ y. 0f) w)
         (sym (edge-back b (turfCount b) (ready .linked) (ownerIn (linkCount b) words) z (reverseIn (linkCount b) words) (ready .reverse) r k row i)) (v .weight);
     lifted = sent-lifted ∙ v .lifted;
-    events = holds-more (Pressure z x (idOf b r) (idOf b (end b k))) (v .events) (s .event);
+    events = written-more (Pressure z x (idOf b r) (idOf b (end b k))) (v .events) (s .event);
   }

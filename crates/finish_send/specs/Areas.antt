@@ -10,6 +10,7 @@ use Rattle.turfs.specs.Board.{Board, turfCount, linkCount}
 use Rattle.turfs.specs.Tables.{board}
 use Rattle.turfs.proofs.Accepted.{Accepted}
 use Rattle.events.specs.Area.{Holds}
+use Rattle.events.specs.declared.Event.{Event}
 use Rattle.reverse_links.specs.Reverse.{Linked, Reverses}
 use Rattle.finalize_eq.proofs.Slices.{Held}
 
@@ -17,6 +18,10 @@ use Rattle.finalize_eq.proofs.Slices.{Held}
 abbrev pub ground : List ℕ → List ℕ → List ℕ → List ℕ → List ℕ → ℕ → Board
 ground ids mixtures starts neighbours immutable gases =
     board ids (replicate (length ids) 0) (replicate (length ids) 0) mixtures starts neighbours (replicate (length neighbours) 0) immutable gases
+
+-- the first `used` bytes of the area are these events
+abbrev pub Written : List Event → ℕ → List ℕ → Type 0
+Written es used area = Holds es used area area
 
 -- everything that finishing may change, before or after a function
 pub record Areas : Type 0 where
@@ -58,7 +63,7 @@ pub record Shows (b : Board) (a : Areas) (h : Held) : Type 0 where
   pub gas : a .gas ≡ h .done .gas
   pub weight : weightIn b (a .floats) ≡ h .done .weight
   pub lifted : liftedIn b (a .floats) ≡ h .lifted
-  pub events : Holds (h .done .events) (a .used) (a .bytes)
+  pub events : Written (h .done .events) (a .used) (a .bytes)
 
 -- what a function of finishing may rely on: a board that isn't refused, the reverse of each link, room for the arrays
 pub record Ready (b : Board) (ws : List ℕ) (gas fs : List Float) : Type 0 where

@@ -15,12 +15,11 @@ use Rattle.basics.proofs.Tests.{both}
 use Rattle.turfs.specs.Board.{Board, turfCount, linkCount, linksOf}
 use Rattle.turfs.proofs.Accepted.{source}
 use Rattle.mixture.specs.Mixture.{total}
-use Rattle.events.specs.Area.{Holds}
 use Rattle.events.specs.declared.Event.{Event}
 use Rattle.process_zone.specs.Edges.{owned, edgesOf}
 use Rattle.finalize_eq.proofs.Weights.{above, pending, lift-zero}
 use Rattle.finalize_eq.proofs.Slices.{Held, save, quiet, cleared, giversHeld, pairHeld, finishHeld}
-use Rattle.finish_send.specs.Areas.{Areas, areas, ownerIn, liftedAt, weightIn, liftedIn, Shows, Ready, Kept}
+use Rattle.finish_send.specs.Areas.{Areas, areas, Written, ownerIn, liftedAt, weightIn, liftedIn, Shows, Ready, Kept}
 use Rattle.finish_send.specs.Sending.{marks, Next, saveAt, zeroAt, pairAs, toSend, Going, Progress, SentTo}
 use Rattle.finish_send.proofs.Ranges.{run-parts}
 use Rattle.finish_send.proofs.Shown.{owner-at, lifted-at, kept-then}
@@ -33,7 +32,7 @@ use Rattle.finish_turf.proofs.Lifts.{edge-source, links-range, saved, i
 abbrev here : Board → Areas → List Event → Held
 here b a es = record { done = record { gas = a .gas; weight = weightIn b (a .floats); events = es }; lifted = liftedIn b (a .floats) }
 
-pub shows-here : (b : Board) (a : Areas) (es : List Event) → Holds es (a .used) (a .bytes) → Shows b a (here b a es)
+pub shows-here : (b : Board) (a : Areas) (es : List Event) → Written es (a .used) (a .bytes) → Shows b a (here b a es)
 shows-here b a es h = record { gas = refl; weight = refl; lifted = refl; events = h }
 
 module _ (b : Board) (words : List ℕ) (z r : ℕ) (a : Areas) (q : Begun b words z r a) (up from to : ℕ) (u : up ≡ liftedAt b) (ef : from ≡ getD (b .starts) r 0) (et : to ≡ getD (b .starts) (r + 1) 0) where

@@ -9,7 +9,8 @@ use denote.Ref.{now}
 use Rattle.basics.specs.declared.Spot.{Spot}
 use Rattle.basics.specs.Floats.{0f}
 use Rattle.process_zone.specs.Edges.{alter}
-use Rattle.finish_send.proofs.Edge.{back-fits, has-bits, pressure-size}
+use Rattle.finish_send.proofs.Edge.{back-fits, has-bits}
+use Rattle.events.proofs.Areas.{one-added}
 use borrow.Author.Needs.{needs}
 use Rattle.finish_send.proofs.send.Statement.{statement}
 use Rattle.finish_send.proofs.send.Tie as tie
@@ -54,7 +55,7 @@ shared-slice-read-t33 : tie.Need-shared-slice-read-t33
 shared-slice-read-t33 c = search needs
 
 append-requires : tie.Need-append-requires
-append-requires c κs = (has-bits _ (c .before .before .before .before .before .before .before .before .before .before .before .before .before .before .before .before .before .before .before .before .before .before .pre .positive), rw pressure-size (c .before .before .before .before .before .before .before .before .before .before .before .before .before .before .before .before .before .before .before .before .before .before .pre .room))
+append-requires c κs = (has-bits _ (c .before .before .before .before .before .before .before .before .before .before .before .before .before .before .before .before .before .before .before .before .before .before .pre .positive), c .before .before .before .before .before .before .before .before .before .before .before .before .before .before .before .before .before .before .before .before .before .before .pre .room)
 
 same-length : tie.Need-same-length
 same-length c = search needs
@@ -66,7 +67,7 @@ same-length-3 : tie.Need-same-length-3
 same-length-3 c = search needs
 
 returns : tie.Need-returns
-returns c = record { weights = c .before .before .before .before .before .before .before .before .before .before .before .before .clear-at .ensures ∙ ap (λ (s : Spot). alter s (λ y. 0f) (now (c .before .before .before .before .before .before .before .before .before .before .before .before .before .before .before .before .before .before .before .before .before .before .before .before .before .args .floats))) (c .before .before .before .before .before .before .before .before .before .before .before .before .before .before .back-link .ensures); air = c .before .before .before .before .before .before .before .before .move-between .ensures; event = c .before .before .append .ensures }
+returns c = record { weights = c .before .before .before .before .before .before .before .before .before .before .before .before .clear-at .ensures ∙ ap (λ (s : Spot). alter s (λ y. 0f) (now (c .before .before .before .before .before .before .before .before .before .before .before .before .before .before .before .before .before .before .before .before .before .before .before .before .before .args .floats))) (c .before .before .before .before .before .before .before .before .before .before .before .before .before .before .back-link .ensures); air = c .before .before .before .before .before .before .before .before .move-between .ensures; event = one-added _ (c .before .before .append .ensures) }
 
 pub send-spec : {M : Type 1} → statement M
 send-spec =
