@@ -10,7 +10,7 @@ use lib.Ieee.{Float}
 use Rattle.basics.specs.Loops.{run, upFrom}
 use Rattle.basics.proofs.Loops.{run-append}
 
-up-append : (a n m : ℕ) → upFrom a (n + m) ≡ upFrom a n ++ upFrom (a + n) m
+pub up-append : (a n m : ℕ) → upFrom a (n + m) ≡ upFrom a n ++ upFrom (a + n) m
 unfolding upFrom
 up-append a zero m = ap₂ (λ (j k : ℕ). upFrom j k) (sym (add-zero a)) (zero-add m)
 up-append a (suc n) m =

@@ -1,24 +1,21 @@
 -- What the areas show is what the code reads, and a reverse weight set to 0 changes the weights alone: each array is a part of its own. Assumes nothing.
 use mathlib.Core.Path.{_≡_, refl, ap, ap₂, _∙_, sym, subst}
 use mathlib.Core.List.{List, [], _∷_, _++_}
-use mathlib.Core.Bool.{Bool, true, false, _&&_, cond}
-use Prim.Native.Nat.{ℕ, _+_, _-_, _*_, _≤_, _<_}
+use mathlib.Core.Bool.{Bool, true, false, cond}
+use Prim.Native.Nat.{ℕ, _+_, _-_, _≤_, _<_}
 use native.Mathlib.Omega.{arith}
-use native.Mathlib.Decide.{ℕ-discrete}
 use lib.Dec.{eqb}
-use lib.ListN.{length, getD, set, take, drop}
+use lib.ListN.{length, getD, set, drop}
 use lib.Seq.{getD-take, drop-drop}
 use lib.Ieee.{Float, nan}
-use borrow.Author.Tests.{eq-eqb, ne-eqb}
-use Rattle.basics.specs.Regions.{cut, region, base}
-use Rattle.basics.proofs.Regions.{cut-set, cut-get, cut-length}
+use Rattle.basics.specs.Regions.{cut}
+use Rattle.basics.proofs.Regions.{cut-set, cut-get}
 use Rattle.basics.specs.Loops.{snoc}
 use Rattle.basics.specs.Floats.{0f}
 use Rattle.basics.specs.declared.Spot.{Spot}
 use Rattle.basics.specs.declared.Spot.the-variants.{At, Nowhere}
 use Rattle.basics.proofs.Loops.{Found}
 use Rattle.turfs.specs.Board.{Board, turfCount, linkCount, mixtureCount, mixOf, idOf, end}
-use Rattle.turfs.proofs.Accepted.{Accepted}
 use Rattle.mixture.specs.Mixture.{moveAir}
 use Rattle.mixture.proofs.Parts.{Fits, move-fits}
 use Rattle.events.specs.Events.{encode, encodeAll}
@@ -26,15 +23,15 @@ use Rattle.events.specs.Area.{Wrote, Holds}
 use Rattle.events.specs.declared.Event.the-variants.{Pressure}
 use Rattle.events.specs.declared.Event.{Event}
 use Rattle.events.proofs.Areas.{wrote-length, wrote-rest, adds-one, adds-adds}
-use Rattle.process_zone.specs.Edges.{alter, owned, edge}
+use Rattle.process_zone.specs.Edges.{alter}
 use Rattle.reverse_links.specs.Reverse.{InRow}
 use Rattle.plan_state.specs.Steps.{backLink}
 use Rattle.plan_state.proofs.Weights.{alter-length}
 use Rattle.plan_state.proofs.Links.{edge-back, reverse-within}
 use Rattle.finalize_eq.specs.Finish.{send}
 use Rattle.finalize_eq.proofs.Slices.{Held, sendHeld}
-use Rattle.finish_send.specs.Areas.{Areas, areas, Written, ownerIn, reverseIn, fsizes, liftedAt, weightIn, liftedIn, others, Shows, Ready, Kept}
-use Rattle.finish_send.specs.Sending.{marks, shared, Sends, SendFits}
+use Rattle.finish_send.specs.Areas.{Areas, Written, ownerIn, reverseIn, fsizes, liftedAt, weightIn, liftedIn, others, Shows, Ready, Kept}
+use Rattle.finish_send.specs.Sending.{shared, Sends}
 use Rattle.finish_send.proofs.Edge.{back-below, pressure-size}
 
 -- ---- what the code reads

@@ -9,7 +9,7 @@ use lib.Ieee.{Float, nan, lt}
 use Rattle.basics.specs.Loops.{run, upFrom, if_then_else_}
 use Rattle.basics.specs.Floats.{0f}
 use Rattle.basics.proofs.Lists.{count}
-use Rattle.turfs.specs.Board.{Board, turfCount, linkCount, mixOf, end}
+use Rattle.turfs.specs.Board.{Board, turfCount, linkCount, mixOf}
 use Rattle.mixture.specs.Mixture.{total, moveAir}
 use Rattle.events.specs.Events.{encode}
 use Rattle.events.specs.Area.{Wrote}
@@ -19,7 +19,6 @@ use Rattle.plan_state.specs.Steps.{backLink}
 use Rattle.finalize_eq.proofs.Slices.{Held, sendHeld, giversHeld}
 use Rattle.finalize_eq.proofs.Weights.{above, pending}
 use Rattle.finish_send.specs.Areas.{Areas, Shows, Ready, Kept, ownerIn, reverseIn, weightIn, liftedIn, liftedAt}
-use Rattle.finish_send.specs.declared.Sent.{Sent}
 
 -- above 0, or below it
 abbrev pub sideOf : Bool → Float → Bool

@@ -10,7 +10,7 @@ use lib.Dec.{T, eqb, eqb→eq}
 use lib.ListN.{length, getD, set, List·getD-eq-default}
 use lib.Seq.{getD-set-same, set-set, set-comm}
 use lib.Ieee.{Float, nan, lt}
-use Rattle.basics.specs.Loops.{run, every, member}
+use Rattle.basics.specs.Loops.{run, member}
 use Rattle.basics.specs.Floats.{0f}
 use Rattle.basics.specs.declared.Spot.{Spot}
 use Rattle.basics.specs.declared.Spot.the-variants.{At, Nowhere}
@@ -19,7 +19,7 @@ use Rattle.basics.proofs.Lists.{members, or-cases, all-every}
 use Rattle.turfs.specs.Board.{Board, end}
 use Rattle.mixture.specs.Mixture.{total}
 use Rattle.process_zone.specs.Edges.{alter, edgesOf, edge}
-use Rattle.finalize_eq.specs.Finish.{Done, zeroLifted, send}
+use Rattle.finalize_eq.specs.Finish.{zeroLifted, send}
 use Rattle.finalize_eq.proofs.Weights.{above, zero-not, nan-not}
 use Rattle.finalize_eq.proofs.Slices.{Held, save, quiet, cleared, giversHeld, sendHeld, pairHeld, finishHeld}
 

@@ -1,16 +1,16 @@
 -- Finishing looks at six tables, so the others may be any of the right length. Assumes nothing.
-use mathlib.Core.Path.{_≡_, refl, sym, ap, _∙_}
+use mathlib.Core.Path.{_≡_, refl}
 use mathlib.Core.List.{List}
 use Prim.Native.Nat.{ℕ, zero, suc}
-use lib.ListN.{length, length-replicate}
-use Rattle.basics.specs.Loops.{run, every, upFrom}
+use lib.ListN.{length-replicate}
+use Rattle.basics.specs.Loops.{run}
 use Rattle.turfs.specs.Board.{Board, turfCount, linkCount, linksOf}
 use Rattle.turfs.specs.Refuse.{rowFits}
 use Rattle.turfs.proofs.Accepted.{Accepted}
 use Rattle.mixture.specs.Mixture.{amounts, change, totalMix, total, moveAir}
 use Rattle.process_zone.specs.Edges.{edgesOf, edge}
 use Rattle.reverse_links.specs.Reverse.{reverseOf, Reverses}
-use Rattle.finalize_eq.specs.Finish.{Done, Pair, positive, zeroLifted, pairs, finishGivers, send, finishPair, finish}
+use Rattle.finalize_eq.specs.Finish.{Done, positive, zeroLifted, pairs, finishGivers, send, finishPair, finish}
 use Rattle.finalize_eq.specs.Turns.{Zone, work, turnOrder, finishAll}
 use Rattle.finish_send.specs.Areas.{ground}
 

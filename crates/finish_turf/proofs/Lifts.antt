@@ -2,13 +2,13 @@
 use mathlib.Core.Path.{_≡_, refl, sym, ap, ap₂, _∙_, subst}
 use mathlib.Core.List.{List, [], _∷_}
 use mathlib.Core.Bool.{Bool, true, false, _&&_, cond}
-use Prim.Native.Nat.{ℕ, zero, suc, _+_, _-_, _*_, _≤_, _<_}
+use Prim.Native.Nat.{ℕ, _+_, _-_, _≤_, _<_}
 use native.Mathlib.Omega.{arith}
 use native.Mathlib.Nat.{zero-add}
 use lib.Dec.{T, eqb}
 use lib.ListN.{length, getD, set, length-set}
-use lib.Ieee.{Float, nan, lt}
-use Rattle.basics.specs.Regions.{cut, region}
+use lib.Ieee.{Float, nan}
+use Rattle.basics.specs.Regions.{cut}
 use Rattle.basics.proofs.Regions.{cut-set, cut-length}
 use Rattle.basics.specs.Loops.{run, keep, consIf, upFrom, member}
 use Rattle.basics.specs.Floats.{0f}
@@ -21,8 +21,8 @@ use Rattle.turfs.proofs.Accepted.{Accepted, source, sources, links-in}
 use Rattle.process_zone.specs.Edges.{owned, edgesOf}
 use Rattle.finalize_eq.specs.Finish.{zeroLifted}
 use Rattle.finalize_eq.proofs.Weights.{above, aboveAt, pending, lift-count, lift-less, edges-apart}
-use Rattle.finalize_eq.proofs.Slices.{Held, save, quiet, cleared, Mine, Quiet, quiet-is, is-quiet, save-here}
-use Rattle.finish_send.specs.Areas.{Areas, areas, ownerIn, fsizes, liftedAt, weightIn, liftedIn, others, Shows, Ready, Kept}
+use Rattle.finalize_eq.proofs.Slices.{Held, save, quiet, cleared, quiet-is, is-quiet, save-here}
+use Rattle.finish_send.specs.Areas.{Areas, areas, ownerIn, fsizes, liftedAt, weightIn, liftedIn, others, Shows, Kept}
 use Rattle.finish_send.specs.Sending.{marks, Next, saveAt, zeroAt, toSend}
 use Rattle.finish_send.proofs.Shown.{owner-at, weight-at, lifted-at, altered-weight, altered-lifted, altered-others}
 use Rattle.finish_turf.specs.Finishing.{Begun}

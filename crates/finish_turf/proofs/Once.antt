@@ -1,6 +1,6 @@
 -- A turf's givers are finished once: after that their weights are 0, so that finishing them again changes nothing, and the edges that are left can be sent
 -- one after the other. Assumes nothing.
-use mathlib.Core.Path.{_≡_, refl, sym, ap, ap₂, _∙_, subst}
+use mathlib.Core.Path.{_≡_, refl, sym, ap, _∙_, subst}
 use mathlib.Core.Logic.{_⊎_, inl, inr}
 use mathlib.Core.List.{List, [], _∷_}
 use mathlib.Core.Bool.{Bool, true, false, _&&_, cond}
@@ -13,16 +13,15 @@ use Rattle.basics.specs.Loops.{run, keep, consIf, upFrom, member}
 use Rattle.basics.specs.Floats.{0f}
 use Rattle.basics.proofs.Loops.{All, All-any, All-imp, run-keeps, run-same, run-keep}
 use Rattle.basics.proofs.Lists.{members, or-cases, or-left, or-right}
-use Rattle.basics.proofs.Tests.{both}
-use Rattle.turfs.specs.Board.{Board, end, degree, linksOf}
+use Rattle.turfs.specs.Board.{Board, end, linksOf}
 use Rattle.mixture.specs.Mixture.{total}
-use Rattle.process_zone.specs.Edges.{alter, owned, edgesOf, edge}
+use Rattle.process_zone.specs.Edges.{owned, edgesOf, edge}
 use Rattle.finalize_eq.specs.Finish.{send}
 use Rattle.finalize_eq.proofs.Weights.{above, alter-below}
-use Rattle.finalize_eq.proofs.Slices.{Held, save, quiet, cleared, giversHeld, sendHeld, pairHeld, finishHeld, Mine, Quiet, one-row, Holds, finish-holds}
+use Rattle.finalize_eq.proofs.Slices.{Held, quiet, giversHeld, sendHeld, pairHeld, finishHeld, Mine, Quiet, one-row, Holds, finish-holds}
 use Rattle.finish_send.specs.Sending.{pairAs}
-use Rattle.finish_send.proofs.Ranges.{up-cons, run-parts}
-use Rattle.finish_turf.proofs.Clear.{Clear, AllClear, clear-alter, givers-keep, finish-keeps, finish-clears, finish-still}
+use Rattle.finish_send.proofs.Ranges.{up-cons}
+use Rattle.finish_turf.proofs.Clear.{Clear, AllClear, clear-alter, finish-keeps, finish-clears, finish-still}
 
 -- ---- members
 

@@ -1,10 +1,5 @@
 -- The reverse is one of the links, and an amount above 0 has bits; the three calls are the definition's three changes. Assumes nothing.
-use Prim.Native.Nat.{ℕ, _+_, _<_}
 use mathlib.Core.Path.{_∙_, ap}
-use mathlib.Core.List.{List}
-use native.Mathlib.Omega.{arith}
-use lib.ListN.{length, getD}
-use lib.Ieee.{Float, nan}
 use denote.Ref.{now}
 use Rattle.basics.specs.declared.Spot.{Spot}
 use Rattle.basics.specs.Floats.{0f}
