@@ -78,10 +78,10 @@ module _ (zones : List Zone) where
           ∙ sym (ap (λ (x : Zone). drop (getD next z 0) (x .nodes)) (List·getD-eq-default zones (record { nodes = []; moles = 0f }) {n = z} (omega arith)) ∙ drop-none (getD next z 0))
 
   -- an unfinished zone
-  abbrev Open : List ℕ → ℕ → Type 0
+  abbrev pub Open : List ℕ → ℕ → Type 0
   Open next z = (getD next z 0 < length (nodesAt zones z)) × (z < length zones)
 
-  open-all : (next : List ℕ) → All (Open next) (unfinished zones next)
+  pub open-all : (next : List ℕ) → All (Open next) (unfinished zones next)
   unfolding unfinished
   open-all next =
       All-imp _ (Open next) (unfinished zones next)

@@ -63,7 +63,7 @@ module _ (b : Board) (owner : List ℕ) (z : ℕ) where
       (record { done = cleared r (h .done); lifted = h .lifted })
       (run (pairHeld (λ a g. finishHeld n a g) r) (edgesOf b owner z r) (record { done = cleared r (h .done); lifted = save (edgesOf b owner z r) (h .done .weight) (h .lifted) }))
 
-save-other : (ks : List ℕ) (w l : List Float) (k : ℕ) → (T (member k ks) → ⊥) → getD (save ks w l) k nan ≡ getD l k nan
+pub save-other : (ks : List ℕ) (w l : List Float) (k : ℕ) → (T (member k ks) → ⊥) → getD (save ks w l) k nan ≡ getD l k nan
 unfolding save run member
 save-other [] w l k h = refl
 save-other (j ∷ ks) w l k h =
@@ -82,7 +82,7 @@ save-kept ks w l k h = run-keeps (λ j. Unit {0}) (λ v. getD v k nan ≡ getD w
         go (yes i) (yes l′) = ap (λ (x : ℕ). getD (set v j (getD w j nan)) x nan) i ∙ getD-set-same v j (getD w j nan) nan l′ ∙ ap (λ (x : ℕ). getD w x nan) (sym i)
         go (yes i) (no l′) = ap (λ (u : List Float). getD u k nan) (set-out v j (getD w j nan) (omega arith)) ∙ e
 
-save-here : (ks : List ℕ) (w l : List Float) (k : ℕ) → length l ≡ length w → T (member k ks) → getD (save ks w l) k nan ≡ getD w k nan
+pub save-here : (ks : List ℕ) (w l : List Float) (k : ℕ) → length l ≡ length w → T (member k ks) → getD (save ks w l) k nan ≡ getD w k nan
 unfolding save run member
 save-here [] w l k e m = absurd m
 save-here (j ∷ ks) w l k e m = go (or-cases (eqb k j) (member k ks) m) (λ n. save-here ks w (set l j (getD w j nan)) k (length-set l j (getD w j nan) ∙ e) n)
@@ -104,13 +104,13 @@ save-here (j ∷ ks) w l k e m = go (or-cases (eqb k j) (member k ks) m) (λ n. 
 
 -- a link leaves one turf
 module _ (b : Board) (owner : List ℕ) (z : ℕ) (src : ℕ → ℕ) (srcs : (r : ℕ) → All (λ k. src k ≡ r) (edgesOf b owner z r)) where
-  abbrev Mine : ℕ → ℕ → Type 0
+  abbrev pub Mine : ℕ → ℕ → Type 0
   Mine r k = T (member k (edgesOf b owner z r))
 
-  abbrev Quiet : ℕ → List Float → Type 0
+  abbrev pub Quiet : ℕ → List Float → Type 0
   Quiet r w = (k : ℕ) → Mine r k → above (getD w k nan) ≡ false
 
-  one-row : (r r′ k : ℕ) → Mine r k → Mine r′ k → r ≡ r′
+  pub one-row : (r r′ k : ℕ) → Mine r k → Mine r′ k → r ≡ r′
   one-row r r′ k m m′ = sym (member-has (λ j. src j ≡ r) k (edgesOf b owner z r) (srcs r) m) ∙ member-has (λ j. src j ≡ r′) k (edgesOf b owner z r′) (srcs r′) m′
 
   no-false : (t : Bool) → T (not t) → t ≡ false
@@ -121,12 +121,12 @@ module _ (b : Board) (owner : List ℕ) (z : ℕ) (src : ℕ → ℕ) (srcs : (r
   false-no true h = absurd (subst (λ (c : Bool). T (not c)) (sym h) tt)
   false-no false h = tt
 
-  quiet-is : (r : ℕ) (w : List Float) → T (quiet b owner z r w) → Quiet r w
+  pub quiet-is : (r : ℕ) (w : List Float) → T (quiet b owner z r w) → Quiet r w
   unfolding quiet
   quiet-is r w t k m = no-false (above (getD w k nan))
       (member-has (λ j. T (not (above (getD w j nan)))) k (edgesOf b owner z r) (every-all (λ j. not (above (getD w j nan))) (edgesOf b owner z r) t) m)
 
-  is-quiet : (r : ℕ) (w : List Float) → Quiet r w → T (quiet b owner z r w)
+  pub is-quiet : (r : ℕ) (w : List Float) → Quiet r w → T (quiet b owner z r w)
   unfolding quiet
   is-quiet r w h = all-every (λ j. not (above (getD w j nan))) (edgesOf b owner z r)
       (All-imp (λ j. Mine r j) (λ j. T (not (above (getD w j nan)))) (edgesOf b owner z r) (λ j m. false-no (above (getD w j nan)) (h j m)) (members (edgesOf b owner z r)))

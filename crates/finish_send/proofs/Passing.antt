@@ -1,0 +1,257 @@
+-- Edge by edge: links with nothing to send are passed over, and one that has something is sent, so what is left to send falls by one. Assumes nothing.
+use mathlib.Core.Path.{_≡_, refl, ap, ap₂, _∙_, sym, subst}
+use mathlib.Core.List.{List, [], _∷_}
+use mathlib.Core.Bool.{Bool, true, false, _&&_, cond}
+use Prim.Native.Nat.{ℕ, zero, suc, _+_, _-_, _*_, _≤_, _<_}
+use native.Mathlib.Omega.{arith}
+use native.Mathlib.Nat.{le-trans, zero-add}
+use lib.Dec.{eqb}
+use lib.ListN.{length, getD}
+use lib.Ieee.{Float, nan, lt}
+use Rattle.basics.specs.Loops.{run, upFrom}
+use Rattle.basics.specs.Floats.{0f}
+use Rattle.basics.proofs.Lists.{one, count}
+use Rattle.basics.proofs.Tests.{both, differ}
+use Rattle.turfs.specs.Board.{Board, turfCount, linkCount, mixtureCount, mixOf, end}
+use Rattle.turfs.proofs.Accepted.{Accepted}
+use Rattle.mixture.specs.Mixture.{total}
+use Rattle.mixture.specs.Moves.{Holds}
+use Rattle.reverse_links.specs.Reverse.{InRow}
+use Rattle.process_zone.specs.Edges.{owned}
+use Rattle.plan_state.specs.Steps.{backLink}
+use Rattle.plan_state.proofs.Weights.{alter-length}
+use Rattle.plan_state.proofs.Links.{reverse-within}
+use Rattle.finalize_eq.proofs.Weights.{above, pending, alter-less}
+use Rattle.finalize_eq.proofs.Slices.{Held, sendHeld, giversHeld}
+use Rattle.finish_send.specs.Areas.{Areas, ownerIn, reverseIn, liftedAt, weightIn, liftedIn, Shows, Ready, Kept}
+use Rattle.finish_send.specs.Sending.{marks, Next, SendFits, Sends, pairAs, toSend, Going, Progress, SentTo}
+use Rattle.finish_send.proofs.Edge.{holds-mix}
+use Rattle.finish_send.proofs.Ranges.{up-cons, run-parts, run-last, run-none, run-idle}
+use Rattle.finish_send.proofs.Shown.{owner-at, reverse-at, lifted-at, kept-none, kept-then, sent-kept, sent-lifted, sent-weight, sent-used, sent-shows}
+
+-- ---- how many pass
+
+count-same : (p q : ℕ → Bool) (a n : ℕ) → ((j : ℕ) → a ≤ j → j < a + n → p j ≡ q j) → count p (upFrom a n) ≡ count q (upFrom a n)
+unfolding count upFrom
+count-same p q a zero h = refl
+count-same p q a (suc n) h = ap₂ (λ (x y : ℕ). x + y) (ap one (h a (omega arith) (omega arith))) (count-same p q (suc a) n (λ j l u. h j (omega arith) (omega arith)))
+
+module _ (p : ℕ → Bool) where
+  -- this one and the rest
+  count-here : (k to : ℕ) → k < to → count p (upFrom k (to - k)) ≡ one (p k) + count p (upFrom (k + 1) (to - (k + 1)))
+  unfolding count
+  count-here k to h = ap (count p) (up-cons k to h)
+
+  -- none of those before m
+  count-skip : (k n m to : ℕ) → m ≡ k + n → m ≤ to → ((j : ℕ) → k ≤ j → j < m → p j ≡ false) → count p (upFrom k (to - k)) ≡ count p (upFrom m (to - m))
+  count-skip k zero m to e h none = let q : m ≡ k = omega arith in ap (λ (i : ℕ). count p (upFrom i (to - i))) (sym q)
+  count-skip k (suc n) m to e h none =
+      count-here k to (omega arith) ∙ ap (λ (x : Bool). one x + count p (upFrom (k + 1) (to - (k + 1)))) (none k (omega arith) (omega arith)) ∙ zero-add (count p (upFrom (k + 1) (to - (k + 1))))
+      ∙ count-skip (k + 1) n m to (omega arith) h (λ j l u. none j (omega arith) u)
+
+module _ (b : Board) (words : List ℕ) (z k to : ℕ) (h : to ≤ linkCount b) where
+  -- what the zone's links hold decides
+  pub to-send-alike : (f f′ : List Float) → ((j : ℕ) → k ≤ j → j < to → owned b (ownerIn (linkCount b) words) z j ≡ true → getD (liftedIn b f′) j nan ≡ getD (liftedIn b f) j nan)
+      → toSend b words f′ z k to ≡ toSend b words f z k to
+  unfolding toSend
+  to-send-alike f f′ e = count-same (marks words f′ z (liftedAt b) true) (marks words f z (liftedAt b) true) k (to - k) (λ j l u. each j l (omega arith))
+    where
+      each : (j : ℕ) → k ≤ j → j < to → marks words f′ z (liftedAt b) true j ≡ marks words f z (liftedAt b) true j
+      each j l u = go (eqb (getD words j 0) (z + 1)) refl
+        where
+          go : (t : Bool) → eqb (getD words j 0) (z + 1) ≡ t → t && above (getD f′ (liftedAt b + j) nan) ≡ t && above (getD f (liftedAt b + j) nan)
+          go true o =
+              ap above (lifted-at b f′ j (omega arith) ∙ e j l u (ap (λ (x : ℕ). eqb x (z + 1)) (sym (owner-at (linkCount b) j words (omega arith))) ∙ o) ∙ sym (lifted-at b f j (omega arith)))
+          go false o = refl
+
+  to-send-same : (f f′ : List Float) → liftedIn b f′ ≡ liftedIn b f → toSend b words f′ z k to ≡ toSend b words f z k to
+  to-send-same f f′ e = to-send-alike f f′ (λ j l u o. ap (λ (x : List Float). getD x j nan) e)
+
+  to-send-skip : (f : List Float) (m : ℕ) → Next (marks words f z (liftedAt b) true) k to m → toSend b words f z k to ≡ toSend b words f z m to
+  unfolding toSend
+  to-send-skip f m n = count-skip (marks words f z (liftedAt b) true) k (m - k) m to (omega (arith, n .low)) (n .high) (n .none)
+
+  pub to-send-here : (f : List Float) → k < to → marks words f z (liftedAt b) true k ≡ true → toSend b words f z k to ≡ 1 + toSend b words f z (k + 1) to
+  unfolding toSend
+  to-send-here f l t = count-here (marks words f z (liftedAt b) true) k to l ∙ ap (λ (x : Bool). one x + count (marks words f z (liftedAt b) true) (upFrom (k + 1) (to - (k + 1)))) t
+
+-- ---- one link
+
+pub ready-kept : {b : Board} {words : List ℕ} {a a′ : Areas} → Ready b words (a .gas) (a .floats) → Kept b a a′ → Ready b words (a′ .gas) (a′ .floats)
+ready-kept {b} r k = record {
+  board = subst (λ (n : ℕ). Accepted b n) (sym (k .gas)) (r .board);
+  linked = r .linked;
+  reverse = r .reverse;
+  words = r .words;
+  floats = omega (arith, r .floats, k .floats);
+}
+
+module _ (b : Board) (words : List ℕ) (stop : Bool) (z r : ℕ) where
+  abbrev owner : List ℕ
+  owner = ownerIn (linkCount b) words
+
+  abbrev P : List Float → ℕ → Bool
+  P f = marks words f z (liftedAt b) true
+
+  -- the definition's test is the code's
+  pub test-is : (a : Areas) (h : Held) (k : ℕ) → Shows b a h → k < linkCount b → owned b owner z k && above (getD (h .lifted) k nan) ≡ P (a .floats) k
+  test-is a h k v l =
+      ap₂ (λ (x : ℕ) (y : Float). eqb x (z + 1) && above y) (sym (owner-at (linkCount b) k words l)) (ap (λ (l : List Float). getD l k nan) (sym (v .lifted)) ∙ sym (lifted-at b (a .floats) k l))
+
+  pair-idle : (f : ℕ → Held → Held) (a : Areas) (h : Held) (k : ℕ) → Shows b a h → k < linkCount b → P (a .floats) k ≡ false → pairAs b owner z stop f r k h ≡ h
+  unfolding pairAs
+  pair-idle f a h k v l t = rw (test-is a h k v l ∙ t)
+
+  pair-sends : (f : ℕ → Held → Held) (a : Areas) (h : Held) (k : ℕ) → Shows b a h → k < linkCount b → P (a .floats) k ≡ true
+      → stop && lt (total b (a .gas) r) (getD (a .floats) (liftedAt b + k) nan) ≡ false → pairAs b owner z stop f r k h ≡ sendHeld b owner z r k (getD (a .floats) (liftedAt b + k) nan) h
+  unfolding pairAs
+  pair-sends f a h k v l t e =
+      let x : getD (h .lifted) k nan ≡ getD (a .floats) (liftedAt b + k) nan = ap (λ (l : List Float). getD l k nan) (sym (v .lifted)) ∙ sym (lifted-at b (a .floats) k l) in
+      let s : stop && lt (total b (h .done .gas) r) (getD (h .lifted) k nan) ≡ false = ap₂ (λ (g : List Float) (y : Float). stop && lt (total b g r) y) (sym (v .gas)) x ∙ e in
+      rw (test-is a h k v l ∙ t, s, x)
+
+  module _ (from to : ℕ) (a : Areas) where
+    abbrev Made : ℕ → Areas → Type 0
+    Made at a′ = Progress b words stop z r from to at a a′
+
+    pub made-none : from ≤ to → Made from a
+    made-none h = record {
+      kept = kept-none b a;
+      low = omega arith;
+      high = h;
+      lifted = refl;
+      fewer = omega arith;
+      room = omega arith;
+      shows = λ f h′ v. subst (Shows b a) (sym (run-none (pairAs b owner z stop f r) from h′)) v;
+    }
+
+    module _ (e : to ≤ linkCount b) where
+      -- links with nothing to send
+      pub made-skip : (i k : ℕ) (a′ : Areas) → Made i a′ → Next (P (a′ .floats)) i to k → Made k a′
+      made-skip i k a′ m n = record {
+        kept = m .kept;
+        low = omega (arith, m .low, n .low);
+        high = n .high;
+        lifted = m .lifted;
+        fewer = m .fewer;
+        room = omega (arith, m .room, to-send-skip b words z i to e (a′ .floats) k n);
+        shows = λ f h v.
+            let F = pairAs b owner z stop f r in
+            let g = run F (upFrom from (i - from)) h in
+            let w : Shows b a′ g = m .shows f h v in
+            subst (Shows b a′)
+            (sym (run-parts F from i k h (m .low) (n .low)
+            ∙ run-idle F i (k - i) g (λ j l u. pair-idle f a′ g j w (omega (arith, u, n .low, n .high, e)) (n .none j l (omega (arith, u, n .low))))))
+            w;
+      }
+
+      -- a link that has something to send
+      pub made-send : (k : ℕ) (a′ a″ : Areas) → Made k a′ → Ready b words (a .gas) (a .floats) → r < turfCount b → InRow (b .starts) r k → k < to → P (a′ .floats) k ≡ true
+          → stop && lt (total b (a′ .gas) r) (getD (a′ .floats) (liftedAt b + k) nan) ≡ false
+          → Sends r k (end b k) z (a′ .used) (a″ .used) (getD (a′ .floats) (liftedAt b + k) nan) (b .ids) (b .mixtures) (b .immutable) words (b .gases) (linkCount b) (a′ .gas) (a″ .gas) (a′ .floats) (a″ .floats) (a′ .bytes) (a″ .bytes)
+          → Made (k + 1) a″
+      made-send k a′ a″ m ready row i l t enough s =
+          let x = getD (a′ .floats) (liftedAt b + k) nan in
+          let below : k < linkCount b = omega arith in
+          let ready′ = ready-kept ready (m .kept) in
+          let lifted = sent-lifted b words z r k a′ a″ ready′ row i below x s in
+          record {
+            kept = kept-then (m .kept) (sent-kept b words z r k a′ a″ ready′ row i below x s);
+            low = omega (arith, m .low);
+            high = omega arith;
+            lifted = lifted ∙ m .lifted;
+            fewer = le-trans (subst (λ (w : List Float). pending w ≤ pending (weightIn b (a′ .floats))) (sym (sent-weight b words z r k a′ a″ ready′ row i below x s)) (alter-less (backLink (reverseIn (linkCount b) words) owner z k) (weightIn b (a′ .floats)))) (m .fewer);
+            room = omega (arith, m .room, sent-used b words z r k a′ a″ ready′ row i below x s, to-send-same b words z (k + 1) to e (a′ .floats) (a″ .floats) lifted, to-send-here b words z k to e (a′ .floats) l t);
+            shows = λ f h v.
+                let F = pairAs b owner z stop f r in
+                let g = run F (upFrom from (k - from)) h in
+                let w : Shows b a′ g = m .shows f h v in
+                subst (Shows b a″) (sym (run-last F from k h (m .low) ∙ pair-sends f a′ g k w below t enough)) (sent-shows b words z r k a′ a″ ready′ row i below x s g w);
+          }
+
+pub sent-size : {r k to z used used′ : ℕ} {x : Float} {ids mixtures immutable words : List ℕ} {gases e : ℕ} {gas gas′ floats floats′ : List Float} {bytes bytes′ : List ℕ}
+    → Sends r k to z used used′ x ids mixtures immutable words gases e gas gas′ floats floats′ bytes bytes′ → length floats′ ≡ length floats
+sent-size {k = k} {z = z} {words = words} {e = e} {floats = floats} s = ap length (s .weights) ∙ alter-length (backLink (reverseIn e words) (ownerIn e words) z k) (λ y. 0f) floats
+
+-- ---- the loop, whose lifted weights start at `up`
+
+-- at the loop's head
+pub record At (b : Board) (words : List ℕ) (stop : Bool) (z r up from to : ℕ) (a : Areas) (k : ℕ) (a′ : Areas) : Type 0 where
+  pub made : Progress b words stop z r from to k a a′
+  pub here : k < to → marks words (a′ .floats) z up true k ≡ true
+
+module _ (b : Board) (words : List ℕ) (stop : Bool) (z r up from to : ℕ) (a : Areas) (u : up ≡ liftedAt b) (g : Going b words z r from to a) where
+  within : to ≤ linkCount b
+  within = le-trans (g .high) (g .ready .linked .within r (g .row))
+
+  in-row : (k : ℕ) → from ≤ k → k < to → InRow (b .starts) r k
+  in-row k l h = record { from = omega (arith, g .low); to = omega (arith, g .high) }
+
+  abbrev Here : ℕ → Areas → Type 0
+  Here k a′ = At b words stop z r up from to a k a′
+
+  -- what the calls in the loop ask
+  pub edge-room : (k : ℕ) (f : List Float) → length f ≡ length (a .floats) → k ≤ to → (z < 4096) × ((k ≤ to) × ((to ≤ length words) × (up + to ≤ length f)))
+  edge-room k f q l = let e = within in (g .zone, (l, (omega (arith, g .ready .words), omega (arith, u, g .ready .floats, q))))
+
+  pub short-room : (a′ : Areas) → Kept b a a′ → (r < length (b .mixtures)) × Holds (a′ .gas) (b .gases) (mixOf b r)
+  short-room a′ q = (omega (arith, g .ready .board .mixes, g .row), holds-mix (a′ .gas) (mixtureCount b) (b .gases) (mixOf b r) (q .gas ∙ g .ready .board .fits) (g .ready .board .mixed r))
+
+  found : (i k : ℕ) (a′ : Areas) → Progress b words stop z r from to i a a′ → Next (marks words (a′ .floats) z up true) i to k → Here k a′
+  found i k a′ m n = record {
+    made = made-skip b words stop z r from to a within i k a′ m (subst (λ (x : ℕ). Next (marks words (a′ .floats) z x true) i to k) u n);
+    here = n .here;
+  }
+
+  pub loop-start : (k : ℕ) → Next (marks words (a .floats) z up true) from to k → Here k a
+  loop-start k n = found from k a (made-none b words stop z r from to a (g .order)) n
+
+  pub send-fits : (k : ℕ) (a′ : Areas) → Here k a′ → k < to
+      → SendFits r k (end b k) z (a′ .used) up (b .gases) (b .ids) (b .mixtures) (b .neighbours) (b .immutable) words (a′ .gas) (a′ .floats) (a′ .bytes)
+  send-fits k a′ m l =
+      let p = m .made in
+      let rd = ready-kept (g .ready) (p .kept) in
+      let e : to ≤ linkCount b = within in
+      let n = to-send-here b words z k to within (a′ .floats) l (subst (λ (x : ℕ). marks words (a′ .floats) z x true k ≡ true) u (m .here l)) in
+      record {
+        zone = g .zone;
+        links = rd .board .links;
+        link = omega (arith, e);
+        area = rd .words;
+        back = subst (λ (x : ℕ). x ≤ linkCount b) (sym (reverse-at (linkCount b) k words (omega (arith, e))))
+            (reverse-within b (turfCount b) (rd .linked) (ownerIn (linkCount b) words) z (reverseIn (linkCount b) words) (rd .reverse) r k (g .row) (in-row k (p .low) l));
+        weights = omega (arith, rd .floats);
+        lifted = omega (arith, u, rd .floats, e);
+        rows = (g .row, rd .board .ends k);
+        mixed = (omega (arith, rd .board .mixes, g .row), omega (arith, rd .board .mixes, rd .board .ends k));
+        mixes = (rd .board .mixed r, rd .board .mixed (end b k));
+        amounts = rd .board .fits;
+        room = omega (arith, p .room, n, g .room, p .kept .bytes);
+        positive = both (eqb (getD words k 0) (z + 1)) (above (getD (a′ .floats) (up + k) nan)) (m .here l) .1;
+      }
+
+  pub loop-next : (k j : ℕ) (a′ a″ : Areas) (short : Bool) → Here k a′ → k < to → short ≡ false
+      → ((c : Board) → c .mixtures ≡ b .mixtures → c .gases ≡ b .gases → short ≡ stop && lt (total c (a′ .gas) r) (getD (a′ .floats) (up + k) nan))
+      → Sends r k (end b k) z (a′ .used) (a″ .used) (getD (a′ .floats) (up + k) nan) (b .ids) (b .mixtures) (b .immutable) words (b .gases) (linkCount b) (a′ .gas) (a″ .gas) (a′ .floats) (a″ .floats) (a′ .bytes) (a″ .bytes)
+      → Next (marks words (a″ .floats) z up true) (k + 1) to j → Here j a″
+  loop-next k j a′ a″ short m l q is s n =
+      found (k + 1) j a″
+      (made-send b words stop z r from to a within k a′ a″ (m .made) (g .ready) (g .row) (in-row k (m .made .low) l) l (subst (λ (x : ℕ). marks words (a′ .floats) z x true k ≡ true) u (m .here l))
+      (subst (λ (x : ℕ). stop && lt (total b (a′ .gas) r) (getD (a′ .floats) (x + k) nan) ≡ false) u (sym (is b refl refl) ∙ q))
+      (subst (λ (x : ℕ). Sends r k (end b k) z (a′ .used) (a″ .used) (getD (a′ .floats) (x + k) nan) (b .ids) (b .mixtures) (b .immutable) words (b .gases) (linkCount b) (a′ .gas) (a″ .gas) (a′ .floats) (a″ .floats) (a′ .bytes) (a″ .bytes)) u s)) n
+
+  pub stopped : (k : ℕ) (a′ : Areas) (short : Bool) → Here k a′ → k < to → short ≡ true
+      → ((c : Board) → c .mixtures ≡ b .mixtures → c .gases ≡ b .gases → short ≡ stop && lt (total c (a′ .gas) r) (getD (a′ .floats) (up + k) nan))
+      → SentTo b words stop z r from to k a a′
+  stopped k a′ short m l q is =
+      let s = both stop (lt (total b (a′ .gas) r) (getD (a′ .floats) (up + k) nan)) (sym (is b refl refl) ∙ q) in
+      record {
+        made = m .made;
+        whole = λ e. absurd (differ (sym (s .0) ∙ e));
+        short = λ h. (subst (λ (x : ℕ). marks words (a′ .floats) z x true k ≡ true) u (m .here l), subst (λ (x : ℕ). lt (total b (a′ .gas) r) (getD (a′ .floats) (x + k) nan) ≡ true) u (s .1));
+      }
+
+  pub all-sent : (k : ℕ) (a′ : Areas) → Here k a′ → to ≤ k → SentTo b words stop z r from to to a a′
+  all-sent k a′ m l =
+      let e : k ≡ to = omega (arith, m .made .high) in
+      record { made = subst (λ (x : ℕ). Progress b words stop z r from to x a a′) e (m .made); whole = λ q. refl; short = λ h. absurd (omega arith) }

@@ -1,0 +1,156 @@
+-- What the areas show is what the code reads, and a reverse weight set to 0 changes the weights alone: each array is a part of its own. Assumes nothing.
+use mathlib.Core.Path.{_≡_, refl, ap, ap₂, _∙_, sym, subst}
+use mathlib.Core.List.{List, [], _∷_, _++_}
+use mathlib.Core.Bool.{Bool, true, false, cond}
+use Prim.Native.Nat.{ℕ, _+_, _-_, _≤_, _<_}
+use native.Mathlib.Omega.{arith}
+use lib.Dec.{eqb}
+use lib.ListN.{length, getD, set, drop}
+use lib.Seq.{getD-take, drop-drop}
+use lib.Ieee.{Float, nan}
+use Rattle.basics.specs.Regions.{cut}
+use Rattle.basics.proofs.Regions.{cut-set, cut-get}
+use Rattle.basics.specs.Loops.{snoc}
+use Rattle.basics.specs.Floats.{0f}
+use Rattle.basics.specs.declared.Spot.{Spot}
+use Rattle.basics.specs.declared.Spot.the-variants.{At, Nowhere}
+use Rattle.basics.proofs.Loops.{Found}
+use Rattle.turfs.specs.Board.{Board, turfCount, linkCount, mixtureCount, mixOf, idOf, end}
+use Rattle.mixture.specs.Mixture.{moveAir}
+use Rattle.mixture.proofs.Parts.{Fits, move-fits}
+use Rattle.events.specs.Events.{encode, encodeAll}
+use Rattle.events.specs.Area.{Wrote, Holds}
+use Rattle.events.specs.declared.Event.the-variants.{Pressure}
+use Rattle.events.specs.declared.Event.{Event}
+use Rattle.events.proofs.Areas.{wrote-length, wrote-rest, adds-one, adds-adds}
+use Rattle.process_zone.specs.Edges.{alter}
+use Rattle.reverse_links.specs.Reverse.{InRow}
+use Rattle.plan_state.specs.Steps.{backLink}
+use Rattle.plan_state.proofs.Weights.{alter-length}
+use Rattle.plan_state.proofs.Links.{edge-back, reverse-within}
+use Rattle.finalize_eq.specs.Finish.{send}
+use Rattle.finalize_eq.proofs.Slices.{Held, sendHeld}
+use Rattle.finish_send.specs.Areas.{Areas, Written, ownerIn, reverseIn, fsizes, liftedAt, weightIn, liftedIn, others, Shows, Ready, Kept}
+use Rattle.finish_send.specs.Sending.{shared, Sends}
+use Rattle.finish_send.proofs.Edge.{back-below, pressure-size}
+
+-- ---- what the code reads
+
+pub owner-at : (e k : ℕ) (words : List ℕ) → k < e → getD words k 0 ≡ getD (ownerIn e words) k 0
+owner-at e k words h = sym (getD-take e words k 0 h)
+
+pub reverse-at : (e k : ℕ) (words : List ℕ) → k < e → getD words (e + k) 0 ≡ getD (reverseIn e words) k 0
+reverse-at e k words h = sym (getD-take e (drop e words) k 0 h ∙ lib.Seq.getD-drop e words k 0)
+
+module _ (b : Board) (f : List Float) (k : ℕ) (h : k < linkCount b) where
+  pub weight-at : getD f k nan ≡ getD (weightIn b f) k nan
+  weight-at = cut-get (fsizes (turfCount b) (linkCount b)) f nan 0 k k (omega arith) h (omega arith)
+
+  pub lifted-at : getD f (liftedAt b + k) nan ≡ getD (liftedIn b f) k nan
+  lifted-at = cut-get (fsizes (turfCount b) (linkCount b)) f nan 3 k (liftedAt b + k) (omega arith) h (omega arith)
+
+-- ---- a weight set to 0
+
+cut-alter : (b : Board) (s : Spot) (f : List Float) → Found (λ k. k < linkCount b) s
+    → cut (fsizes (turfCount b) (linkCount b)) (alter s (λ y. 0f) f) ≡ set (cut (fsizes (turfCount b) (linkCount b)) f) 0 (alter s (λ y. 0f) (weightIn b f))
+cut-alter b (At k) f h = cut-set (fsizes (turfCount b) (linkCount b)) f 0 k 0f k (omega arith) h (omega arith)
+cut-alter b Nowhere f h = refl
+
+module _ (b : Board) (s : Spot) (f f′ : List Float) (h : Found (λ k. k < linkCount b) s) (e : f′ ≡ alter s (λ y. 0f) f) where
+  cuts : cut (fsizes (turfCount b) (linkCount b)) f′ ≡ set (cut (fsizes (turfCount b) (linkCount b)) f) 0 (alter s (λ y. 0f) (weightIn b f))
+  cuts = ap (cut (fsizes (turfCount b) (linkCount b))) e ∙ cut-alter b s f h
+
+  pub altered-weight : weightIn b f′ ≡ alter s (λ y. 0f) (weightIn b f)
+  altered-weight = ap (λ (l : List (List Float)). getD l 0 []) cuts
+
+  pub altered-lifted : liftedIn b f′ ≡ liftedIn b f
+  altered-lifted = ap (λ (l : List (List Float)). getD l 3 []) cuts
+
+  pub altered-others : others b f′ ≡ others b f
+  unfolding others
+  altered-others = ap (λ (l : List (List Float)). getD l 1 [] ∷ getD l 2 [] ∷ getD l 4 [] ∷ []) cuts
+
+-- ---- nothing changed, and one change after the other
+
+pub kept-none : (b : Board) (a : Areas) → Kept b a a
+kept-none b a = record { gas = refl; floats = refl; bytes = refl; rest = refl; grown = omega arith; past = refl }
+
+pub kept-then : {b : Board} {a a′ a″ : Areas} → Kept b a a′ → Kept b a′ a″ → Kept b a a″
+kept-then {b} {a} {a′} {a″} k l = record {
+  gas = l .gas ∙ k .gas;
+  floats = l .floats ∙ k .floats;
+  bytes = l .bytes ∙ k .bytes;
+  rest = l .rest ∙ k .rest;
+  grown = omega (arith, k .grown, l .grown);
+  past = l .past ∙ after (a″ .used - a′ .used) (omega (arith, l .grown));
+}
+  where
+    after : (d : ℕ) → d + a′ .used ≡ a″ .used → drop (a″ .used) (a′ .bytes) ≡ drop (a″ .used) (a .bytes)
+    after d e =
+        let q : a″ .used ≡ a′ .used + d = omega (arith, e) in
+        rw q (sym (drop-drop d (a′ .used) (a′ .bytes)) ∙ ap (drop d) (k .past) ∙ drop-drop d (a′ .used) (a .bytes))
+
+-- ---- the events
+
+-- what an area holds doesn't turn on what was lent
+pub holds-written : {es : List Event} {used : ℕ} {lent area : List ℕ} → Holds es used lent area → Written es used area
+holds-written {es} {used} {lent} {area} h = record {
+  wrote = record {
+    bytes = h .wrote .bytes ∙ ap (λ (l : List ℕ). encodeAll es ++ l) (sym (wrote-rest (h .wrote)));
+    end = h .wrote .end;
+    room = omega (arith, h .wrote .room, wrote-length (h .wrote));
+  };
+}
+
+-- one more was written
+pub written-more : (e : Event) {es : List Event} {used used′ : ℕ} {area area′ : List ℕ} → Written es used area → Wrote (encode e) used used′ area area′ → Written (snoc es e) used′ area′
+written-more e h w = holds-written (adds-adds h (adds-one e w))
+
+-- ---- one edge
+
+-- the same air, the same length
+shared-fits : (b : Board) (r a : ℕ) (x : Float) (gas : List Float) → Fits b gas → mixOf b r < mixtureCount b → mixOf b a < mixtureCount b → length (shared b r a x gas) ≡ length gas
+shared-fits b r a x gas f h l = go (eqb (mixOf b r) (mixOf b a))
+  where
+    go : (t : Bool) → length (cond t gas (moveAir b (mixOf b r) (mixOf b a) x gas)) ≡ length gas
+    go true = refl
+    go false = move-fits b (mixOf b r) (mixOf b a) x h l gas f ∙ sym f
+
+module _ (b : Board) (words : List ℕ) (z r k : ℕ) (a a′ : Areas) (ready : Ready b words (a .gas) (a .floats)) (row : r < turfCount b) (i : InRow (b .starts) r k) (below : k < linkCount b)
+    (x : Float)
+    (s : Sends r k (end b k) z (a .used) (a′ .used) x (b .ids) (b .mixtures) (b .immutable) words (b .gases) (linkCount b) (a .gas) (a′ .gas) (a .floats) (a′ .floats) (a .bytes) (a′ .bytes)) where
+  abbrev back : Spot
+  back = backLink (reverseIn (linkCount b) words) (ownerIn (linkCount b) words) z k
+
+  back-in : Found (λ j. j < linkCount b) back
+  back-in = back-below (linkCount b) k z words below
+      (subst (λ (p : ℕ). p ≤ linkCount b) (sym (reverse-at (linkCount b) k words below)) (reverse-within b (turfCount b) (ready .linked) (ownerIn (linkCount b) words) z (reverseIn (linkCount b) words) (ready .reverse) r k row i))
+
+  pub sent-kept : Kept b a a′
+  sent-kept = record {
+    gas = ap length (s .air b refl refl refl) ∙ shared-fits b r (end b k) x (a .gas) (ready .board .fits) (ready .board .mixed r) (ready .board .mixed (end b k));
+    floats = ap length (s .weights) ∙ alter-length back (λ y. 0f) (a .floats);
+    bytes = wrote-length (s .event);
+    rest = altered-others b back (a .floats) (a′ .floats) back-in (s .weights);
+    grown = omega (arith, s .event .end);
+    past = wrote-rest (s .event);
+  }
+
+  pub sent-lifted : liftedIn b (a′ .floats) ≡ liftedIn b (a .floats)
+  sent-lifted = altered-lifted b back (a .floats) (a′ .floats) back-in (s .weights)
+
+  pub sent-weight : weightIn b (a′ .floats) ≡ alter back (λ y. 0f) (weightIn b (a .floats))
+  sent-weight = altered-weight b back (a .floats) (a′ .floats) back-in (s .weights)
+
+  pub sent-used : a′ .used ≡ a .used + 20
+  sent-used = rw pressure-size at (s .event .end)
+
+  pub sent-shows : (h : Held) → Shows b a h → Shows b a′ (sendHeld b (ownerIn (linkCount b) words) z r k x h)
+  unfolding send
+  sent-shows h v = record {
+    gas = s .air b refl refl refl ∙ ap (shared b r (end b k) x) (v .gas);
+    weight = sent-weight ∙ ap₂ (λ (o : Spot) (w : List Float). alter o (λ y. 0f) w)
+        (sym (edge-back b (turfCount b) (ready .linked) (ownerIn (linkCount b) words) z (reverseIn (linkCount b) words) (ready .reverse) r k row i)) (v .weight);
+    lifted = sent-lifted ∙ v .lifted;
+    events = written-more (Pressure z x (idOf b r) (idOf b (end b k))) (v .events) (s .event);
+  }

@@ -1,0 +1,82 @@
+-- How the lent areas hold what finishing changes, and what a function of finishing promises of them.
+use mathlib.Core.Path.{_≡_}
+use mathlib.Core.List.{List, [], _∷_}
+use Prim.Native.Nat.{ℕ, _+_, _≤_}
+use lib.ListN.{length, take, drop, replicate}
+use lib.Ieee.{Float}
+use Rattle.basics.specs.Regions.{region}
+use Rattle.turfs.specs.Board.{Board, turfCount, linkCount}
+use Rattle.turfs.specs.Tables.{board}
+use Rattle.turfs.proofs.Accepted.{Accepted}
+use Rattle.events.specs.Area.{Holds}
+use Rattle.events.specs.declared.Event.{Event}
+use Rattle.reverse_links.specs.Reverse.{Linked, Reverses}
+use Rattle.finalize_eq.proofs.Slices.{Held}
+
+-- the tables that finishing looks at
+abbrev pub ground : List ℕ → List ℕ → List ℕ → List ℕ → List ℕ → ℕ → Board
+ground ids mixtures starts neighbours immutable gases =
+    board ids (replicate (length ids) 0) (replicate (length ids) 0) mixtures starts neighbours (replicate (length neighbours) 0) immutable gases
+
+-- the first `used` bytes of the area are these events
+abbrev pub Written : List Event → ℕ → List ℕ → Type 0
+Written es used area = Holds es used area area
+
+-- everything that finishing may change, before or after a function
+pub record Areas : Type 0 where
+  pub gas : List Float
+  pub floats : List Float
+  pub bytes : List ℕ
+  pub used : ℕ
+
+abbrev pub areas : List Float → List Float → List ℕ → ℕ → Areas
+areas gas floats bytes used = record { gas = gas; floats = floats; bytes = bytes; used = used }
+
+-- words: by link, the zone that owns it and its reverse
+abbrev pub ownerIn : ℕ → List ℕ → List ℕ
+ownerIn e words = take e words
+
+abbrev pub reverseIn : ℕ → List ℕ → List ℕ
+reverseIn e words = take e (drop e words)
+
+-- floats: by link the weight, two arrays by row, by link the lifted weight
+abbrev pub fsizes : ℕ → ℕ → List ℕ
+fsizes n e = e ∷ n ∷ n ∷ e ∷ []
+
+-- where the lifted weights start
+abbrev pub liftedAt : Board → ℕ
+liftedAt b = linkCount b + turfCount b + turfCount b
+
+abbrev pub weightIn : Board → List Float → List Float
+weightIn b f = region (fsizes (turfCount b) (linkCount b)) 0 f
+
+abbrev pub liftedIn : Board → List Float → List Float
+liftedIn b f = region (fsizes (turfCount b) (linkCount b)) 3 f
+
+-- the floats that finishing leaves as they are
+unfoldable pub others : Board → List Float → List (List Float)
+others b f = region (fsizes (turfCount b) (linkCount b)) 1 f ∷ region (fsizes (turfCount b) (linkCount b)) 2 f ∷ region (fsizes (turfCount b) (linkCount b)) 4 f ∷ []
+
+-- the areas hold the state h
+pub record Shows (b : Board) (a : Areas) (h : Held) : Type 0 where
+  pub gas : a .gas ≡ h .done .gas
+  pub weight : weightIn b (a .floats) ≡ h .done .weight
+  pub lifted : liftedIn b (a .floats) ≡ h .lifted
+  pub events : Written (h .done .events) (a .used) (a .bytes)
+
+-- what a function of finishing may rely on: a board that isn't refused, the reverse of each link, room for the arrays
+pub record Ready (b : Board) (ws : List ℕ) (gas fs : List Float) : Type 0 where
+  pub board : Accepted b (length gas)
+  pub linked : Linked (turfCount b) (b .starts) (b .neighbours)
+  pub reverse : Reverses b (turfCount b) (reverseIn (linkCount b) ws)
+  pub words : linkCount b + linkCount b ≤ length ws
+  pub floats : liftedAt b + linkCount b ≤ length fs
+
+-- what finishing leaves as it was
+pub record Kept (b : Board) (a a′ : Areas) : Type 0 where
+  pub gas : length (a′ .gas) ≡ length (a .gas)
+  pub floats : length (a′ .floats) ≡ length (a .floats)
+  pub bytes : length (a′ .bytes) ≡ length (a .bytes)
+  pub rest : others b (a′ .floats) ≡ others b (a .floats)
+  pub grown : a .used ≤ a′ .used
+  pub past : drop (a′ .used) (a′ .bytes) ≡ drop (a′ .used) (a .bytes)

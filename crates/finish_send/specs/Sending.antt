@@ -1,0 +1,112 @@
+-- A turf's edges one by one, as the code goes through them.
+use mathlib.Core.Path.{_≡_}
+use mathlib.Core.List.{List}
+use mathlib.Core.Bool.{Bool, true, false, _&&_}
+use Prim.Native.Nat.{ℕ, _+_, _*_, _-_, _≤_, _<_}
+use lib.Dec.{eqb}
+use lib.ListN.{length, getD, set}
+use lib.Ieee.{Float, nan, lt}
+use Rattle.basics.specs.Loops.{run, upFrom, if_then_else_}
+use Rattle.basics.specs.Floats.{0f}
+use Rattle.basics.proofs.Lists.{count}
+use Rattle.turfs.specs.Board.{Board, turfCount, linkCount, mixOf}
+use Rattle.mixture.specs.Mixture.{total, moveAir}
+use Rattle.events.specs.Events.{encode}
+use Rattle.events.specs.Area.{Wrote}
+use Rattle.events.specs.declared.Event.the-variants.{Pressure}
+use Rattle.process_zone.specs.Edges.{alter, owned}
+use Rattle.plan_state.specs.Steps.{backLink}
+use Rattle.finalize_eq.proofs.Slices.{Held, sendHeld, giversHeld}
+use Rattle.finalize_eq.proofs.Weights.{above, pending}
+use Rattle.finish_send.specs.Areas.{Areas, Shows, Ready, Kept, ownerIn, reverseIn, weightIn, liftedIn, liftedAt}
+
+-- above 0, or below it
+abbrev pub sideOf : Bool → Float → Bool
+sideOf up x = if up then lt 0f x else lt x 0f
+
+-- zone z owns the link j, whose float from `base` on is above 0, or below it
+abbrev pub marks : List ℕ → List Float → ℕ → ℕ → Bool → ℕ → Bool
+marks words floats z base up j = eqb (getD words j 0) (z + 1) && sideOf up (getD floats (base + j) nan)
+
+-- r is the first place from k on that passes, and `to` where none does
+pub record Next (p : ℕ → Bool) (k to r : ℕ) : Type 0 where
+  pub low : k ≤ r
+  pub high : r ≤ to
+  pub none : (j : ℕ) → k ≤ j → j < r → p j ≡ false
+  pub here : r < to → p r ≡ true
+
+-- the weight of the link k copied, where the zone owns it
+abbrev pub saveAt : List ℕ → ℕ → ℕ → ℕ → List Float → List Float
+saveAt words z up k f = if eqb (getD words k 0) (z + 1) then set f (up + k) (getD f k nan) else f
+
+-- 0 left in it
+abbrev pub zeroAt : List ℕ → ℕ → ℕ → List Float → List Float
+zeroAt words z k f = if eqb (getD words k 0) (z + 1) then set f k 0f else f
+
+-- air moves where the mixtures differ
+abbrev pub shared : Board → ℕ → ℕ → Float → List Float → List Float
+shared b r a x gas = if eqb (mixOf b r) (mixOf b a) then gas else moveAir b (mixOf b r) (mixOf b a) x gas
+
+-- ---- one edge
+
+-- what sending over the link k to the turf `to` may rely on
+pub record SendFits (row k to z used up gases : ℕ) (ids mixtures neighbours immutable words : List ℕ) (gas floats : List Float) (bytes : List ℕ) : Type 0 where
+  pub zone : z < 4096
+  pub links : length neighbours ≤ 24576
+  pub link : k < length neighbours
+  pub area : length neighbours + length neighbours ≤ length words
+  pub back : getD words (length neighbours + k) 0 ≤ length neighbours
+  pub weights : length neighbours ≤ length floats
+  pub lifted : up + k < length floats
+  pub rows : (row < length ids) × (to < length ids)
+  pub mixed : (row < length mixtures) × (to < length mixtures)
+  pub mixes : (getD mixtures row 0 < length immutable) × (getD mixtures to 0 < length immutable)
+  pub amounts : length gas ≡ length immutable * gases
+  pub room : used + 20 ≤ length bytes
+  pub positive : above (getD floats (up + k) nan) ≡ true
+
+-- the reverse weight, the air, the record
+pub record Sends (row k to z used used′ : ℕ) (x : Float) (ids mixtures immutable words : List ℕ) (gases e : ℕ) (gas gas′ floats floats′ : List Float) (bytes bytes′ : List ℕ) : Type 0 where
+  pub weights : floats′ ≡ alter (backLink (reverseIn e words) (ownerIn e words) z k) (λ y. 0f) floats
+  pub air : (b : Board) → b .mixtures ≡ mixtures → b .immutable ≡ immutable → b .gases ≡ gases → gas′ ≡ shared b row to x gas
+  pub event : Wrote (encode (Pressure z x (getD ids row 0) (getD ids to 0))) used used′ bytes bytes′
+
+-- ---- the edges of a turf
+
+module _ (b : Board) (owner : List ℕ) (z : ℕ) where
+  -- One link of the turf r: a lifted weight above 0 is sent, where the zone owns the link. With `stop` the givers are finished first where the turf is short.
+  unfoldable pub pairAs : Bool → (ℕ → Held → Held) → ℕ → ℕ → Held → Held
+  pairAs stop f r k h =
+      let x = getD (h .lifted) k nan in
+      let short = stop && lt (total b (h .done .gas) r) x in
+      if owned b owner z k && above x then sendHeld b owner z r k x (if short then giversHeld b owner z f r h else h) else h
+
+-- how many links from k up to `to` have something to send
+unfoldable pub toSend : Board → List ℕ → List Float → ℕ → ℕ → ℕ → ℕ
+toSend b words floats z k to = count (marks words floats z (liftedAt b) true) (upFrom k (to - k))
+
+-- the turf r, its links from `from` up to `to`
+pub record Going (b : Board) (words : List ℕ) (z r from to : ℕ) (a : Areas) : Type 0 where
+  pub ready : Ready b words (a .gas) (a .floats)
+  pub zone : z < 4096
+  pub row : r < turfCount b
+  pub low : getD (b .starts) r 0 ≤ from
+  pub order : from ≤ to
+  pub high : to ≤ getD (b .starts) (r + 1) 0
+  pub room : a .used + 20 * pending (weightIn b (a .floats)) + 20 * toSend b words (a .floats) z from to ≤ length (a .bytes)
+
+-- all links of the turf r from `from` up to `at` were gone through
+pub record Progress (b : Board) (words : List ℕ) (stop : Bool) (z r from to at : ℕ) (a a′ : Areas) : Type 0 where
+  pub kept : Kept b a a′
+  pub low : from ≤ at
+  pub high : at ≤ to
+  pub lifted : liftedIn b (a′ .floats) ≡ liftedIn b (a .floats)
+  pub fewer : pending (weightIn b (a′ .floats)) ≤ pending (weightIn b (a .floats))
+  pub room : a′ .used + 20 * toSend b words (a′ .floats) z at to ≤ a .used + 20 * toSend b words (a .floats) z from to
+  pub shows : (f : ℕ → Held → Held) (h : Held) → Shows b a h → Shows b a′ (run (pairAs b (ownerIn (linkCount b) words) z stop f r) (upFrom from (at - from)) h)
+
+-- and there the turf is short, or the links are at their end
+pub record SentTo (b : Board) (words : List ℕ) (stop : Bool) (z r from to at : ℕ) (a a′ : Areas) : Type 0 where
+  pub made : Progress b words stop z r from to at a a′
+  pub whole : stop ≡ false → at ≡ to
+  pub short : at < to → (marks words (a′ .floats) z (liftedAt b) true at ≡ true) × (lt (total b (a′ .gas) r) (getD (a′ .floats) (liftedAt b + at) nan) ≡ true)
