@@ -227,6 +227,7 @@ module _ {b : Board} {m : ℕ} (h : Accepted b m) (gas : List Float) (q : Ask) (
           words = rw (d .long) (B .fit .words);
           floats = st .floats;
           zones = st .zones;
+          first = rw starts-same (st .first);
           last = rw starts-same (st .last);
           rise = rw starts-same (st .rise);
           below = rw starts-same (st .below);
@@ -352,6 +353,7 @@ module _ {b : Board} {m : ℕ} (h : Accepted b m) (gas : List Float) (q : Ask) (
           words = rw (length-set w₁ (startsAt n e + s .zones + 1) v) (B .fit .words);
           floats = rw (length-set f (molesAt n e + s .zones) (t .moles)) (st .floats);
           zones = omega (arith, one-zone);
+          first = now 0 ∙ start-old 0 (omega arith) ∙ st .first;
           last = now (s .zones + 1) ∙ start-new;
           rise = λ i l. rise i l (decLt i (s .zones));
           below = λ i l. rw (now i) (below i l (decLt (s .zones) i));

@@ -168,6 +168,7 @@ module _ {b : Board} {m : ℕ} (h : Accepted b m) (w w₁ : List ℕ) (f : List 
     words = rw len long;
     floats = flong;
     zones = omega arith;
+    first = first-start;
     last = first-start;
     rise = λ i l. absurd (omega arith);
     below = λ i l. let z : i ≡ 0 = omega arith in rw (z, first-start) (omega arith);

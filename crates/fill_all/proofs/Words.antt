@@ -53,7 +53,8 @@ module _ {n e : ℕ} {all : Filled} {r : Filling} {w w′ : List ℕ} {f f′ : 
   pub nodes-few : r .nodes ≤ n + e
   nodes-few = omega (arith, d .stored .nodes, d .stored .zones)
 
-  zones-are : all .zones ≡ map (zoneIn (startsIn n e w′) (region (sizes n e) 12 w′) (region (rsizes n e) 4 f′)) (upFrom 0 (r .zones))
+  -- they are the zones that planning looks at
+  pub zones-are : all .zones ≡ map (zoneIn (startsIn n e w′) (region (sizes n e) 12 w′) (region (rsizes n e) 4 f′)) (upFrom 0 (r .zones))
   unfolding view
   zones-are = sym (ap (λ (v : View). v .filled .zones) (d .same))
 

@@ -107,6 +107,7 @@ pub record Stored (n e : ℕ) (s : Filling) (w : List ℕ) (f : List Float) : Ty
   pub words : nodesAt n e + n + e + n ≤ length w
   pub floats : molesAt n e + n ≤ length f
   pub zones : s .zones ≤ n
+  pub first : getD (startsIn n e w) 0 0 ≡ 0
   pub last : getD (startsIn n e w) (s .zones) 0 ≡ s .nodes
   pub rise : (i : ℕ) → i < s .zones → getD (startsIn n e w) i 0 ≤ getD (startsIn n e w) (i + 1) 0
   pub below : (i : ℕ) → i ≤ s .zones → getD (startsIn n e w) i 0 ≤ s .nodes

@@ -1,0 +1,157 @@
+// `equalize` as a whole call: refusals, filling, planning, finishing by turns, the answer. Its definition is `equalizeResult` of crate equalize.
+use equalize::EqualizeAnswer;
+use fill_all::Filling;
+ghost use mathlib.Core.Path.{_≡_};
+ghost use Rattle.turfs.specs.Tables.{board};
+ghost use Rattle.lent.specs.Lent.{Lent};
+ghost use Rattle.lent.specs.Given.{lent};
+ghost use Rattle.equalize.specs.Equalize.{Ask, bit, fillAll, played, equalize};
+ghost use Rattle.equalize_call.specs.Parts.{cancelledAt, Fills, Filled, Comes};
+
+// What the parts came to.
+pub struct Outcome {
+    pub cancelled: u32,
+    pub processed: usize,
+    pub tests: usize,
+    pub zones: usize,
+    pub apart: u32,
+    pub used: usize,
+}
+
+// A mark as a number.
+fn bit(mark: bool) -> u32
+    ensures { λ r. ⌜ r ≡ bit mark ⌝ }
+{
+    if mark { 1 } else { 0 }
+}
+
+// A call that is cancelled: gas unchanged, requests written stay.
+fn cancel(processed: usize, tests: usize, used: usize) -> Outcome
+    ensures { λ r. ⌜ r ≡ cancelledAt processed tests used ⌝ }
+{
+    Outcome {
+        cancelled: 1,
+        processed,
+        tests,
+        zones: 0,
+        apart: 0,
+        used,
+    }
+}
+
+// Not cancelled: every zone is planned, and finished by turns.
+fn play(
+    s: Filling,
+    turns: &[u32],
+    ids: &[u32],
+    flags: &[u8],
+    planetary: &[u8],
+    mixtures: &[u32],
+    starts: &[u32],
+    neighbours: &[u32],
+    link_flags: &[u8],
+    immutable: &[u8],
+    gases: usize,
+    amounts: &mut [f32],
+    events: &mut [u8],
+    words: &mut [u32],
+    floats: &mut [f32],
+) -> Outcome
+    requires { ⌜ Filled (board (now ids) (now flags) (now planetary) (now mixtures) (now starts) (now neighbours) (now «link_flags») (now immutable) gases) s (lent (now amounts) (now events) (now words) (now floats)) ⌝ }
+    ensures { λ r. ⌜ ((q : Ask) (l : Lent) → Fills (board (now (ids .entry)) (now (flags .entry)) (now (planetary .entry)) (now (mixtures .entry)) (now (starts .entry)) (now (neighbours .entry)) (now («link_flags» .entry)) (now (immutable .entry)) gases) q s l (lent (now (amounts .entry)) (now (events .entry)) (now (words .entry)) (now (floats .entry))) → Comes (board (now (ids .entry)) (now (flags .entry)) (now (planetary .entry)) (now (mixtures .entry)) (now (starts .entry)) (now (neighbours .entry)) (now («link_flags» .entry)) (now (immutable .entry)) gases) (played (board (now (ids .entry)) (now (flags .entry)) (now (planetary .entry)) (now (mixtures .entry)) (now (starts .entry)) (now (neighbours .entry)) (now («link_flags» .entry)) (now (immutable .entry)) gases) (l .gas) q (now (turns .entry)) (fillAll (board (now (ids .entry)) (now (flags .entry)) (now (planetary .entry)) (now (mixtures .entry)) (now (starts .entry)) (now (neighbours .entry)) (now («link_flags» .entry)) (now (immutable .entry)) gases) (l .gas) q)) r l (lent (now (amounts .exit)) (now (events .exit)) (now (words .exit)) (now (floats .exit)))) ⌝ }
+{
+    let n = ids.len();
+    let e = neighbours.len();
+    let nodes = flood_fill::nodes_at(n, e);
+    let marks = nodes + n + e;
+    let work = marks + immutable.len();
+    plan_all::plan_all(
+        s.zones,
+        mixtures,
+        gases,
+        amounts,
+        starts,
+        neighbours,
+        n,
+        e,
+        work,
+        words,
+        floats,
+    );
+    let first = flood_fill::starts_at(n, e);
+    let apart = apart::apart(s.zones, first, nodes, marks, mixtures, immutable, words);
+    let used = finish_turns::finish_all(
+        s.zones,
+        turns,
+        s.used,
+        gases,
+        ids,
+        mixtures,
+        starts,
+        neighbours,
+        immutable,
+        words,
+        amounts,
+        floats,
+        events,
+    );
+    Outcome {
+        cancelled: 0,
+        processed: s.nodes,
+        tests: s.tests + 2,
+        zones: s.zones,
+        apart: bit(apart),
+        used,
+    }
+}
+
+// After filling, the two later clock tests. Planning leaves nothing of which a cancelled call keeps anything, so the last test comes before it.
+fn timed(
+    s: Filling,
+    turns: &[u32],
+    allowance: u32,
+    ids: &[u32],
+    flags: &[u8],
+    planetary: &[u8],
+    mixtures: &[u32],
+    starts: &[u32],
+    neighbours: &[u32],
+    link_flags: &[u8],
+    immutable: &[u8],
+    gases: usize,
+    amounts: &mut [f32],
+    events: &mut [u8],
+    words: &mut [u32],
+    floats: &mut [f32],
+) -> Outcome
+    requires { ⌜ Filled (board (now ids) (now flags) (now planetary) (now mixtures) (now starts) (now neighbours) (now «link_flags») (now immutable) gases) s (lent (now amounts) (now events) (now words) (now floats)) ⌝ }
+    ensures { λ r. ⌜ ((q : Ask) (l : Lent) → q .allowance ≡ allowance → Fills (board (now (ids .entry)) (now (flags .entry)) (now (planetary .entry)) (now (mixtures .entry)) (now (starts .entry)) (now (neighbours .entry)) (now («link_flags» .entry)) (now (immutable .entry)) gases) q s l (lent (now (amounts .entry)) (now (events .entry)) (now (words .entry)) (now (floats .entry))) → Comes (board (now (ids .entry)) (now (flags .entry)) (now (planetary .entry)) (now (mixtures .entry)) (now (starts .entry)) (now (neighbours .entry)) (now («link_flags» .entry)) (now (immutable .entry)) gases) (equalize (board (now (ids .entry)) (now (flags .entry)) (now (planetary .entry)) (now (mixtures .entry)) (now (starts .entry)) (now (neighbours .entry)) (now («link_flags» .entry)) (now (immutable .entry)) gases) (l .gas) q (now (turns .entry))) r l (lent (now (amounts .exit)) (now (events .exit)) (now (words .exit)) (now (floats .exit)))) ⌝ }
+{
+    let tests = s.tests;
+    if s.cancelled {
+        return cancel(0, tests, s.used);
+    }
+    if tests + 1 > allowance as usize {
+        return cancel(0, tests + 1, s.used);
+    }
+    if tests + 2 > allowance as usize {
+        return cancel(s.nodes, tests + 2, s.used);
+    }
+    play(
+        s,
+        turns,
+        ids,
+        flags,
+        planetary,
+        mixtures,
+        starts,
+        neighbours,
+        link_flags,
+        immutable,
+        gases,
+        amounts,
+        events,
+        words,
+        floats,
+    )
+}
