@@ -1,39 +1,36 @@
 -- What a fill leaves of what filling has come to: a kept zone stands after those before it, an ignored one gave back what it took. Assumes nothing.
-use Prim.Native.Nat.{ℕ, zero, suc, _+_, _-_, _*_, _≤_, _<_}
+use Prim.Native.Nat.{ℕ, zero, suc, _+_, _-_, _≤_, _<_}
 use native.Mathlib.Omega.{arith}
 use native.Mathlib.Numerals.{add-one}
 use native.Mathlib.Decide.{decLt}
 use mathlib.Core.Path.{_≡_, refl, ap, ap₂, _∙_, sym, subst}
-use mathlib.Core.Logic.{_≢_}
 use mathlib.Core.List.{List, [], _∷_, _++_, map}
-use mathlib.Core.Bool.{Bool, true, false, not, _&&_, _||_, cond}
-use lib.Dec.{eqb}
+use mathlib.Core.Bool.{Bool, true, false, cond}
 use lib.Ieee.{Float, nan}
-use lib.ListN.{length, getD, set, take, drop, length-set, length-append, List·getD-append}
-use lib.Seq.{getD-set-same, getD-set-other, take-take, take-add, drop-append-le, take-append-le, length-take-le}
+use lib.ListN.{length, getD, set, take, drop, length-set}
+use lib.Seq.{getD-set-same, getD-set-other, length-take-le}
 use Rattle.basics.specs.Loops.{run, upFrom, snoc}
 use Rattle.basics.specs.Regions.{cut, region}
 use Rattle.basics.proofs.Loops.{All, All-imp, All-getD, map-like}
 use Rattle.basics.proofs.Lists.{upFrom-below, upFrom-length, map-append}
 use Rattle.basics.proofs.Regions.{cut-set, cut-length}
 use Rattle.basics.specs.declared.Spot.the-variants.{At}
-use Rattle.turfs.specs.Board.{Board, turfCount, linkCount, enabled, linksOf}
-use Rattle.turfs.proofs.Accepted.{Accepted, source}
+use Rattle.turfs.specs.Board.{Board, turfCount, linkCount}
+use Rattle.turfs.proofs.Accepted.{Accepted}
 use Rattle.events.specs.declared.Event.{Event}
-use Rattle.events.proofs.Areas.{wrote-length}
-use Rattle.flood_fill.specs.Fill.{Reach, Fill, isOver, fill}
-use Rattle.flood_fill.specs.Held.{sizes, startsAt, nodesAt, Sizes, Still, Does, zeros}
+use Rattle.flood_fill.specs.Fill.{Fill, isOver, fill}
+use Rattle.flood_fill.specs.Held.{sizes, startsAt, nodesAt, Sizes, zeros}
 use Rattle.flood_fill.specs.Held as link
 use Rattle.flood_fill.proofs.Does.{does-plain}
 use Rattle.flood_fill.proofs.Bounds.{zeros-some}
 use Rattle.flood_fill.proofs.Stores.{found-long, owner-long}
 use Rattle.flood_fill.proofs.Links.{nodes-length}
-use Rattle.fill_zone.specs.Held.{FillView, fillView, none, Begins, Ready}
+use Rattle.fill_zone.specs.Held.{FillView, fillView, Begins, Ready}
 use Rattle.fill_zone.specs.declared.Flood.{Flood}
 use Rattle.fill_zone.proofs.Boards.{parts}
 use Rattle.finalize_eq.specs.Turns.{Zone}
 use Rattle.equalize.specs.Equalize.{Ask, Filled, afterFill, passedOver, fillFrom, hotRow}
-use Rattle.fill_all.specs.Held.{rsizes, molesAt, zoneIn, Around, View, viewIn, view, onFilled, startsIn, Stored, Open, Fills, giveBack, pushed, GaveBack, Keeps, Drops}
+use Rattle.fill_all.specs.Held.{rsizes, molesAt, zoneIn, viewIn, view, onFilled, startsIn, Stored, Open, Fills, giveBack, pushed, Keeps, Drops}
 use Rattle.fill_all.specs.declared.Filling.{Filling}
 use Rattle.fill_all.proofs.Back.{given-back}
 

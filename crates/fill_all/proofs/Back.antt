@@ -2,27 +2,25 @@
 -- Assumes nothing.
 use Prim.Native.Nat.{ℕ, zero, suc, _+_, _-_, _≤_, _<_}
 use native.Mathlib.Omega.{arith}
-use native.Mathlib.Decide.{ℕ-discrete, decLt, decLe}
+use native.Mathlib.Decide.{ℕ-discrete, decLt}
 use mathlib.Core.Path.{_≡_, refl, ap, _∙_, sym, subst}
-use mathlib.Core.Logic.{_≢_, _⊎_, inl, inr}
-use mathlib.Core.List.{List, [], _∷_, _++_}
-use mathlib.Core.Bool.{Bool, true, false, not, _&&_, _||_, cond}
+use mathlib.Core.Logic.{_⊎_, inl, inr}
+use mathlib.Core.List.{List, [], _∷_}
+use mathlib.Core.Bool.{Bool, true, false, _&&_, _||_, cond}
 use lib.Dec.{T, eqb, ltb, leb}
 use lib.Ieee.{Float}
 use lib.ListN.{length, getD, set, replicate, length-set, length-replicate}
 use lib.Seq.{sets, length-sets, getD-set-same, getD-set-other, ext-getD}
 use borrow.Author.Tests.{eqb-true, lt-ltb, le-ltb, le-leb, lt-leb, leb-true, ltb-true}
 use Rattle.basics.specs.Loops.{run, member, snoc}
-use Rattle.basics.proofs.Loops.{All, All-imp, All-getD, run-append, and-left, and-right}
-use Rattle.basics.proofs.Lists.{All-snoc, or-left, or-right, or-cases, members, member-has, upFrom-below}
-use Rattle.basics.proofs.Tests.{differ}
+use Rattle.basics.proofs.Loops.{All, All-imp, and-left, and-right}
+use Rattle.basics.proofs.Lists.{All-snoc, or-left, or-right, or-cases, member-has}
 use Rattle.turfs.specs.Board.{Board, turfCount, linkCount, end, enabled, linksOf}
-use Rattle.turfs.specs.Tables.{Parts}
 use Rattle.turfs.proofs.Accepted.{Accepted, source, links-in}
 use Rattle.events.specs.declared.Event.{Event}
-use Rattle.flood_fill.specs.Fill.{Reach, Fill, reachLink, fill}
+use Rattle.flood_fill.specs.Fill.{Reach, reachLink, fill}
 use Rattle.flood_fill.proofs.Counts.{was-new}
-use Rattle.flood_fill.proofs.Steps.{startReach, Keeps, fill-keeps}
+use Rattle.flood_fill.proofs.Steps.{Keeps, fill-keeps}
 use Rattle.fill_zone.proofs.Boards.{parts, source-is}
 use Rattle.fill_all.specs.Held.{giveBack}
 

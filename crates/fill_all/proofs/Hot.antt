@@ -1,17 +1,17 @@
 -- A hot turf: passed over, or a zone is filled from it; and hot ids one after the other. Where filling stands the laws of the definition hold, so each fill has what it
 -- asks. Assumes nothing.
-use Prim.Native.Nat.{ℕ, zero, suc, _+_, _-_, _*_, _≤_, _<_}
+use Prim.Native.Nat.{ℕ, _+_, _<_}
 use native.Mathlib.Omega.{arith}
-use mathlib.Core.Path.{_≡_, refl, ap, ap₂, _∙_, sym, subst}
-use mathlib.Core.List.{List, [], _∷_, _++_}
-use mathlib.Core.Bool.{Bool, true, false, not, _||_, cond}
+use mathlib.Core.Path.{_≡_, refl, ap, _∙_, sym, subst}
+use mathlib.Core.List.{List}
+use mathlib.Core.Bool.{Bool, true, false, _||_, cond}
 use lib.Dec.{eqb}
 use lib.Ieee.{Float, lt}
-use lib.ListN.{length, getD, set, take}
+use lib.ListN.{length, getD}
 use borrow.Author.Tests.{eq-eqb, ne-eqb}
-use Rattle.basics.specs.Loops.{run, every}
+use Rattle.basics.specs.Loops.{every}
 use Rattle.basics.specs.Floats.{finiteSignClear}
-use Rattle.basics.specs.Regions.{cut, region}
+use Rattle.basics.specs.Regions.{region}
 use Rattle.basics.specs.declared.Spot.{Spot}
 use Rattle.basics.specs.declared.Spot.the-variants.{At, Nowhere}
 use Rattle.basics.proofs.Loops.{Found}
@@ -20,7 +20,6 @@ use Rattle.turfs.specs.Tables.{Parts}
 use Rattle.turfs.proofs.Accepted.{Accepted, row-below}
 use Rattle.mixture.specs.Mixture.{total}
 use Rattle.mixture.specs.Moves.{Holds}
-use Rattle.events.specs.declared.Event.{Event}
 use Rattle.flood_fill.specs.Fill.{fill}
 use Rattle.flood_fill.specs.Held.{sizes, foundAt}
 use Rattle.flood_fill.proofs.Does.{does-as}

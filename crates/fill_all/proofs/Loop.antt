@@ -1,14 +1,13 @@
 -- The hot ids one after the other: where filling stands is where the definition stands on the hot ids so far, whose laws give each fill what it asks. Assumes nothing.
-use Prim.Native.Nat.{ℕ, zero, suc, _+_, _-_, _*_, _≤_, _<_}
+use Prim.Native.Nat.{ℕ, _+_, _*_, _≤_, _<_}
 use native.Mathlib.Omega.{arith}
 use native.Mathlib.Numerals.{add-one}
-use native.Mathlib.Nat.{zero-add}
 use mathlib.Core.Path.{_≡_, refl, ap, ap₂, _∙_, sym, subst}
-use mathlib.Core.List.{List, [], _∷_, _++_, map}
-use mathlib.Core.Bool.{Bool, true, false, not, cond}
+use mathlib.Core.List.{List, [], _∷_, map}
+use mathlib.Core.Bool.{Bool, true, false, not}
 use lib.Dec.{eqb}
 use lib.Ieee.{Float}
-use lib.ListN.{length, getD, set, take, drop, replicate, take-append-drop, length-replicate}
+use lib.ListN.{length, getD, set, take, drop, take-append-drop, length-replicate}
 use lib.Seq.{take-suc, take-all, getD-set-same}
 use Rattle.basics.specs.Loops.{run, upFrom}
 use Rattle.basics.specs.Regions.{cut, region}
@@ -16,20 +15,20 @@ use Rattle.basics.proofs.Loops.{run-append}
 use Rattle.basics.proofs.Lists.{one, count, upFrom-length}
 use Rattle.basics.proofs.Regions.{cut-length}
 use Rattle.turfs.specs.Board.{Board, turfCount, linkCount}
-use Rattle.turfs.proofs.Accepted.{Accepted, source}
+use Rattle.turfs.proofs.Accepted.{Accepted}
 use Rattle.events.specs.Events.{encodeAll}
 use Rattle.events.specs.Area.{Wrote}
 use Rattle.events.specs.declared.Event.{Event}
 use Rattle.events.proofs.Areas.{wrote-length}
 use Rattle.events.proofs.Sizes.{requests-size}
-use Rattle.flood_fill.specs.Held.{sizes, nodesAt, Sizes, zeros, Does}
+use Rattle.flood_fill.specs.Held.{sizes, nodesAt, zeros}
 use Rattle.flood_fill.proofs.Does.{does-plain, does-then, does-as}
 use Rattle.flood_fill.proofs.Bounds.{zeros-most}
-use Rattle.flood_fill.proofs.Counts.{isMark, marked}
+use Rattle.flood_fill.proofs.Counts.{marked}
 use Rattle.equalize.specs.Equalize.{Ask, Filled, near, passedOver, fillFrom, hotRow, hotId, fillAll}
 use Rattle.equalize.proofs.Hot.{startFilled}
 use Rattle.equalize.proofs.Zones.{Zoned, zoned}
-use Rattle.fill_all.specs.Held.{ask, rsizes, molesAt, zoneIn, View, viewIn, view, aroundIn, onFilled, startsIn, Stored, Open, Fills, start, Begun, Cleared, FillsAll}
+use Rattle.fill_all.specs.Held.{ask, rsizes, molesAt, zoneIn, View, view, aroundIn, onFilled, startsIn, Stored, Open, Fills, start, Begun, Cleared, FillsAll}
 use Rattle.fill_all.specs.declared.Filling.{Filling}
 use Rattle.fill_all.proofs.After.{map-length}
 

@@ -1,9 +1,8 @@
 -- Stores in the work areas: links without owner, the rows of a queue one after the other, the start, a kept zone. Assumes nothing.
-use Prim.Native.Nat.{ℕ, zero, suc, _+_, _-_, _≤_, _<_}
+use Prim.Native.Nat.{ℕ, suc, _+_, _-_, _≤_, _<_}
 use native.Mathlib.Omega.{arith}
 use native.Mathlib.Numerals.{add-one}
-use native.Mathlib.Nat.{add-zero}
-use mathlib.Core.Path.{_≡_, refl, ap, ap₂, _∙_, sym, subst}
+use mathlib.Core.Path.{_≡_, refl, ap, ap₂, _∙_, sym}
 use mathlib.Core.List.{List, [], _∷_, _++_, append-nil, append-assoc}
 use lib.ListN.{length, getD, set, take, drop, replicate, length-set, length-replicate, length-take, length-drop, drop-of-length-le}
 use lib.Seq.{sets, sets-eq, length-sets, length-take-le, drop-drop, getD-take, take-suc}
@@ -13,7 +12,7 @@ use Rattle.basics.proofs.Loops.{run-append}
 use Rattle.basics.proofs.Regions.{cut-set, cut-get, cut-part}
 use Rattle.flood_fill.specs.Held.{sizes, queueAt, foundAt, startsAt, nodesAt}
 use Rattle.flood_fill.proofs.Stores.{queue-long}
-use Rattle.fill_all.specs.Held.{giveBack, pushed, GaveBack, startsIn, Cleared}
+use Rattle.fill_all.specs.Held.{giveBack, pushed, GaveBack, Cleared}
 
 -- the middle of a list, cleared
 emptied : (k : ℕ) (mid ys : List ℕ) → length mid ≤ k → ys ≡ replicate k 0 ++ drop k mid → ys ≡ replicate k 0

@@ -9,7 +9,7 @@ use lib.Ieee.{Float, nan}
 use lib.ListN.{length, getD, take, drop, List·getD-map, length-drop}
 use lib.Seq.{drop-drop, length-take-le}
 use Rattle.basics.specs.Loops.{upFrom}
-use Rattle.basics.specs.Regions.{cut, region, base}
+use Rattle.basics.specs.Regions.{region, base}
 use Rattle.basics.specs.Floats.{0f}
 use Rattle.basics.proofs.Lists.{upFrom-at, upFrom-length}
 use Rattle.basics.proofs.Regions.{cut-get, region-part}

@@ -5,24 +5,23 @@ use flood_fill::Going;
 use turfs::SimulationFlags;
 ghost use mathlib.Core.Path.{_≡_};
 ghost use mathlib.Core.Bool.{true, false, _||_};
-ghost use mathlib.Core.List.{List, []};
+ghost use mathlib.Core.List.{List};
 ghost use Prim.Native.Nat.{ℕ, _+_, _*_, _≤_, _<_};
 ghost use lib.Dec.{eqb};
-ghost use lib.ListN.{length, getD, replicate};
-ghost use lib.Seq.{sets};
+ghost use lib.ListN.{length, getD};
 ghost use lib.Ieee.{lt};
 ghost use Rattle.basics.specs.Loops.{run, every};
 ghost use Rattle.basics.specs.Floats.{abs, _-f_, finiteSignClear};
 ghost use Rattle.basics.specs.declared.Spot.the-variants.{At};
-ghost use Rattle.turfs.specs.Board.{Board, linksOf, rowOf};
+ghost use Rattle.turfs.specs.Board.{Board, linksOf};
 ghost use Rattle.turfs.specs.Tables.{Parts, board};
 ghost use Rattle.turfs.proofs.Accepted.{Accepted};
 ghost use Rattle.mixture.specs.Mixture.{total};
 ghost use Rattle.mixture.specs.Moves.{Holds};
 ghost use Rattle.flood_fill.specs.Fill.{isOver};
-ghost use Rattle.flood_fill.specs.Held.{nodesAt, Sizes, Fit};
+ghost use Rattle.flood_fill.specs.Held.{nodesAt, Sizes};
 ghost use Rattle.equalize.specs.Equalize.{Ask, 10f, near, hotRow, hotId, fillAll};
-ghost use Rattle.fill_all.specs.Held.{ask, molesAt, startsIn, Stored, Open, Fills, giveBack, pushed, GaveBack, Keeps, Drops, After, start, Begun, Cleared, FillsAll};
+ghost use Rattle.fill_all.specs.Held.{ask, molesAt, Stored, Open, Fills, giveBack, pushed, GaveBack, Keeps, After, start, Begun, Cleared, FillsAll};
 
 // What filling has come to: zones kept, the nodes that they have in all, clock tests, bytes of events, whether the clock ran out.
 pub struct Filling {

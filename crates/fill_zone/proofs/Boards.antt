@@ -1,17 +1,16 @@
 -- What accepted tables give the functions that read them. Assumes nothing.
 use Prim.Native.Nat.{ℕ, _+_, _-_, _*_, _≤_, _<_}
 use native.Mathlib.Omega.{arith}
-use mathlib.Core.Path.{_≡_, refl, ap, _∙_, sym, subst}
-use mathlib.Core.List.{List, []}
-use mathlib.Core.Bool.{Bool, true, false}
-use lib.Dec.{T}
+use mathlib.Core.Path.{_≡_, ap, _∙_, sym, subst}
+use mathlib.Core.List.{List}
 use lib.Ieee.{Float}
+use lib.Ieee.Bits.{is-true}
 use lib.ListN.{length, getD, take, drop, length-drop}
 use lib.Seq.{getD-take, getD-drop, length-take-le}
 use Rattle.basics.specs.Loops.{upFrom}
 use Rattle.basics.proofs.Loops.{All-getD}
 use Rattle.basics.proofs.Lists.{upFrom-at, upFrom-length}
-use Rattle.turfs.specs.Board.{Board, turfCount, linkCount, mixtureCount, mixOf, linksOf}
+use Rattle.turfs.specs.Board.{Board, turfCount, linkCount, mixOf, linksOf}
 use Rattle.turfs.specs.Tables.{Parts}
 use Rattle.turfs.proofs.Accepted.{Accepted, source, sources}
 use Rattle.turfs.proofs.Tables.{parts-of}
@@ -20,10 +19,6 @@ use Rattle.mixture.proofs.Moves.{before}
 use Rattle.flood_fill.specs.Steps.{Rows}
 use Rattle.flood_fill.specs.Held.{Part, Sizes}
 use Rattle.fill_zone.specs.Held.{Free}
-
-true-of : (t : Bool) → T t → t ≡ true
-true-of true h = refl
-true-of false h = absurd h
 
 -- the part of a list from one place to another
 abbrev pub part : List ℕ → ℕ → ℕ → List ℕ
@@ -40,7 +35,7 @@ module _ {b : Board} {m : ℕ} (h : Accepted b m) where
   sizes-of = record { turfs = h .turfs .1; links = h .links }
 
   pub parts : Parts (turfCount b) (b .starts) (b .neighbours)
-  parts = parts-of (turfCount b) (b .starts) (b .neighbours) (h .turfs .1) (h .starts) (true-of _ (h .rises)) (h .last)
+  parts = parts-of (turfCount b) (b .starts) (b .neighbours) (h .turfs .1) (h .starts) (is-true _ (h .rises)) (h .last)
 
   pub rows-of : Rows (turfCount b) (linkCount b) (b .flags) (b .planetary) (b .mixtures) (b .linkFlags) (b .immutable)
   rows-of = record { flags-n = h .flags; planetary-n = h .planets; mixtures-n = h .mixes; mixed = λ r _. h .mixed r; linkFlags-e = h .linkFlags }

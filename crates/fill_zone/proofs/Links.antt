@@ -2,15 +2,15 @@
 use Prim.Native.Nat.{ℕ, zero, suc, _+_, _-_, _≤_, _<_}
 use native.Mathlib.Omega.{arith}
 use native.Mathlib.Nat.{add-zero}
-use mathlib.Core.Path.{_≡_, refl, ap, _∙_, sym, subst}
+use mathlib.Core.Path.{_≡_, refl, ap, _∙_, sym}
 use mathlib.Core.List.{List, [], _∷_, _++_, append-nil, append-assoc}
 use mathlib.Core.Bool.{Bool, true, false, not, _&&_, _||_, cond}
 use lib.Dec.{eqb}
-use lib.ListN.{length, getD, set, take, drop}
+use lib.ListN.{length, getD, set}
 use Rattle.basics.specs.Loops.{run, upFrom, snoc}
-use Rattle.basics.proofs.Loops.{All, All-imp, run-both}
+use Rattle.basics.proofs.Loops.{All-imp, run-both}
 use Rattle.basics.proofs.Lists.{upFrom-below}
-use Rattle.turfs.specs.Board.{Board, turfCount, linkCount, idOf, end, enabled, planetary, immutable, firelock, linksOf}
+use Rattle.turfs.specs.Board.{Board, linkCount, idOf, end, enabled, planetary, immutable, firelock, linksOf}
 use Rattle.events.specs.declared.Event.{Event}
 use Rattle.events.specs.declared.Event.the-variants.{DepressurizeWanted, PlanetWanted}
 use Rattle.flood_fill.specs.Fill.{Reach, insert, reachLink}

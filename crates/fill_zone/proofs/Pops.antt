@@ -1,30 +1,30 @@
 -- One pop: a popped turf ends the fill, by the clock or at the planet limit, or its links are walked. Assumes nothing.
-use Prim.Native.Nat.{ℕ, zero, suc, _+_, _-_, _≤_, _<_}
+use Prim.Native.Nat.{ℕ, _+_, _≤_, _<_}
 use native.Mathlib.Omega.{arith}
 use mathlib.Core.Path.{_≡_, refl, ap, _∙_, sym, subst}
-use mathlib.Core.List.{List, [], _++_}
+use mathlib.Core.List.{List, []}
 use mathlib.Core.Bool.{Bool, true, false, not, _&&_, _||_, cond}
 use lib.Dec.{eqb, ltb}
 use lib.Ieee.{Float}
-use lib.ListN.{length, getD, take}
-use lib.Seq.{getD-take, length-take-le}
+use lib.ListN.{length, getD}
+use lib.Seq.{getD-take}
 use borrow.Author.Tests.{lt-ltb, le-ltb}
 use Rattle.basics.specs.Loops.{run, upFrom}
 use Rattle.basics.specs.Floats.{_+f_}
 use Rattle.basics.specs.Regions.{region}
-use Rattle.basics.proofs.Loops.{All, All-getD}
-use Rattle.turfs.specs.Board.{Board, turfCount, linkCount, idOf, planetary, linksOf}
+use Rattle.basics.proofs.Loops.{All-getD}
+use Rattle.turfs.specs.Board.{Board, turfCount, linkCount, idOf, planetary}
 use Rattle.turfs.proofs.Accepted.{Accepted}
 use Rattle.mixture.specs.Mixture.{total}
 use Rattle.events.specs.declared.Event.{Event}
-use Rattle.flood_fill.specs.Fill.{Reach, Fill, isOn, reachLink, endFill, expand, pop, popNext}
+use Rattle.flood_fill.specs.Fill.{Reach, Fill, isOn, endFill, expand, pop, popNext}
 use Rattle.flood_fill.specs.Steps.{reachPart}
 use Rattle.flood_fill.specs.Held.{sizes, queueAt, view, onReach, Fit, Bounded, Does, Reaches}
 use Rattle.flood_fill.specs.declared.Going.{Going}
 use Rattle.flood_fill.specs.declared.Going.the-variants.{On, Broken, Over}
 use Rattle.flood_fill.specs.declared.Reached.{Reached}
 use Rattle.flood_fill.proofs.Does.{does-plain, does-as}
-use Rattle.flood_fill.proofs.Stores.{queue-at, queue-long}
+use Rattle.flood_fill.proofs.Stores.{queue-at}
 use Rattle.flood_fill.proofs.Links.{queue-length, nodes-length}
 use Rattle.fill_zone.specs.Held.{FillView, fillIn, fillView, onFill, Floods}
 use Rattle.fill_zone.specs.declared.Flood.{Flood}

@@ -1,38 +1,33 @@
 -- A whole fill: its first turf, then pop after pop until there is none, or one ended it. A turf that waits in the queue has links without owner, since no other
 -- zone popped it. Assumes nothing.
-use Prim.Native.Nat.{ℕ, zero, suc, _+_, _-_, _*_, _≤_, _<_}
+use Prim.Native.Nat.{ℕ, zero, suc, _+_, _≤_, _<_}
 use native.Mathlib.Omega.{arith}
 use native.Mathlib.Numerals.{add-one}
 use native.Mathlib.Nat.{le-refl, add-zero}
 use mathlib.Core.Path.{_≡_, refl, ap, ap₂, _∙_, sym, subst}
 use mathlib.Core.List.{List, [], _∷_, _++_}
-use mathlib.Core.Bool.{Bool, true, false, _&&_, cond}
-use lib.Dec.{eqb, ltb}
+use mathlib.Core.Bool.{true, false, _&&_}
+use lib.Dec.{ltb}
 use lib.Ieee.{Float}
 use lib.ListN.{length, getD, set, length-set}
-use lib.Seq.{getD-set-same}
 use borrow.Author.Tests.{ltb-true, eq-eqb}
-use Rattle.basics.specs.Loops.{times, member, snoc}
+use Rattle.basics.specs.Loops.{times, member}
 use Rattle.basics.specs.Floats.{0f}
-use Rattle.basics.specs.Regions.{region}
 use Rattle.basics.proofs.Loops.{times-still}
-use Rattle.basics.proofs.Tests.{both}
 use Rattle.turfs.specs.Board.{Board, turfCount, linkCount}
-use Rattle.turfs.proofs.Accepted.{Accepted, source}
-use Rattle.index_set.specs.Line.{array}
+use Rattle.turfs.proofs.Accepted.{Accepted}
 use Rattle.events.specs.declared.Event.{Event}
 use Rattle.flood_fill.specs.Fill.{Reach, Fill, isOn, popNext, fill}
 use Rattle.flood_fill.specs.Steps.{mark, push}
-use Rattle.flood_fill.specs.Held.{sizes, queueAt, placesAt, foundAt, nodesAt, Sizes, View, view, onReach, Fit, Bounds, Bounded, Does, Moves, zeros}
+use Rattle.flood_fill.specs.Held.{sizes, queueAt, placesAt, foundAt, nodesAt, Sizes, view, Fit, Bounds, Bounded, Does, Moves, zeros}
 use Rattle.flood_fill.specs.declared.Going.{Going}
 use Rattle.flood_fill.specs.declared.Going.the-variants.{On, Broken, Over}
-use Rattle.flood_fill.specs.declared.Reached.{Reached}
 use Rattle.flood_fill.specs.declared.Met.{Met}
 use Rattle.flood_fill.proofs.Does.{does-plain, does-then, does-as}
-use Rattle.flood_fill.proofs.Stores.{holds-none, found-long, owner-long, marked-more, push-more, join, join-more, moves-then}
+use Rattle.flood_fill.proofs.Stores.{holds-none, found-long, owner-long, marked-more, push-more, join-more, moves-then}
 use Rattle.flood_fill.proofs.Bounds.{zeros-set, zeros-most}
 use Rattle.flood_fill.proofs.Links.{queue-length, owner-view}
-use Rattle.flood_fill.proofs.Steps.{startReach, startFill}
+use Rattle.flood_fill.proofs.Steps.{startFill}
 use Rattle.flood_fill.proofs.Owned.{Fresh, pops-fresh}
 use Rattle.flood_fill.proofs.Rest.{going, still}
 use Rattle.fill_zone.specs.Held.{FillView, fillIn, fillView, onFill, none, fillFrom, Floods, Starts, Begins, Free, Ready}

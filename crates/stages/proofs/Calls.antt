@@ -1,19 +1,17 @@
 -- A part on its own: refused as equalize's number says, when nothing is changed; else its own promise, on tables that the refusals let pass. Assumes nothing.
-use Prim.Native.Nat.{ℕ, zero, suc, _+_, _*_, _≤_, _<_}
+use Prim.Native.Nat.{ℕ, _+_, _*_, _≤_}
 use native.Mathlib.Omega.{arith}
 use native.Mathlib.Decide.{ℕ-discrete}
 use mathlib.Core.Path.{_≡_, refl, ap, _∙_, sym}
-use mathlib.Core.List.{List, [], _∷_}
+use mathlib.Core.List.{[], _∷_}
 use mathlib.Core.Bool.{true, _&&_}
 use lib.Dec.{leb}
-use lib.Ieee.{Float}
 use lib.Ieee.Bits.{is-true}
 use lib.ListN.{length}
 use Rattle.basics.specs.Floats.{finiteSignClear}
 use Rattle.turfs.specs.Board.{Board, turfCount, linkCount}
 use Rattle.turfs.specs.Refuse.{ascending}
 use Rattle.turfs.proofs.Accepted.{Accepted}
-use Rattle.events.proofs.Sizes.{size}
 use Rattle.lent.specs.Lent.{Lent, Extra, wordsRoom, floatsRoom, refusal}
 use Rattle.lent.proofs.Passed.{Passed, passed}
 use Rattle.flood_fill.specs.Held.{nodesAt}

@@ -123,17 +123,27 @@ fn filling(each: u64, seed: u64) {
     println!("filling: {compared:?}, no difference");
 }
 
-/// The least time of a few runs, and what it is for each turf and link.
+/// The least time of a few runs in ns, and the zones kept.
+fn least(case: &Case) -> (u128, u32) {
+    let run = |_| {
+        let begun = Instant::now();
+        let left = fill(case).expect("the boundary's promises");
+        (begun.elapsed().as_nanos(), left.answer[2])
+    };
+    (0..9).map(run).min().expect("a run")
+}
+
+/// Filling with the board's hot ids, and with none: the refusals and the clearing.
 fn time() {
-    for (name, case) in boards::bench::boards() {
-        let run = |_| {
-            let begun = Instant::now();
-            fill(&case).map(|left| (begun.elapsed().as_nanos(), left.answer[2]))
-        };
-        let best = (0..5).map(run).min().expect("a run");
-        let (taken, zones) = best.expect("a promise of the boundary");
-        let size = (case.board.ids.len() + case.board.neighbours.len()) as u128;
-        println!("{name}: {zones} zones, {taken} ns, {} ns for each turf and link", taken / size);
+    for (name, mut case) in boards::bench::boards() {
+        let (with, zones) = least(&case);
+        if let Call::Equalize(ask) = &mut case.call {
+            ask.hot.clear();
+        }
+        let (without, _) = least(&case);
+        let size = case.board.ids.len() + case.board.neighbours.len();
+        let each = with.saturating_sub(without) / size as u128;
+        println!("{name}: {zones} zones, {with} ns, with no hot ids {without} ns: {each} ns for each turf and link");
     }
 }
 

@@ -1,3 +1,4 @@
+-- By whether the zone is ignored. Assumes nothing.
 use Rattle.basics.proofs.Tests.{differ}
 use borrow.Author.Tests.{not-true, not-false}
 use mathlib.Core.Path.{refl, sym, _∙_}

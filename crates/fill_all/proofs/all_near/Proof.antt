@@ -1,3 +1,4 @@
+-- The loop's invariant: the turfs left, from here on, are near exactly when all are. Assumes nothing.
 use Rattle.mixture.specs.Mixture.{total}
 use Rattle.turfs.specs.Board.{Board}
 use Rattle.basics.proofs.Tests.{every-next, every-fails, every-end}

@@ -1,3 +1,4 @@
+-- Three stores, each in its own array. Assumes nothing.
 use Prim.Native.Nat.{_+_, _-_}
 use mathlib.Core.Path.{refl}
 use native.Mathlib.Omega.{arith}

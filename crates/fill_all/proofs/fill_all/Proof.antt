@@ -1,3 +1,4 @@
+-- The start, and then the hot ids. Assumes nothing.
 use Rattle.fill_all.proofs.Loop.{begun, begun-stored, all-filled}
 use borrow.Author.Needs.{needs}
 use Rattle.fill_all.proofs.fill_all.Statement.{statement}

@@ -1,3 +1,4 @@
+-- The loop's invariant: the hot ids so far came to the definition's state. Assumes nothing.
 use native.Mathlib.Omega.{arith}
 use Rattle.fill_all.proofs.Loop.{loop-start, loop-open, loop-next, loop-over, loop-end}
 use Rattle.fill_all.specs.Held.{ask, Fills}

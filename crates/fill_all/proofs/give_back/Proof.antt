@@ -1,3 +1,4 @@
+-- The row's links are a part of the owners, and it is cleared. Assumes nothing.
 use Rattle.fill_all.proofs.Stores.{row-back}
 use borrow.Author.Needs.{needs}
 use Rattle.fill_all.proofs.give_back.Statement.{statement}

@@ -1,3 +1,4 @@
+-- The row that has the id, if one has. Assumes nothing.
 use Rattle.fill_all.proofs.Hot.{fills-id, fills-unknown, row-in}
 use lib.Ieee.Bits.{is-true}
 use Rattle.fill_all.specs.Held.{ask}

@@ -1,3 +1,4 @@
+-- Each test passes the turf over as the definition does; past them all a zone is filled. Assumes nothing.
 use Rattle.fill_all.proofs.Hot.{is-found, is-off, is-rest, share-asks, mark-is, row-none, after-fills}
 use Rattle.fill_all.proofs.After.{zone-fits, fill-ready, after-asks}
 use Rattle.fill_all.specs.Held.{ask}

@@ -1,3 +1,4 @@
+-- The loop's invariant: the rows so far gave their links back. Assumes nothing.
 use Prim.Native.Nat.{ℕ, _<_}
 use mathlib.Core.Path.{sym, subst}
 use Rattle.fill_all.proofs.Stores.{Backing, backing-start, back-row, back-asks, backing-next, backing-end}

@@ -1,3 +1,4 @@
+-- Two stores: where the next zone starts, and the total. Assumes nothing.
 use borrow.Author.Needs.{needs}
 use Rattle.fill_all.proofs.keep_zone.Statement.{statement}
 use Rattle.fill_all.proofs.keep_zone.Tie as tie

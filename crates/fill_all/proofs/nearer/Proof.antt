@@ -1,3 +1,4 @@
+-- |d| < t is d < t and -t < d. Assumes nothing.
 use Rattle.fill_all.proofs.Near.{near-here, near-not}
 use Rattle.fill_all.proofs.nearer.Statement.{statement}
 use Rattle.fill_all.proofs.nearer.Tie as tie

@@ -1,3 +1,4 @@
+-- No links, few moles, or all neighbours near. Assumes nothing.
 use Rattle.fill_all.proofs.Near.{none-linked, few-moles, all-tested, near-asks}
 use Rattle.mixture.specs.Moves.{Holds}
 use Rattle.mixture.specs.Mixture.{total}

@@ -1,3 +1,4 @@
+-- By the mark. Assumes nothing.
 use lib.Dec.{ltb}
 use mathlib.Core.Bool.{Bool, _&&_}
 use mathlib.Core.Path.{sym, ap}

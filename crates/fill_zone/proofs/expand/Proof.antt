@@ -1,3 +1,4 @@
+-- The turf's part of the link list, and its total. Assumes nothing.
 use Rattle.fill_zone.proofs.Pops.{floods-expand}
 use Rattle.fill_zone.proofs.Boards.{parts, rows-of, gas-holds, part-fits}
 use mathlib.Core.Path.{refl}

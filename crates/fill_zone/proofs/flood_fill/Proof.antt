@@ -1,3 +1,4 @@
+-- The loop's invariant: the pops left, from here on, come to all pops from the start. Assumes nothing.
 use Rattle.fill_zone.proofs.Zones.{Popping, going-on, start-asks, popping-start, popping-free, popping-next, popping-end}
 use Rattle.events.proofs.Areas.{wrote-length}
 use Rattle.turfs.specs.Tables.{board}

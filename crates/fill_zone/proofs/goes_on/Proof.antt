@@ -1,3 +1,4 @@
+-- By the case of the state. Assumes nothing.
 use borrow.Author.Needs.{needs}
 use Rattle.fill_zone.proofs.goes_on.Statement.{statement}
 use Rattle.fill_zone.proofs.goes_on.Tie as tie

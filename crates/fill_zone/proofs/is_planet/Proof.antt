@@ -1,3 +1,4 @@
+-- By the mark. Assumes nothing.
 use borrow.Author.Needs.{needs}
 use Rattle.fill_zone.proofs.is_planet.Statement.{statement}
 use Rattle.fill_zone.proofs.is_planet.Tie as tie

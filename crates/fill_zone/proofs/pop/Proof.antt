@@ -1,3 +1,4 @@
+-- Past the clock, broken off at the limit, or expanded. Assumes nothing.
 use Rattle.fill_zone.proofs.Pops.{row-below, pop-over, pop-broken, pop-on}
 use Rattle.fill_zone.specs.Held.{Free}
 use lib.ListN.{getD}

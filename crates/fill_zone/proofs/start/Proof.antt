@@ -1,3 +1,4 @@
+-- Four stores, each in its own array. Assumes nothing.
 use Rattle.fill_zone.proofs.Zones.{start-room, started}
 use lib.ListN.{length-set}
 use mathlib.Core.Path.{refl, _∙_}

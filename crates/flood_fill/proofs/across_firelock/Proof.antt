@@ -1,3 +1,4 @@
+-- By whether the turf is planetary. Assumes nothing.
 use borrow.Author.Tests.{eq-eqb, ne-eqb}
 use borrow.Author.Needs.{needs}
 use Rattle.flood_fill.proofs.across_firelock.Statement.{statement}

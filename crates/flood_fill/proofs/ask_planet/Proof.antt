@@ -1,3 +1,4 @@
+-- By whether the neighbour is planetary across a firelock. Assumes nothing.
 use borrow.Author.Tests.{not-true, not-false}
 use native.Mathlib.Omega.{arith}
 use Rattle.flood_fill.proofs.Asks.{planet-none, planet-one, planet-size}

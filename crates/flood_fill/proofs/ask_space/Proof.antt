@@ -1,3 +1,4 @@
+-- By whether the neighbour is immutable. Assumes nothing.
 use borrow.Author.Tests.{not-true, not-false}
 use native.Mathlib.Omega.{arith}
 use Rattle.flood_fill.proofs.Asks.{space-none, space-one, space-size}

@@ -1,3 +1,4 @@
+-- The push, and then what is asked unless the zone is ignored. Assumes nothing.
 use Rattle.flood_fill.proofs.Asks.{found-ignored, found-asks}
 use borrow.Author.Needs.{needs}
 use Rattle.flood_fill.proofs.discover.Statement.{statement}

@@ -1,3 +1,4 @@
+-- A disabled neighbour, one that is a node already, or a new node at the end of the line. Assumes nothing.
 use lib.ListN.{length-set}
 use borrow.Author.Tests.{not-true, not-false}
 use native.Mathlib.Omega.{arith}

@@ -1,3 +1,4 @@
+-- Each mark is read from its own table. Assumes nothing.
 use Rattle.flood_fill.specs.Steps.{metAt}
 use mathlib.Core.Path.{_∙_}
 use borrow.Author.Needs.{needs}

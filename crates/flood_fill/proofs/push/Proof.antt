@@ -1,3 +1,4 @@
+-- By whether the neighbour is enabled. Assumes nothing.
 use borrow.Author.Tests.{not-true, not-false}
 use mathlib.Core.Path.{refl}
 use Rattle.flood_fill.proofs.Stores.{push-none, push-more}

@@ -1,3 +1,4 @@
+-- The edge, the mark, and then what a new neighbour brings. Assumes nothing.
 use lib.ListN.{length-set}
 use Prim.Native.Nat.{ℕ, _+_}
 use mathlib.Core.Path.{ap, _∙_}

@@ -1,3 +1,4 @@
+-- The loop's invariant: the links left, from here on, come to all links from the start. Assumes nothing.
 use borrow.Author.Needs.{needs}
 use native.Mathlib.Omega.{arith}
 use Prim.Native.Nat.{_-_}
