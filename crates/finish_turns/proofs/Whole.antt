@@ -1,5 +1,5 @@
 -- Finishing by turns, of a whole board and over the event area that a call was lent: finishing looks at six tables, and what was lent past the events is as it was. Assumes nothing.
-use mathlib.Core.Path.{_≡_, sym, ap, _∙_, subst}
+use mathlib.Core.Path.{_≡_, ap, _∙_, subst}
 use mathlib.Core.List.{List, _++_}
 use Prim.Native.Nat.{ℕ, _+_, _≤_}
 use native.Mathlib.Omega.{arith}
