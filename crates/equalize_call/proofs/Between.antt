@@ -8,7 +8,7 @@ use mathlib.Core.List.{List, [], _∷_, map}
 use lib.Dec.{T}
 use lib.Ieee.{Float, nan}
 use lib.ListN.{length, getD, take, drop, length-drop}
-use lib.Seq.{ext-getD, getD-take, getD-drop, length-take-le}
+use lib.Seq.{ext-getD, getD-take, getD-drop, drop-drop, length-take-le}
 use Rattle.basics.specs.Loops.{run, upFrom}
 use Rattle.basics.specs.Regions.{region, cut, base}
 use Rattle.basics.proofs.Loops.{All, All-getD}
@@ -20,13 +20,14 @@ use Rattle.turfs.proofs.Line.{Line}
 use Rattle.events.proofs.Sizes.{size}
 use Rattle.events.proofs.Areas.{wrote-length}
 use Rattle.lent.specs.Lent.{Lent, wordsRoom, floatsRoom}
+use Rattle.walks.proofs.Whole.{later-same}
 use Rattle.flood_fill.specs.Held.{sizes, startsAt, nodesAt}
 use Rattle.fill_zone.proofs.Boards.{gas-holds}
 use Rattle.process_zone.specs.Plan.{Plan}
 use Rattle.reverse_links.specs.Reverse.{Linked, Reverses}
 use Rattle.reverse_links.specs.Words.{But, ButParts, Outside}
 use Rattle.reverse_links.proofs.Accepted.{linked}
-use Rattle.plan_state.specs.Held.{area, view}
+use Rattle.plan_state.specs.Held.{area, view, top}
 use Rattle.plan_zone.specs.Zone.{Gassed}
 use Rattle.plan_zone.proofs.Whole.{tablesOf}
 use Rattle.plan_all.specs.Zones.{Room, Zoned, PlansAll}
@@ -34,21 +35,20 @@ use Rattle.plan_all.proofs.Calls.{zoned-of, planned-filled}
 use Rattle.fill_all.specs.Held.{rsizes, View, FillsAll}
 use Rattle.fill_all.specs.Held as fill
 use Rattle.fill_all.specs.declared.Filling.{Filling}
-use Rattle.fill_all.proofs.Words.{at, rowsOf, starts-rise, starts-below, nodes-few, zones-count, zones-are, rows-are, rows-length, rows-line, owners-are, tests-are}
+use Rattle.fill_all.proofs.Words.{at, rowsOf, starts-word, starts-rise, starts-below, nodes-few, zones-count, zones-are, rows-are, rows-length, rows-line, owners-are, tests-are}
 use Rattle.finalize_eq.specs.Finish.{Done}
 use Rattle.finalize_eq.specs.Turns.{Zone, zoneAt, nodeCount, finishAll}
 use Rattle.finalize_eq.specs.Turns as turns
-use Rattle.finish_send.specs.Areas.{Areas, areas, reverseIn, ownerIn, weightIn}
+use Rattle.finish_send.specs.Areas.{Areas, areas, fsizes, others, reverseIn, ownerIn, weightIn}
 use Rattle.finish_send.proofs.Shown.{holds-written}
 use Rattle.finish_turf.proofs.Lean.{lean}
 use Rattle.finish_turns.specs.Zones.{startOf, zoneNodes}
 use Rattle.finish_turns.specs.Zones as words
 use Rattle.finish_turns.specs.Turning.{cursorAt, Same, Planned, FinishesAll}
-use Rattle.finish_turns.proofs.Alike.{drop-later}
 use Rattle.finish_turns.proofs.Whole.{ready-lean, Ends, finished}
 use Rattle.equalize.specs.Equalize.{Ask, fillAll, planAll, planned, played, hasMix, apart, bit}
 use Rattle.equalize.specs.Result.{equalizeRoom}
-use Rattle.equalize.proofs.Zones.{zone-has}
+use Rattle.equalize.proofs.Zones.{zone-has, test-room}
 use Rattle.equalize.proofs.Room.{requests-bytes}
 use Rattle.apart.specs.Marks.{mixed, Laid, Stands, Tells}
 use Rattle.equalize_call.specs.Parts.{Fills, Filled, Comes}
@@ -71,6 +71,12 @@ rest-like : (w w′ : List ℕ) (from : ℕ) → length w′ ≡ length w → ((
 rest-like w w′ from l same =
     ext-getD 0 (drop from w′) (drop from w) (omega (arith, l, length-drop from w′, length-drop from w))
     (λ i q. getD-drop from w′ i 0 ∙ same (from + i) (omega arith) ∙ sym (getD-drop from w i 0))
+
+-- what is the same from a place on is so from any later one
+drop-past : {A : Type 0} (k m : ℕ) (l l′ : List A) → k ≤ m → drop k l ≡ drop k l′ → drop m l ≡ drop m l′
+drop-past k m l l′ h q =
+    let p : m ≡ k + (m - k) = omega arith in
+    ap (λ (x : ℕ). drop x l) p ∙ sym (drop-drop (m - k) k l) ∙ ap (drop (m - k)) q ∙ drop-drop (m - k) k l′ ∙ ap (λ (x : ℕ). drop x l′) (sym p)
 
 -- ---- how many nodes there are
 
@@ -111,7 +117,7 @@ module _ (b : Board) (q : Ask) (l₀ l : Lent) (s : Filling) (d : Fills b q s l�
   -- ---- planning
 
   gassed : Gassed n (b .mixtures) (b .gases) (l .gas)
-  gassed = record { mixtures-n = h .mixes; within = λ r p. gas-holds b h (l .gas) refl r }
+  gassed = record { mixtures-n = h .mixes; within = λ r p. gas-holds h (l .gas) refl r }
 
   links : Linked n (b .starts) (b .neighbours)
   links = linked b (h .starts) k
@@ -125,3 +131,231 @@ module _ (b : Board) (q : Ask) (l₀ l : Lent) (s : Filling) (d : Fills b q s l�
 
   pub plan-asks : (Gassed n (b .mixtures) (b .gases) (l .gas) × (Linked n (b .starts) (b .neighbours) × (linkCount b ≡ e))) × (Zoned n e (s .zones) (l .words) (l .floats) × ((nodesAt n e + n + e ≤ work) × (work + e + n + n ≤ length (l .words))))
   plan-asks = ((gassed, (links, refl)), (zoned, (omega arith, words-long)))
+
+  -- ---- what filling left, by its places
+
+  abbrev D : FillsAll n e (fillAll b (l₀ .gas) q) s (l₀ .words) (l .words) (l₀ .floats) (l .floats) (l₀ .area) (l .area)
+  D = d .fills
+
+  row-at : (z i : ℕ) → i < at D (z + 1) - at D z → getD (l .words) (nodesAt n e + at D z + i) 0 ≡ getD (rowsOf D z) i 0
+  row-at z i p = sym (getD-take (at D (z + 1) - at D z) (drop (nodesAt n e + at D z) (l .words)) i 0 p ∙ getD-drop (nodesAt n e + at D z) (l .words) i 0)
+
+  node-rows : (z : ℕ) → z < s .zones → All (λ r. r < n) (rowsOf D z)
+  node-rows z p = rows-line accepted (l₀ .gas) q D z p .rows
+
+  ends-within : (z : ℕ) → z < s .zones → at D (z + 1) ≤ n + e
+  ends-within z p = omega (arith, starts-below D (z + 1) (omega arith), nodes-few D)
+
+  pub processed-is : s .nodes ≡ nodeCount zones
+  unfolding nodeCount
+  processed-is =
+      omega (arith, count-from zones (at D) sized 0, starts-word D 0 (omega arith), d .fills .stored .first, starts-word D (s .zones) (omega arith), d .fills .stored .last, ap (at D) (zones-count D))
+    where
+      next : (z : ℕ) → at D (suc z) ≡ at D (z + 1)
+      next z = ap (at D) (omega arith)
+
+      sized : (z : ℕ) → z < length zones → at D z + length (zoneAt zones z .nodes) ≡ at D (suc z)
+      sized z p =
+          let l : z < s .zones = omega (arith, zones-count D) in
+          omega (arith, ap length (rows-are D z l), rows-length D z l, starts-rise D z l, next z)
+
+  -- ---- apart
+
+  module _ (w₁ : List ℕ) (f₁ : List Float) (p : PlansAll n e (s .zones) work (tablesOf b) (l .gas) (l .words) w₁ (l .floats) f₁) where
+    kept₁ : (j : ℕ) → top n e ≤ j → j < work → getD w₁ j 0 ≡ getD (l .words) j 0
+    kept₁ j a c = p .words .same j (inr a) (inl c)
+
+    start₁ : (z : ℕ) → z ≤ s .zones → getD w₁ (startsAt n e + z) 0 ≡ at D z
+    start₁ z a = kept₁ (startsAt n e + z) (omega arith) (omega (arith, few-zones))
+
+    next₁ : (z : ℕ) → z < s .zones → getD w₁ (startsAt n e + z + 1) 0 ≡ at D (z + 1)
+    next₁ z a =
+        let i : startsAt n e + z + 1 ≡ startsAt n e + (z + 1) = omega arith in
+        ap (λ (x : ℕ). getD w₁ x 0) i ∙ start₁ (z + 1) (omega arith)
+
+    laid : Laid n (s .zones) (startsAt n e) (nodesAt n e) marks w₁
+    laid = record {
+      few = omega (arith, few-zones, h .turfs .1);
+      starts = omega (arith, few-zones);
+      small = omega (arith, h .turfs .1, h .links);
+      rise = λ z a. omega (arith, start₁ z (omega arith), next₁ z a, starts-rise D z a);
+      end = λ z a. omega (arith, next₁ z a, ends-within z a);
+      rows = λ z j a lo hi. row z j a (omega (arith, lo, start₁ z (omega arith))) (omega (arith, hi, next₁ z a));
+    }
+      where
+        row : (z j : ℕ) → z < s .zones → nodesAt n e + at D z ≤ j → j < nodesAt n e + at D (z + 1) → getD w₁ j 0 < n
+        row z j a lo hi =
+            let i : ℕ = j - (nodesAt n e + at D z) in
+            let q : j ≡ nodesAt n e + at D z + i = omega (arith, lo) in
+            let k : i < at D (z + 1) - at D z = omega (arith, lo, hi) in
+            rw (kept₁ j (omega (arith, lo)) (omega (arith, hi, ends-within z a)) ∙ ap (λ (x : ℕ). getD (l .words) x 0) q ∙ row-at z i k)
+            (All-getD (λ x. x < n) (rowsOf D z) i 0 (node-rows z a) (omega (arith, rows-length D z a, k)))
+
+    stands : Stands (startsAt n e) (nodesAt n e) zones w₁
+    stands = record { size = λ z a. size-of z (omega (arith, a, zones-count D)); node = λ z i a c. node-of z i (omega (arith, a, zones-count D)) c }
+      where
+        size-of : (z : ℕ) → z < s .zones → getD w₁ (startsAt n e + z) 0 + length (turns.nodesAt zones z) ≡ getD w₁ (startsAt n e + z + 1) 0
+        size-of z a = omega (arith, start₁ z (omega arith), next₁ z a, ap length (rows-are D z a), rows-length D z a, starts-rise D z a)
+
+        node-of : (z i : ℕ) → z < s .zones → i < length (turns.nodesAt zones z) → getD w₁ (nodesAt n e + getD w₁ (startsAt n e + z) 0 + i) 0 ≡ getD (turns.nodesAt zones z) i 0
+        node-of z i a c =
+            let k : i < at D (z + 1) - at D z = omega (arith, c, ap length (rows-are D z a), rows-length D z a) in
+            ap (λ (x : ℕ). getD w₁ (nodesAt n e + x + i) 0) (start₁ z (omega arith))
+            ∙ kept₁ (nodesAt n e + at D z + i) (omega arith) (omega (arith, k, ends-within z a))
+            ∙ row-at z i k ∙ ap (λ (x : List ℕ). getD x i 0) (sym (rows-are D z a))
+
+    pub apart-asks : (Laid n (s .zones) (startsAt n e) (nodesAt n e) marks w₁ × ((marks + mixtureCount b ≤ length w₁) × (mixtureCount b ≤ 4096))) × ((r : ℕ) → r < length (b .mixtures) → getD (b .mixtures) r 0 < mixtureCount b)
+    apart-asks = ((laid, (omega (arith, p .words .len, words-long), h .mixtures .1)), λ r a. h .mixed r)
+
+    apart-is : {r : Bool} {w₂ : List ℕ} → Tells (mixed (b .mixtures) (b .immutable)) (s .zones) (startsAt n e) (nodesAt n e) marks r w₁ w₂ → r ≡ apart b zones
+    unfolding apart hasMix
+    apart-is t = t .answer zones (zones-count D) stands
+
+    -- ---- finishing
+
+    module _ (w₂ : List ℕ) (t : But marks work w₁ w₂) where
+      long₂ : length w₂ ≡ length (l .words)
+      long₂ = t .len ∙ p .words .len
+
+      kept₂ : (j : ℕ) → top n e ≤ j → j < marks → getD w₂ j 0 ≡ getD (l .words) j 0
+      kept₂ j a c = t .same j (inl c) ∙ kept₁ j a (omega arith)
+
+      owner-same : ownerIn e w₂ ≡ fillAll b (l₀ .gas) q .owner
+      owner-same =
+          part-like (l .words) w₂ 0 e long₂ (omega (arith, words-long)) (λ i a. t .same (0 + i) (inl (omega arith)) ∙ p .words .same (0 + i) (inl (omega arith)) (inl (omega arith)))
+          ∙ owners-are D
+
+      reverses : Reverses b n (reverseIn e w₂)
+      reverses =
+          subst (Reverses b n) (sym (part-like w₁ w₂ e e (t .len) (omega (arith, words-long, p .words .len)) (λ i a. t .same (e + i) (inl (omega arith)))))
+          (p .reverses b refl refl)
+
+      start₂ : (z : ℕ) → z ≤ s .zones → startOf n (cursorAt b) w₂ z ≡ at D z
+      start₂ z a =
+          let i : cursorAt b + n + n + z ≡ startsAt n e + z = omega arith in
+          ap (λ (x : ℕ). getD w₂ x 0) i ∙ kept₂ (startsAt n e + z) (omega arith) (omega (arith, few-zones))
+
+      nodes₂ : (z : ℕ) → z < s .zones → zoneNodes n (cursorAt b) w₂ z ≡ rowsOf D z
+      nodes₂ z a =
+          let i : cursorAt b + n + n + n + 1 + at D z ≡ nodesAt n e + at D z = omega arith in
+          ap (λ (x : ℕ). take (startOf n (cursorAt b) w₂ (z + 1) - x) (drop (cursorAt b + n + n + n + 1 + x) w₂)) (start₂ z (omega arith))
+          ∙ ap (λ (x : ℕ). take (x - at D z) (drop (cursorAt b + n + n + n + 1 + at D z) w₂)) (start₂ (z + 1) (omega arith))
+          ∙ ap (λ (x : ℕ). take (at D (z + 1) - at D z) (drop x w₂)) i
+          ∙ part-like (l .words) w₂ (nodesAt n e + at D z) (at D (z + 1) - at D z) long₂ (omega (arith, ends-within z a, starts-rise D z a, words-long))
+          (λ j c. kept₂ (nodesAt n e + at D z + j) (omega arith) (omega (arith, c, ends-within z a)))
+
+      same-zones : Same n (cursorAt b) (s .zones) w₂ zones
+      same-zones = record { size = zones-count D; nodes = λ z a. rows-are D z a ∙ sym (nodes₂ z a) }
+
+      requests-few : s .used ≤ 16 * n
+      requests-few = omega (arith, D .wrote .wrote .end, requests-bytes b (l₀ .gas) accepted q)
+
+      pub finish-asks : Planned (lean b) (s .zones) w₂ (areas (l .gas) f₁ (l .area) (s .used))
+      unfolding floatsRoom
+      finish-asks = record {
+        ready = ready-lean b w₂ (l .gas) f₁ h links reverses (omega (arith, words-long, long₂)) (omega (arith, floats-room, p .reals .0));
+        arrays = omega (arith, words-long, long₂);
+        laid = record {
+          few = few-zones;
+          zones = λ z a. record {
+            below = omega (arith, few-zones);
+            rise = omega (arith, start₂ z (omega arith), start₂ (z + 1) (omega arith), starts-rise D z a);
+            within = omega (arith, start₂ (z + 1) (omega arith), ends-within z a, words-long, long₂);
+            rows = subst (All (λ r. r < n)) (sym (nodes₂ z a)) (node-rows z a);
+          };
+        };
+        written = (fillAll b (l₀ .gas) q .events, holds-written (D .wrote));
+        room = omega (arith, area-room, requests-few);
+      }
+
+      weights : weightIn b f₁ ≡ planAll b (l₀ .gas) (fillAll b (l₀ .gas) q) .weight
+      unfolding view
+      weights =
+          ap (λ (x : Plan). x .weight) (planned-filled b (fillAll b (l₀ .gas) q) p (sym (owners-are D)) (zones-are D))
+          ∙ ap (λ (g : List Float). planAll b g (fillAll b (l₀ .gas) q) .weight) (d .gas)
+
+      begins : Ends b (l₀ .area) (areas (l .gas) f₁ (l .area) (s .used)) (planned b (l₀ .gas) q (fillAll b (l₀ .gas) q))
+      unfolding planned
+      begins = record { gas = d .gas; weight = weights; events = D .wrote }
+
+      module _ (turns w₃ : List ℕ) (g₃ f₃ : List Float) (a₃ : List ℕ) (used : ℕ) (u : FinishesAll (lean b) (s .zones) turns w₂ w₃ (areas (l .gas) f₁ (l .area) (s .used)) (areas g₃ f₃ a₃ used)) where
+        ended : Ends b (l₀ .area) (areas g₃ f₃ a₃ used) (finishAll b (fillAll b (l₀ .gas) q .owner) zones turns (planned b (l₀ .gas) q (fillAll b (l₀ .gas) q)))
+        ended =
+            subst (λ (o : List ℕ). Ends b (l₀ .area) (areas g₃ f₃ a₃ used) (finishAll b o zones turns (planned b (l₀ .gas) q (fillAll b (l₀ .gas) q)))) owner-same
+            (finished b (s .zones) turns w₂ w₃ (areas (l .gas) f₁ (l .area) (s .used)) (areas g₃ f₃ a₃ used) u zones same-zones (l₀ .area) (planned b (l₀ .gas) q (fillAll b (l₀ .gas) q)) begins)
+
+        words-rest : drop (wordsRoom b) w₃ ≡ drop (wordsRoom b) (l₀ .words)
+        unfolding wordsRoom fill.view
+        words-rest =
+            let m : ℕ = 16 * n + 4 * e + 2 * mixtureCount b + 16 in
+            drop-past (cursorAt b + n + n) m w₃ w₂ (omega arith) (u .words .rest)
+            ∙ rest-like w₁ w₂ m (t .len) (λ i a. t .same i (inr (omega (arith, a))))
+            ∙ rest-like (l .words) w₁ m (p .words .len) (λ i a. p .words .same i (inr (omega (arith, a))) (inr (omega (arith, a))))
+            ∙ later-same (sizes n e) m (l₀ .words) (l .words) (omega arith) (ap (λ (v : View). v .around .restW) (D .same))
+
+        floats-rest : drop (floatsRoom b) f₃ ≡ drop (floatsRoom b) (l₀ .floats)
+        unfolding floatsRoom fill.view others
+        floats-rest =
+            let m : ℕ = 4 * n + 2 * e in
+            later-same (fsizes n e) m f₁ f₃ (omega arith) (ap (λ (r : List (List Float)). getD r 2 []) (u .kept .rest))
+            ∙ drop-past (e + n + n) m f₁ (l .floats) (omega arith) (p .reals .1)
+            ∙ later-same (rsizes n e) m (l₀ .floats) (l .floats) (omega arith) (ap (λ (v : View). v .around .restR) (D .same))
+
+        pub comes-played : (r : Bool) → Tells (mixed (b .mixtures) (b .immutable)) (s .zones) (startsAt n e) (nodesAt n e) marks r w₁ w₂ → (mark : ℕ) → mark ≡ bit r
+            → Comes b (played b (l₀ .gas) q turns (fillAll b (l₀ .gas) q)) (record { cancelled = 0; processed = s .nodes; tests = s .tests + 2; zones = s .zones; apart = mark; used = used }) l₀ (record { gas = g₃; area = a₃; words = w₃; floats = f₃ })
+        unfolding played
+        comes-played r o mark m = record {
+          cancelled = refl;
+          processed = processed-is;
+          tests = ap (λ (x : ℕ). x + 2) (tests-are D);
+          zones = sym (zones-count D);
+          apart = m ∙ ap bit (apart-is o);
+          gas = ended .gas;
+          events = ended .events;
+          words = words-rest;
+          floats = floats-rest;
+        }
+
+-- ---- the same as the code has it: where the nodes and the starts stand is answered by functions
+
+module _ {b : Board} {s : Filling} {l : Lent} (x : Filled b s l) (nodes : ℕ) (en : nodes ≡ nodesAt (turfCount b) (linkCount b)) where
+  abbrev N : ℕ
+  N = turfCount b
+
+  abbrev E : ℕ
+  E = linkCount b
+
+  pub plan-fits : (Gassed N (b .mixtures) (b .gases) (l .gas) × (Linked N (b .starts) (b .neighbours) × (linkCount b ≡ E)))
+      × (Zoned N E (s .zones) (l .words) (l .floats) × ((nodesAt N E + N + E ≤ nodes + N + E + mixtureCount b) × (nodes + N + E + mixtureCount b + E + N + N ≤ length (l .words))))
+  plan-fits = rw en (plan-asks b (x .asked) (x .lent) l s (x .fills) (x .board) (x .links) (x .area) (x .words) (x .floats))
+
+  module _ (first : ℕ) (ef : first ≡ startsAt N E) (w₁ : List ℕ) (f₁ : List Float) (p : PlansAll N E (s .zones) (nodes + N + E + mixtureCount b) (tablesOf b) (l .gas) (l .words) w₁ (l .floats) f₁) where
+    planned-at : PlansAll N E (s .zones) (nodesAt N E + N + E + mixtureCount b) (tablesOf b) (l .gas) (l .words) w₁ (l .floats) f₁
+    planned-at = subst (λ (y : ℕ). PlansAll N E (s .zones) (y + N + E + mixtureCount b) (tablesOf b) (l .gas) (l .words) w₁ (l .floats) f₁) en p
+
+    pub apart-fits : (Laid (length (b .mixtures)) (s .zones) first nodes (nodes + N + E) w₁ × ((nodes + N + E + mixtureCount b ≤ length w₁) × (mixtureCount b ≤ 4096)))
+        × ((r : ℕ) → r < length (b .mixtures) → getD (b .mixtures) r 0 < mixtureCount b)
+    apart-fits =
+        let a = apart-asks b (x .asked) (x .lent) l s (x .fills) (x .board) (x .links) (x .area) (x .words) (x .floats) w₁ f₁ planned-at in
+        (rw (en, ef, x .board .mixes) (a .0), a .1)
+
+    module _ (r : Bool) (w₂ : List ℕ) (t : Tells (mixed (b .mixtures) (b .immutable)) (s .zones) first nodes (nodes + N + E) r w₁ w₂) where
+      told : Tells (mixed (b .mixtures) (b .immutable)) (s .zones) (startsAt N E) (nodesAt N E) (nodesAt N E + N + E) r w₁ w₂
+      told =
+          subst (λ (y : ℕ). Tells (mixed (b .mixtures) (b .immutable)) (s .zones) (startsAt N E) y (y + N + E) r w₁ w₂) en
+          (subst (λ (y : ℕ). Tells (mixed (b .mixtures) (b .immutable)) (s .zones) y nodes (nodes + N + E) r w₁ w₂) ef t)
+
+      pub finish-fits : Planned (lean b) (s .zones) w₂ (areas (l .gas) f₁ (l .area) (s .used))
+      finish-fits = finish-asks b (x .asked) (x .lent) l s (x .fills) (x .board) (x .links) (x .area) (x .words) (x .floats) w₁ f₁ planned-at w₂ (told .words)
+
+      pub played-comes : (turns w₃ : List ℕ) (g₃ f₃ : List Float) (a₃ : List ℕ) (used : ℕ) → FinishesAll (lean b) (s .zones) turns w₂ w₃ (areas (l .gas) f₁ (l .area) (s .used)) (areas g₃ f₃ a₃ used)
+          → (mark : ℕ) → mark ≡ bit r → (q : Ask) (l₀ : Lent) → Fills b q s l₀ l
+          → Comes b (played b (l₀ .gas) q turns (fillAll b (l₀ .gas) q)) (record { cancelled = 0; processed = s .nodes; tests = s .tests + 2; zones = s .zones; apart = mark; used = used }) l₀ (record { gas = g₃; area = a₃; words = w₃; floats = f₃ })
+      played-comes turns w₃ g₃ f₃ a₃ used u mark m q l₀ d =
+          comes-played b q l₀ l s d (x .board) (x .links) (x .area) (x .words) (x .floats) w₁ f₁ planned-at w₂ (told .words) turns w₃ g₃ f₃ a₃ used u r told mark m
+
+-- the counts are small
+pub tests-small : {b : Board} {s : Filling} {l : Lent} → Filled b s l → s .tests ≤ 4096
+tests-small {b} {s} {l} x =
+    let a : Accepted b (length (x .lent .gas)) = subst (λ (g : List Float). Accepted b (length g)) (x .fills .gas) (x .board) in
+    omega (arith, tests-are (x .fills .fills), test-room b a (x .lent .gas) (x .asked), x .board .turfs .1)

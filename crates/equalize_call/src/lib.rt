@@ -5,7 +5,9 @@ ghost use mathlib.Core.Path.{_≡_};
 ghost use Rattle.turfs.specs.Tables.{board};
 ghost use Rattle.lent.specs.Lent.{Lent};
 ghost use Rattle.lent.specs.Given.{lent};
+ghost use Rattle.fill_all.specs.Held.{ask};
 ghost use Rattle.equalize.specs.Equalize.{Ask, bit, fillAll, played, equalize};
+ghost use Rattle.equalize.specs.Result.{refusedEqualize, equalizeNumber, equalizeResult};
 ghost use Rattle.equalize_call.specs.Parts.{cancelledAt, Fills, Filled, Comes};
 
 // What the parts came to.
@@ -154,4 +156,160 @@ fn timed(
         words,
         floats,
     )
+}
+
+// Tables that were accepted: filled, then planned and finished in time.
+fn accepted(
+    ids: &[u32],
+    flags: &[u8],
+    planetary: &[u8],
+    mixtures: &[u32],
+    starts: &[u32],
+    neighbours: &[u32],
+    link_flags: &[u8],
+    immutable: &[u8],
+    gases: usize,
+    amounts: &mut [f32],
+    hot: &[u32],
+    turns: &[u32],
+    threshold: f32,
+    limit: u32,
+    allowance: u32,
+    events: &mut [u8],
+    words: &mut [u32],
+    floats: &mut [f32],
+) -> Outcome
+    requires { ⌜ equalizeNumber (board (now ids) (now flags) (now planetary) (now mixtures) (now starts) (now neighbours) (now «link_flags») (now immutable) gases) (ask (now hot) threshold limit allowance) (now turns) (lent (now amounts) (now events) (now words) (now floats)) ≡ 0 ⌝ }
+    ensures { λ r. ⌜ Comes (board (now (ids .entry)) (now (flags .entry)) (now (planetary .entry)) (now (mixtures .entry)) (now (starts .entry)) (now (neighbours .entry)) (now («link_flags» .entry)) (now (immutable .entry)) gases) (equalize (board (now (ids .entry)) (now (flags .entry)) (now (planetary .entry)) (now (mixtures .entry)) (now (starts .entry)) (now (neighbours .entry)) (now («link_flags» .entry)) (now (immutable .entry)) gases) (now (amounts .entry)) (ask (now (hot .entry)) threshold limit allowance) (now (turns .entry))) r (lent (now (amounts .entry)) (now (events .entry)) (now (words .entry)) (now (floats .entry))) (lent (now (amounts .exit)) (now (events .exit)) (now (words .exit)) (now (floats .exit))) ⌝ }
+{
+    let s = fill_all::fill_all(
+        hot,
+        threshold,
+        limit,
+        allowance,
+        ids,
+        flags,
+        planetary,
+        mixtures,
+        starts,
+        neighbours,
+        link_flags,
+        immutable,
+        gases,
+        amounts,
+        words,
+        floats,
+        events,
+    );
+    timed(
+        s,
+        turns,
+        allowance,
+        ids,
+        flags,
+        planetary,
+        mixtures,
+        starts,
+        neighbours,
+        link_flags,
+        immutable,
+        gases,
+        amounts,
+        events,
+        words,
+        floats,
+    )
+}
+
+// A refusal: its number with all else zero.
+fn refused(number: u32) -> EqualizeAnswer
+    ensures { λ r. ⌜ r ≡ refusedEqualize number ⌝ }
+{
+    EqualizeAnswer {
+        number,
+        cancelled: 0,
+        processed: 0,
+        tests: 0,
+        zones: 0,
+        apart: 0,
+        bytes: 0,
+    }
+}
+
+// Evens out the gas of the rooms around the hot ones, by turns.
+pub fn equalize(
+    ids: &[u32],
+    flags: &[u8],
+    planetary: &[u8],
+    mixtures: &[u32],
+    starts: &[u32],
+    neighbours: &[u32],
+    link_flags: &[u8],
+    immutable: &[u8],
+    gases: u32,
+    amounts: &mut [f32],
+    hot: &[u32],
+    turns: &[u32],
+    threshold: f32,
+    limit: u32,
+    allowance: u32,
+    events: &mut [u8],
+    words: &mut [u32],
+    floats: &mut [f32],
+) -> EqualizeAnswer
+    ensures { λ r. ⌜ record { answer = r; lent = lent (now (amounts .exit)) (now (events .exit)) (now (words .exit)) (now (floats .exit)) }
+        ≡ equalizeResult (board (now (ids .entry)) (now (flags .entry)) (now (planetary .entry)) (now (mixtures .entry)) (now (starts .entry)) (now (neighbours .entry)) (now («link_flags» .entry)) (now (immutable .entry)) gases) (ask (now (hot .entry)) threshold limit allowance) (now (turns .entry)) (lent (now (amounts .entry)) (now (events .entry)) (now (words .entry)) (now (floats .entry))) ⌝ }
+{
+    let extra = equalize::extra_tests(hot, turns.len(), threshold);
+    let number = lent::refusal(
+        ids,
+        flags,
+        planetary,
+        mixtures,
+        starts,
+        neighbours,
+        link_flags,
+        immutable,
+        gases,
+        amounts,
+        events,
+        words,
+        floats,
+        16,
+        20,
+        extra,
+    );
+    if number != 0 {
+        return refused(number);
+    }
+    let o = accepted(
+        ids,
+        flags,
+        planetary,
+        mixtures,
+        starts,
+        neighbours,
+        link_flags,
+        immutable,
+        gases as usize,
+        amounts,
+        hot,
+        turns,
+        threshold,
+        limit,
+        allowance,
+        events,
+        words,
+        floats,
+    );
+    lent::clear_scratch(ids, neighbours, immutable, words, floats);
+    EqualizeAnswer {
+        number: 0,
+        cancelled: o.cancelled,
+        processed: o.processed as u32,
+        tests: o.tests as u32,
+        zones: o.zones as u32,
+        apart: o.apart,
+        bytes: o.used as u32,
+    }
 }

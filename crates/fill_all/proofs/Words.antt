@@ -39,7 +39,7 @@ module _ {n e : ℕ} {all : Filled} {r : Filling} {w w′ : List ℕ} {f f′ : 
   abbrev pub rowsOf : ℕ → List ℕ
   rowsOf i = take (at (i + 1) - at i) (drop (nodesAt n e + at i) w′)
 
-  starts-word : (i : ℕ) → i ≤ r .zones → at i ≡ getD (startsIn n e w′) i 0
+  pub starts-word : (i : ℕ) → i ≤ r .zones → at i ≡ getD (startsIn n e w′) i 0
   starts-word i l = cut-get (sizes n e) w′ 0 11 i (startsAt n e + i) (omega arith) (omega (arith, d .stored .zones)) (omega arith)
 
   -- they start one after the other
