@@ -4,8 +4,13 @@ use mathlib.Core.List.{List, [], _∷_}
 use Prim.Native.Nat.{ℕ}
 use lib.ListN.{getD}
 use Rattle.lent.specs.Lent.{Lent, Result}
+use Rattle.equalize.specs.declared.EqualizeAnswer.{EqualizeAnswer}
 use Rattle.planet_walk.specs.declared.PlanetAnswer.{PlanetAnswer}
 use Rattle.depressurize.specs.declared.DepressurizeAnswer.{DepressurizeAnswer}
+
+-- number, cancelled, processed, tests, zones, apart, bytes
+abbrev pub equalizeNumbers : EqualizeAnswer → List ℕ
+equalizeNumbers a = a .number ∷ a .cancelled ∷ a .processed ∷ a .tests ∷ a .zones ∷ a .apart ∷ a .bytes ∷ []
 
 -- number, bytes
 abbrev pub planetNumbers : PlanetAnswer → List ℕ

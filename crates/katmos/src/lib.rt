@@ -4,9 +4,68 @@ ghost use lib.ListN.{getD};
 ghost use Rattle.turfs.specs.Tables.{board};
 ghost use Rattle.events.specs.Interface.{readEvent, writeEvent};
 ghost use Rattle.lent.specs.Given.{lent};
+ghost use Rattle.fill_all.specs.Held.{ask};
+ghost use Rattle.equalize.specs.Result.{equalizeResult};
 ghost use Rattle.planet_walk.specs.Planet.{planetResult};
 ghost use Rattle.depressurize.specs.Depressurize.{depressurizeResult};
-ghost use Rattle.katmos.specs.Answers.{Answers, planetNumbers, depressurizeNumbers};
+ghost use Rattle.katmos.specs.Answers.{Answers, equalizeNumbers, planetNumbers, depressurizeNumbers};
+
+// Evens out the gas of the rooms around the hot ones: number, cancelled, processed, tests, zones, apart, bytes.
+#[no_mangle]
+pub extern "C" fn katmos_equalize(
+    ids: &[u32],
+    flags: &[u8],
+    planetary: &[u8],
+    mixtures: &[u32],
+    starts: &[u32],
+    neighbours: &[u32],
+    link_flags: &[u8],
+    immutable: &[u8],
+    gases: u32,
+    amounts: &mut [f32],
+    hot: &[u32],
+    turns: &[u32],
+    threshold: f32,
+    limit: u32,
+    allowance: u32,
+    events: &mut [u8],
+    words: &mut [u32],
+    floats: &mut [f32],
+    answer: &mut [u32; 7],
+) -> u32
+    ensures { λ r. ⌜ Answers equalizeNumbers (equalizeResult (board (now (ids .entry)) (now (flags .entry)) (now (planetary .entry)) (now (mixtures .entry)) (now (starts .entry)) (now (neighbours .entry)) (now («link_flags» .entry)) (now (immutable .entry)) gases) (ask (now (hot .entry)) threshold limit allowance) (now (turns .entry)) (lent (now (amounts .entry)) (now (events .entry)) (now (words .entry)) (now (floats .entry)))) r (now (answer .exit)) (lent (now (amounts .exit)) (now (events .exit)) (now (words .exit)) (now (floats .exit))) ⌝ }
+{
+    let a = equalize_call::equalize(
+        ids,
+        flags,
+        planetary,
+        mixtures,
+        starts,
+        neighbours,
+        link_flags,
+        immutable,
+        gases,
+        amounts,
+        hot,
+        turns,
+        threshold,
+        limit,
+        allowance,
+        events,
+        words,
+        floats,
+    );
+    *answer = [
+        a.number,
+        a.cancelled,
+        a.processed,
+        a.tests,
+        a.zones,
+        a.apart,
+        a.bytes,
+    ];
+    a.number
+}
 
 // The planet walk from the turf `id`: number, bytes.
 #[no_mangle]
