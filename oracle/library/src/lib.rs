@@ -4,7 +4,6 @@ use boards::guarded::{Guarded, Lent};
 use boards::{Board, Call, Case, Equalize, Outcome, Walk, call};
 
 boards::calls! {
-    #[cfg(feature = "equalize")]
     fn katmos_equalize(amounts: *mut f32, amounts_len: usize, hot: *const u32, hot_len: usize, turns: *const u32, turns_len: usize, threshold: f32, limit: u32, allowance: u32);
     fn katmos_depressurize(amounts: *mut f32, amounts_len: usize, id: u32, limit: u32);
     fn katmos_planet_walk(amounts: *const f32, amounts_len: usize, id: u32, limit: u32);
@@ -15,15 +14,9 @@ unsafe extern "C" {
     fn katmos_write_event(kind: u32, f0: u32, f1: u32, f2: u32, f3: u32, events: *mut u8, events_len: usize, offset: u32, answer: *mut u32) -> u32;
 }
 
-#[cfg(feature = "equalize")]
 fn equalize(board: &Board, ask: &Equalize, lent: &mut Lent) -> u32 {
     let (hot, turns) = (&ask.hot, &ask.turns);
     call!(katmos_equalize, board, lent, *mut f32, hot.as_ptr(), hot.len(), turns.as_ptr(), turns.len(), ask.threshold, ask.limit, ask.allowance)
-}
-
-#[cfg(not(feature = "equalize"))]
-fn equalize(_: &Board, _: &Equalize, _: &mut Lent) -> u32 {
-    unimplemented!("equalize isn't in the archive yet")
 }
 
 fn depressurize(board: &Board, walk: &Walk, lent: &mut Lent) -> u32 {

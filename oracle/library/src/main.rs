@@ -52,10 +52,10 @@ fn compare(calls: &[u32], each: u64, seed: u64) {
     }
 }
 
-/// Document 01's boards that the archive has calls for.
+/// Document 01's boards.
 fn paper() {
     let mut count = 0;
-    for row in boards::paper::rows().into_iter().filter(|row| cfg!(feature = "equalize") || row.case.call.number() != 1) {
+    for row in boards::paper::rows().into_iter() {
         assert_eq!(outcome(&row.case), Ok(row.outcome()), "{}", row.name);
         count += 1;
     }
