@@ -35,7 +35,7 @@ pub struct Replayed {
 }
 
 // What a call answered: its first number, where its expectations begin, whether the answer is as expected, and where the next number stands.
-pub struct Made {
+pub struct Answered {
     pub number: u32,
     pub expected: usize,
     pub same: bool,
@@ -98,7 +98,7 @@ fn ended(input: &[u8], from: usize, at: usize, value: u32) -> Number {
 }
 
 // The number that stands here; none is 0 and loses the place.
-fn number(input: &[u8], from: usize) -> Number {
+fn read_number(input: &[u8], from: usize) -> Number {
     let mut value = 0;
     let mut at = from;
     while at < input.len() {
@@ -119,7 +119,7 @@ fn nan_bits(bits: u32) -> bool {
 
 // The amount with these bits.
 fn amount_of(bits: u32) -> f32 {
-    if nan_bits(bits) {
+    if 0x7f80_0000 < bits % 0x8000_0000 {
         return 0.0 / 0.0;
     }
     f32::from_bits(bits)
@@ -137,7 +137,7 @@ fn has_bits(x: f32, bits: u32) -> bool {
 fn length_of(input: &[u8], from: usize, most: usize) -> List
     ensures { λ r. ⌜ r .count ≤ most ⌝ }
 {
-    let n = number(input, from);
+    let n = read_number(input, from);
     let count = n.value as usize;
     if most < count {
         return List {
@@ -160,7 +160,7 @@ fn read_words(input: &[u8], from: usize, out: &mut [u32]) -> List
     let mut at = list.next;
     let mut i = 0;
     while i < count {
-        let x = number(input, at);
+        let x = read_number(input, at);
         out[i] = x.value;
         at = x.next;
         i += 1;
@@ -177,7 +177,7 @@ fn read_bytes(input: &[u8], from: usize, out: &mut [u8]) -> List
     let mut at = list.next;
     let mut i = 0;
     while i < count {
-        let x = number(input, at);
+        let x = read_number(input, at);
         out[i] = (x.value % 256) as u8;
         at = x.next;
         i += 1;
@@ -194,7 +194,7 @@ fn read_amounts(input: &[u8], from: usize, out: &mut [f32]) -> List
     let mut at = list.next;
     let mut i = 0;
     while i < count {
-        let x = number(input, at);
+        let x = read_number(input, at);
         out[i] = amount_of(x.value);
         at = x.next;
         i += 1;
@@ -248,7 +248,7 @@ fn both(a: bool, b: bool) -> bool {
 
 // Where a list of just so many elements begins; for another length the place is lost.
 fn exactly(input: &[u8], from: usize, count: usize) -> usize {
-    let n = number(input, from);
+    let n = read_number(input, from);
     if n.value as usize == count {
         return n.next;
     }
@@ -261,7 +261,7 @@ fn same_answer(input: &[u8], from: usize, answer: &[u32]) -> Seen {
     let mut same = true;
     let mut i = 0;
     while i < answer.len() {
-        let x = number(input, at);
+        let x = read_number(input, at);
         same = both(same, x.value == answer[i]);
         at = x.next;
         i += 1;
@@ -275,7 +275,7 @@ fn same_amounts(input: &[u8], from: usize, amounts: &[f32]) -> Seen {
     let mut same = true;
     let mut i = 0;
     while i < amounts.len() {
-        let x = number(input, at);
+        let x = read_number(input, at);
         same = both(same, has_bits(amounts[i], x.value));
         at = x.next;
         i += 1;
@@ -306,7 +306,7 @@ fn same_events(input: &[u8], from: usize, events: &[u8]) -> Seen {
     let mut same = kept_events(events, count);
     let mut i = 0;
     while i < count {
-        let x = number(input, at);
+        let x = read_number(input, at);
         same = both(same, x.value == wide(events[i]));
         at = x.next;
         i += 1;
@@ -362,8 +362,8 @@ fn same_lent(
 ) -> Seen {
     let gas = same_amounts(input, from, amounts);
     let area = same_events(input, gas.next, events);
-    let cleared = number(input, area.next);
-    let zeros = number(input, cleared.next);
+    let cleared = read_number(input, area.next);
+    let zeros = read_number(input, cleared.next);
     let scratch = both(
         same_words(words, cleared.value as usize),
         same_floats(floats, zeros.value as usize),
@@ -375,9 +375,9 @@ fn same_lent(
 }
 
 // A call's answer, held to the list that stands here.
-fn made(input: &[u8], expected: usize, number: u32, answer: &[u32]) -> Made {
+fn made(input: &[u8], expected: usize, number: u32, answer: &[u32]) -> Answered {
     let s = same_answer(input, expected, answer);
-    Made {
+    Answered {
         number,
         expected,
         same: s.same,
@@ -402,9 +402,9 @@ fn depressurize(
     events: &mut [u8],
     words: &mut [u32],
     floats: &mut [f32],
-) -> Made {
-    let id = number(input, from);
-    let limit = number(input, id.next);
+) -> Answered {
+    let id = read_number(input, from);
+    let limit = read_number(input, id.next);
     let a = depressurize::depressurize(
         ids,
         flags,
@@ -443,9 +443,9 @@ fn planet_walk(
     events: &mut [u8],
     words: &mut [u32],
     floats: &mut [f32],
-) -> Made {
-    let id = number(input, from);
-    let limit = number(input, id.next);
+) -> Answered {
+    let id = read_number(input, from);
+    let limit = read_number(input, id.next);
     let a = planet_walk::planet_walk(
         ids,
         flags,
@@ -485,7 +485,7 @@ fn make(
     events: &mut [u8],
     words: &mut [u32],
     floats: &mut [f32],
-) -> Made {
+) -> Answered {
     match call {
         2 => depressurize(
             input,
@@ -521,7 +521,7 @@ fn make(
             words,
             floats,
         ),
-        _ => Made {
+        _ => Answered {
             number: 0,
             expected: LOST,
             same: false,
@@ -604,7 +604,7 @@ pub fn replay(input: &[u8], from: usize) -> Replayed {
     let mut link_flags = [0u8; 512];
     let mut immutable = [0u8; 66];
     let mut amounts = [0.0f32; 512];
-    let call = number(input, from);
+    let call = read_number(input, from);
     let i = read_words(input, call.next, &mut ids);
     let f = read_bytes(input, i.next, &mut flags);
     let p = read_bytes(input, f.next, &mut planetary);
@@ -613,7 +613,7 @@ pub fn replay(input: &[u8], from: usize) -> Replayed {
     let n = read_words(input, s.next, &mut neighbours);
     let l = read_bytes(input, n.next, &mut link_flags);
     let k = read_bytes(input, l.next, &mut immutable);
-    let gases = number(input, k.next);
+    let gases = read_number(input, k.next);
     let a = read_amounts(input, gases.next, &mut amounts);
     let id_count = i.count;
     let flag_count = f.count;
