@@ -1,61 +1,48 @@
+-- `same_amounts` is safe and ends: the test keeps the index inside, and what is left of the amounts falls. Assumes nothing.
+use Prim.Native.Nat.{_-_}
+use lib.ListN.{length}
+use borrow.Author.Needs.{needs}
 use Rattle.replaying.proofs.same_amounts.Statement.{statement}
 use Rattle.replaying.proofs.same_amounts.Tie as tie
-use Rattle.replaying.proofs.same_amounts.Reads as reads
-use Rattle.replaying.proofs.same_amounts.Lts as lts
-use Rattle.replaying.proofs.both.Reads as both-reads
-use Rattle.replaying.proofs.exactly.Reads as exactly-reads
-use Rattle.replaying.proofs.has_bits.Reads as has-bits-reads
-use Rattle.replaying.proofs.read_number.Reads as read-number-reads
 
 abbrev Inv-loop : tie.InvT-loop
-Inv-loop input from amounts at₀ same₀ i₀ at same i = ?
+Inv-loop input from amounts at₀ same₀ i₀ at same i = Unit {0}
 
 abbrev μ-loop : tie.MeasureT-loop
-μ-loop input from amounts at₀ same₀ i₀ at same i = ?
+μ-loop input from amounts at₀ same₀ i₀ at same i = length amounts - i
 
--- src/lib.rt:274:9
 exactly-requires : tie.Need-exactly-requires Inv-loop μ-loop
-exactly-requires c κs = ?
+exactly-requires c κs = search needs
 
--- src/lib.rt:277:5
 loop-holds : tie.Need-loop-holds Inv-loop μ-loop
-loop-holds c = ?
+loop-holds c = search needs
 
--- src/lib.rt:278:13
 read-number-requires : tie.Need-read-number-requires Inv-loop μ-loop
-read-number-requires c κs = ?
+read-number-requires c κs = search needs
 
--- src/lib.rt:279:36
 mul-has-bits : tie.Need-mul-has-bits Inv-loop μ-loop
-mul-has-bits c = ?
+mul-has-bits c = search needs
 
--- src/lib.rt:279:36
 shared-slice-read-has-bits : tie.Need-shared-slice-read-has-bits Inv-loop μ-loop
-shared-slice-read-has-bits c = ?
+shared-slice-read-has-bits c = search needs
 
--- src/lib.rt:279:27
 has-bits-requires : tie.Need-has-bits-requires Inv-loop μ-loop
-has-bits-requires c κs = ?
+has-bits-requires c κs = search needs
 
--- src/lib.rt:279:9
 both-requires : tie.Need-both-requires Inv-loop μ-loop
-both-requires c κs = ?
+both-requires c κs = search needs
 
--- src/lib.rt:281:9
 add-i : tie.Need-add-i Inv-loop μ-loop
-add-i c = ?
+add-i c = search needs
 
--- src/lib.rt:277:5
 loop-less : tie.Need-loop-less Inv-loop μ-loop
-loop-less c = ?
+loop-less c = search needs
 
--- src/lib.rt:277:5
 loop-again : tie.Need-loop-again Inv-loop μ-loop
-loop-again c = ?
+loop-again c = search needs
 
--- src/lib.rt:273:1
 returns : tie.Need-returns Inv-loop μ-loop
-returns c = ?
+returns c = search needs
 
 pub same-amounts-spec : {M : Type 1} → statement M
 same-amounts-spec =

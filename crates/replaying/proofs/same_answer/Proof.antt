@@ -1,56 +1,45 @@
+-- `same_answer` is safe and ends: the test keeps the index inside, and what is left of the answer falls. Assumes nothing.
+use Prim.Native.Nat.{_-_}
+use lib.ListN.{length}
+use borrow.Author.Needs.{needs}
 use Rattle.replaying.proofs.same_answer.Statement.{statement}
 use Rattle.replaying.proofs.same_answer.Tie as tie
-use Rattle.replaying.proofs.same_answer.Reads as reads
-use Rattle.replaying.proofs.same_answer.Lts as lts
-use Rattle.replaying.proofs.both.Reads as both-reads
-use Rattle.replaying.proofs.exactly.Reads as exactly-reads
-use Rattle.replaying.proofs.read_number.Reads as read-number-reads
 
 abbrev Inv-loop : tie.InvT-loop
-Inv-loop input from answer at₀ same₀ i₀ at same i = ?
+Inv-loop input from answer at₀ same₀ i₀ at same i = Unit {0}
 
 abbrev μ-loop : tie.MeasureT-loop
-μ-loop input from answer at₀ same₀ i₀ at same i = ?
+μ-loop input from answer at₀ same₀ i₀ at same i = length answer - i
 
--- src/lib.rt:260:9
 exactly-requires : tie.Need-exactly-requires Inv-loop μ-loop
-exactly-requires c κs = ?
+exactly-requires c κs = search needs
 
--- src/lib.rt:263:5
 loop-holds : tie.Need-loop-holds Inv-loop μ-loop
-loop-holds c = ?
+loop-holds c = search needs
 
--- src/lib.rt:264:13
 read-number-requires : tie.Need-read-number-requires Inv-loop μ-loop
-read-number-requires c κs = ?
+read-number-requires c κs = search needs
 
--- src/lib.rt:265:38
 mul-both : tie.Need-mul-both Inv-loop μ-loop
-mul-both c = ?
+mul-both c = search needs
 
--- src/lib.rt:265:38
 shared-slice-read-both : tie.Need-shared-slice-read-both Inv-loop μ-loop
-shared-slice-read-both c = ?
+shared-slice-read-both c = search needs
 
--- src/lib.rt:265:9
 both-requires : tie.Need-both-requires Inv-loop μ-loop
-both-requires c κs = ?
+both-requires c κs = search needs
 
--- src/lib.rt:267:9
 add-i : tie.Need-add-i Inv-loop μ-loop
-add-i c = ?
+add-i c = search needs
 
--- src/lib.rt:263:5
 loop-less : tie.Need-loop-less Inv-loop μ-loop
-loop-less c = ?
+loop-less c = search needs
 
--- src/lib.rt:263:5
 loop-again : tie.Need-loop-again Inv-loop μ-loop
-loop-again c = ?
+loop-again c = search needs
 
--- src/lib.rt:259:1
 returns : tie.Need-returns Inv-loop μ-loop
-returns c = ?
+returns c = search needs
 
 pub same-answer-spec : {M : Type 1} → statement M
 same-answer-spec =

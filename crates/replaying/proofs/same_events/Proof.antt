@@ -1,62 +1,48 @@
+-- `same_events` is safe and ends: the list is no longer than the area, and what is left of it falls. Assumes nothing.
+use Prim.Native.Nat.{_≤_, _-_}
+use lib.ListN.{length}
+use borrow.Author.Needs.{needs}
 use Rattle.replaying.proofs.same_events.Statement.{statement}
 use Rattle.replaying.proofs.same_events.Tie as tie
-use Rattle.replaying.proofs.same_events.Reads as reads
-use Rattle.replaying.proofs.same_events.Lts as lts
-use Rattle.replaying.proofs.both.Reads as both-reads
-use Rattle.replaying.proofs.kept_events.Reads as kept-events-reads
-use Rattle.replaying.proofs.length_of.Reads as length-of-reads
-use Rattle.replaying.proofs.read_number.Reads as read-number-reads
-use Rattle.replaying.proofs.wide.Reads as wide-reads
 
 abbrev Inv-loop : tie.InvT-loop
-Inv-loop input from events count at₀ same₀ i₀ at same i = ?
+Inv-loop input from events count at₀ same₀ i₀ at same i = count ≤ length events
 
 abbrev μ-loop : tie.MeasureT-loop
-μ-loop input from events count at₀ same₀ i₀ at same i = ?
+μ-loop input from events count at₀ same₀ i₀ at same i = count - i
 
--- src/lib.rt:303:9
 length-of-requires : tie.Need-length-of-requires Inv-loop μ-loop
-length-of-requires c κs = ?
+length-of-requires c κs = search needs
 
--- src/lib.rt:306:9
 kept-events-requires : tie.Need-kept-events-requires Inv-loop μ-loop
-kept-events-requires c κs = ?
+kept-events-requires c κs = search needs
 
--- src/lib.rt:308:5
 loop-holds : tie.Need-loop-holds Inv-loop μ-loop
-loop-holds c = ?
+loop-holds c = search needs
 
--- src/lib.rt:309:13
 read-number-requires : tie.Need-read-number-requires Inv-loop μ-loop
-read-number-requires c κs = ?
+read-number-requires c κs = search needs
 
--- src/lib.rt:310:43
 shared-slice-read-wide : tie.Need-shared-slice-read-wide Inv-loop μ-loop
-shared-slice-read-wide c = ?
+shared-slice-read-wide c = search needs
 
--- src/lib.rt:310:38
 wide-requires : tie.Need-wide-requires Inv-loop μ-loop
-wide-requires c κs = ?
+wide-requires c κs = search needs
 
--- src/lib.rt:310:9
 both-requires : tie.Need-both-requires Inv-loop μ-loop
-both-requires c κs = ?
+both-requires c κs = search needs
 
--- src/lib.rt:312:9
 add-i : tie.Need-add-i Inv-loop μ-loop
-add-i c = ?
+add-i c = search needs
 
--- src/lib.rt:308:5
 loop-less : tie.Need-loop-less Inv-loop μ-loop
-loop-less c = ?
+loop-less c = search needs
 
--- src/lib.rt:308:5
 loop-again : tie.Need-loop-again Inv-loop μ-loop
-loop-again c = ?
+loop-again c = search needs
 
--- src/lib.rt:302:1
 returns : tie.Need-returns Inv-loop μ-loop
-returns c = ?
+returns c = search needs
 
 pub same-events-spec : {M : Type 1} → statement M
 same-events-spec =
