@@ -530,7 +530,7 @@ fn make(
     }
 }
 
-// Lends areas of the lengths that stand here, makes the call and looks at every cell.
+// Fills the areas, makes the call and looks at every cell.
 fn play(
     call: u32,
     input: &[u8],
@@ -545,20 +545,67 @@ fn play(
     immutable: &[u8],
     gases: u32,
     amounts: &mut [f32],
+    events: &mut [u8],
+    words: &mut [u32],
+    floats: &mut [f32],
 ) -> Replayed {
-    let mut events = [0u8; 12_000];
-    let mut words = [0u32; 4_000];
-    let mut floats = [0.0f32; 2_000];
-    let e = length_of(input, from, 12_000);
-    let w = length_of(input, e.next, 4_000);
-    let f = length_of(input, w.next, 2_000);
+    lend_events(events);
+    lend_words(words);
+    lend_floats(floats);
+    let m = make(
+        call,
+        input,
+        from,
+        ids,
+        flags,
+        planetary,
+        mixtures,
+        starts,
+        neighbours,
+        link_flags,
+        immutable,
+        gases,
+        amounts,
+        events,
+        words,
+        floats,
+    );
+    let s = same_lent(input, m.next, amounts, events, words, floats);
+    Replayed {
+        call,
+        number: m.number,
+        expected: m.expected,
+        same: both(m.same, s.same),
+        next: s.next,
+    }
+}
+
+// Plays with areas of the lengths that stand here.
+fn play_within(
+    call: u32,
+    input: &[u8],
+    from: usize,
+    ids: &[u32],
+    flags: &[u8],
+    planetary: &[u8],
+    mixtures: &[u32],
+    starts: &[u32],
+    neighbours: &[u32],
+    link_flags: &[u8],
+    immutable: &[u8],
+    gases: u32,
+    amounts: &mut [f32],
+    events: &mut [u8],
+    words: &mut [u32],
+    floats: &mut [f32],
+) -> Replayed {
+    let e = length_of(input, from, events.len());
+    let w = length_of(input, e.next, words.len());
+    let f = length_of(input, w.next, floats.len());
     let bytes = e.count;
     let cells = w.count;
     let numbers = f.count;
-    lend_events(&mut events[..bytes]);
-    lend_words(&mut words[..cells]);
-    lend_floats(&mut floats[..numbers]);
-    let m = make(
+    play(
         call,
         input,
         f.next,
@@ -575,46 +622,37 @@ fn play(
         &mut events[..bytes],
         &mut words[..cells],
         &mut floats[..numbers],
-    );
-    let s = same_lent(
-        input,
-        m.next,
-        amounts,
-        &events[..bytes],
-        &words[..cells],
-        &floats[..numbers],
-    );
-    Replayed {
-        call,
-        number: m.number,
-        expected: m.expected,
-        same: both(m.same, s.same),
-        next: s.next,
-    }
+    )
 }
 
-// Replays the vector that stands here.
-pub fn replay(input: &[u8], from: usize) -> Replayed {
-    let mut ids = [0u32; 66];
-    let mut flags = [0u8; 66];
-    let mut planetary = [0u8; 66];
-    let mut mixtures = [0u32; 66];
-    let mut starts = [0u32; 66];
-    let mut neighbours = [0u32; 512];
-    let mut link_flags = [0u8; 512];
-    let mut immutable = [0u8; 66];
-    let mut amounts = [0.0f32; 512];
+// Reads the tables that stand here, and plays with them.
+fn replay_within(
+    input: &[u8],
+    from: usize,
+    ids: &mut [u32],
+    flags: &mut [u8],
+    planetary: &mut [u8],
+    mixtures: &mut [u32],
+    starts: &mut [u32],
+    neighbours: &mut [u32],
+    link_flags: &mut [u8],
+    immutable: &mut [u8],
+    amounts: &mut [f32],
+    events: &mut [u8],
+    words: &mut [u32],
+    floats: &mut [f32],
+) -> Replayed {
     let call = read_number(input, from);
-    let i = read_words(input, call.next, &mut ids);
-    let f = read_bytes(input, i.next, &mut flags);
-    let p = read_bytes(input, f.next, &mut planetary);
-    let m = read_words(input, p.next, &mut mixtures);
-    let s = read_words(input, m.next, &mut starts);
-    let n = read_words(input, s.next, &mut neighbours);
-    let l = read_bytes(input, n.next, &mut link_flags);
-    let k = read_bytes(input, l.next, &mut immutable);
+    let i = read_words(input, call.next, ids);
+    let f = read_bytes(input, i.next, flags);
+    let p = read_bytes(input, f.next, planetary);
+    let m = read_words(input, p.next, mixtures);
+    let s = read_words(input, m.next, starts);
+    let n = read_words(input, s.next, neighbours);
+    let l = read_bytes(input, n.next, link_flags);
+    let k = read_bytes(input, l.next, immutable);
     let gases = read_number(input, k.next);
-    let a = read_amounts(input, gases.next, &mut amounts);
+    let a = read_amounts(input, gases.next, amounts);
     let id_count = i.count;
     let flag_count = f.count;
     let planetary_count = p.count;
@@ -624,7 +662,7 @@ pub fn replay(input: &[u8], from: usize) -> Replayed {
     let link_count = l.count;
     let immutable_count = k.count;
     let amount_count = a.count;
-    play(
+    play_within(
         call.value,
         input,
         a.next,
@@ -638,6 +676,41 @@ pub fn replay(input: &[u8], from: usize) -> Replayed {
         &immutable[..immutable_count],
         gases.value,
         &mut amounts[..amount_count],
+        events,
+        words,
+        floats,
+    )
+}
+
+// Replays the vector that stands here.
+pub fn replay(input: &[u8], from: usize) -> Replayed {
+    let mut ids = [0u32; 66];
+    let mut flags = [0u8; 66];
+    let mut planetary = [0u8; 66];
+    let mut mixtures = [0u32; 66];
+    let mut starts = [0u32; 66];
+    let mut neighbours = [0u32; 512];
+    let mut link_flags = [0u8; 512];
+    let mut immutable = [0u8; 66];
+    let mut amounts = [0.0f32; 512];
+    let mut events = [0u8; 12_000];
+    let mut words = [0u32; 4_000];
+    let mut floats = [0.0f32; 2_000];
+    replay_within(
+        input,
+        from,
+        &mut ids,
+        &mut flags,
+        &mut planetary,
+        &mut mixtures,
+        &mut starts,
+        &mut neighbours,
+        &mut link_flags,
+        &mut immutable,
+        &mut amounts,
+        &mut events,
+        &mut words,
+        &mut floats,
     )
 }
 
