@@ -239,6 +239,13 @@ fn lend_floats(floats: &mut [f32]) {
     }
 }
 
+// Fills the areas with what they hold before a call.
+fn lend(events: &mut [u8], words: &mut [u32], floats: &mut [f32]) {
+    lend_events(events);
+    lend_words(words);
+    lend_floats(floats);
+}
+
 fn both(a: bool, b: bool) -> bool {
     if a {
         return b;
@@ -549,9 +556,7 @@ fn play(
     words: &mut [u32],
     floats: &mut [f32],
 ) -> Replayed {
-    lend_events(events);
-    lend_words(words);
-    lend_floats(floats);
+    lend(events, words, floats);
     let m = make(
         call,
         input,
@@ -625,60 +630,79 @@ fn play_within(
     )
 }
 
-// Reads the tables that stand here, and plays with them.
-fn replay_within(
+// Reads the mixtures' tables that stand here, and plays.
+fn replay_gas(
+    call: u32,
     input: &[u8],
     from: usize,
-    ids: &mut [u32],
-    flags: &mut [u8],
-    planetary: &mut [u8],
-    mixtures: &mut [u32],
-    starts: &mut [u32],
-    neighbours: &mut [u32],
-    link_flags: &mut [u8],
-    immutable: &mut [u8],
-    amounts: &mut [f32],
-    events: &mut [u8],
-    words: &mut [u32],
-    floats: &mut [f32],
+    ids: &[u32],
+    flags: &[u8],
+    planetary: &[u8],
+    mixtures: &[u32],
+    starts: &[u32],
+    neighbours: &[u32],
+    link_flags: &[u8],
 ) -> Replayed {
-    let call = read_number(input, from);
-    let i = read_words(input, call.next, ids);
-    let f = read_bytes(input, i.next, flags);
-    let p = read_bytes(input, f.next, planetary);
-    let m = read_words(input, p.next, mixtures);
-    let s = read_words(input, m.next, starts);
-    let n = read_words(input, s.next, neighbours);
-    let l = read_bytes(input, n.next, link_flags);
-    let k = read_bytes(input, l.next, immutable);
-    let gases = read_number(input, k.next);
-    let a = read_amounts(input, gases.next, amounts);
-    let id_count = i.count;
-    let flag_count = f.count;
-    let planetary_count = p.count;
-    let mixture_count = m.count;
-    let start_count = s.count;
-    let neighbour_count = n.count;
-    let link_count = l.count;
-    let immutable_count = k.count;
+    let mut immutable = [0u8; 66];
+    let mut amounts = [0.0f32; 512];
+    let mut events = [0u8; 12_000];
+    let mut words = [0u32; 4_000];
+    let mut floats = [0.0f32; 2_000];
+    let i = read_bytes(input, from, &mut immutable);
+    let gases = read_number(input, i.next);
+    let a = read_amounts(input, gases.next, &mut amounts);
+    let immutable_count = i.count;
     let amount_count = a.count;
     play_within(
-        call.value,
+        call,
         input,
         a.next,
-        &ids[..id_count],
-        &flags[..flag_count],
-        &planetary[..planetary_count],
-        &mixtures[..mixture_count],
-        &starts[..start_count],
-        &neighbours[..neighbour_count],
-        &link_flags[..link_count],
+        ids,
+        flags,
+        planetary,
+        mixtures,
+        starts,
+        neighbours,
+        link_flags,
         &immutable[..immutable_count],
         gases.value,
         &mut amounts[..amount_count],
-        events,
-        words,
-        floats,
+        &mut events,
+        &mut words,
+        &mut floats,
+    )
+}
+
+// Reads the links' tables that stand here, and goes on.
+fn replay_links(
+    call: u32,
+    input: &[u8],
+    from: usize,
+    ids: &[u32],
+    flags: &[u8],
+    planetary: &[u8],
+    mixtures: &[u32],
+) -> Replayed {
+    let mut starts = [0u32; 66];
+    let mut neighbours = [0u32; 512];
+    let mut link_flags = [0u8; 512];
+    let s = read_words(input, from, &mut starts);
+    let n = read_words(input, s.next, &mut neighbours);
+    let l = read_bytes(input, n.next, &mut link_flags);
+    let start_count = s.count;
+    let neighbour_count = n.count;
+    let link_count = l.count;
+    replay_gas(
+        call,
+        input,
+        l.next,
+        ids,
+        flags,
+        planetary,
+        mixtures,
+        &starts[..start_count],
+        &neighbours[..neighbour_count],
+        &link_flags[..link_count],
     )
 }
 
@@ -688,29 +712,23 @@ pub fn replay(input: &[u8], from: usize) -> Replayed {
     let mut flags = [0u8; 66];
     let mut planetary = [0u8; 66];
     let mut mixtures = [0u32; 66];
-    let mut starts = [0u32; 66];
-    let mut neighbours = [0u32; 512];
-    let mut link_flags = [0u8; 512];
-    let mut immutable = [0u8; 66];
-    let mut amounts = [0.0f32; 512];
-    let mut events = [0u8; 12_000];
-    let mut words = [0u32; 4_000];
-    let mut floats = [0.0f32; 2_000];
-    replay_within(
+    let call = read_number(input, from);
+    let i = read_words(input, call.next, &mut ids);
+    let f = read_bytes(input, i.next, &mut flags);
+    let p = read_bytes(input, f.next, &mut planetary);
+    let m = read_words(input, p.next, &mut mixtures);
+    let id_count = i.count;
+    let flag_count = f.count;
+    let planetary_count = p.count;
+    let mixture_count = m.count;
+    replay_links(
+        call.value,
         input,
-        from,
-        &mut ids,
-        &mut flags,
-        &mut planetary,
-        &mut mixtures,
-        &mut starts,
-        &mut neighbours,
-        &mut link_flags,
-        &mut immutable,
-        &mut amounts,
-        &mut events,
-        &mut words,
-        &mut floats,
+        m.next,
+        &ids[..id_count],
+        &flags[..flag_count],
+        &planetary[..planetary_count],
+        &mixtures[..mixture_count],
     )
 }
 

@@ -1,97 +1,72 @@
+-- `print_all` is safe and ends: the place goes on with each vector. Assumes nothing.
+use Prim.Native.Nat.{_-_}
+use lib.ListN.{length}
+use borrow.Author.Needs.{needs}
 use Rattle.replaying.proofs.print_all.Statement.{statement}
 use Rattle.replaying.proofs.print_all.Tie as tie
-use Rattle.replaying.proofs.print_all.Reads as reads
-use Rattle.replaying.proofs.print_all.Lts as lts
-use Rattle.replaying.proofs.counted.Reads as counted-reads
-use Rattle.replaying.proofs.further.Reads as further-reads
-use Rattle.replaying.proofs.replay.Reads as replay-reads
-use Rattle.replaying.proofs.show.Reads as show-reads
-use Rattle.replaying.proofs.show_call.Reads as show-call-reads
-use Rattle.replaying.proofs.show_total.Reads as show-total-reads
-use Rattle.replaying.proofs.skip.Reads as skip-reads
-use Rattle.replaying.proofs.tally.Reads as tally-reads
 
 abbrev Inv-loop : tie.InvT-loop
-Inv-loop input counts₀ t₀ at₀ t6 t7 t8 counts t at = ?
+Inv-loop input counts₀ t₀ at₀ t6 t7 t8 counts t at = Unit {0}
 
 abbrev μ-loop : tie.MeasureT-loop
-μ-loop input counts₀ t₀ at₀ t6 t7 t8 counts t at = ?
+μ-loop input counts₀ t₀ at₀ t6 t7 t8 counts t at = length input - at
 
--- src/lib.rt:820:9
 skip-requires : tie.Need-skip-requires Inv-loop μ-loop
-skip-requires c κs = ?
+skip-requires c κs = search needs
 
--- src/lib.rt:821:5
 loop-holds : tie.Need-loop-holds Inv-loop μ-loop
-loop-holds c = ?
+loop-holds c = search needs
 
--- src/lib.rt:822:13
 replay-requires : tie.Need-replay-requires Inv-loop μ-loop
-replay-requires c κs = ?
+replay-requires c κs = search needs
 
--- src/lib.rt:823:9
 further-requires : tie.Need-further-requires Inv-loop μ-loop
-further-requires c κs = ?
+further-requires c κs = search needs
 
--- src/lib.rt:825:13
 tally-requires : tie.Need-tally-requires Inv-loop μ-loop
-tally-requires c κs = ?
+tally-requires c κs = search needs
 
--- src/lib.rt:826:13
 counted-requires : tie.Need-counted-requires Inv-loop μ-loop
-counted-requires c κs = ?
+counted-requires c κs = search needs
 
--- src/lib.rt:821:5
 loop-less : tie.Need-loop-less Inv-loop μ-loop
-loop-less c = ?
+loop-less c = search needs
 
--- src/lib.rt:821:5
 loop-again : tie.Need-loop-again Inv-loop μ-loop
-loop-again c = ?
+loop-again c = search needs
 
--- src/lib.rt:821:5
 loop-less-2 : tie.Need-loop-less-2 Inv-loop μ-loop
-loop-less-2 c = ?
+loop-less-2 c = search needs
 
--- src/lib.rt:821:5
 loop-again-2 : tie.Need-loop-again-2 Inv-loop μ-loop
-loop-again-2 c = ?
+loop-again-2 c = search needs
 
--- src/lib.rt:829:15
 slice-aggregate-show-call : tie.Need-slice-aggregate-show-call Inv-loop μ-loop
-slice-aggregate-show-call c = ?
+slice-aggregate-show-call c = search needs
 
--- src/lib.rt:829:5
 show-call-requires : tie.Need-show-call-requires Inv-loop μ-loop
-show-call-requires c κs = ?
+show-call-requires c κs = search needs
 
--- src/lib.rt:830:15
 slice-aggregate-show-call-2 : tie.Need-slice-aggregate-show-call-2 Inv-loop μ-loop
-slice-aggregate-show-call-2 c = ?
+slice-aggregate-show-call-2 c = search needs
 
--- src/lib.rt:830:5
 show-call-requires-2 : tie.Need-show-call-requires-2 Inv-loop μ-loop
-show-call-requires-2 c κs = ?
+show-call-requires-2 c κs = search needs
 
--- src/lib.rt:831:5
 show-total-requires : tie.Need-show-total-requires Inv-loop μ-loop
-show-total-requires c κs = ?
+show-total-requires c κs = search needs
 
--- src/lib.rt:833:14
 slice-aggregate-show : tie.Need-slice-aggregate-show Inv-loop μ-loop
-slice-aggregate-show c = ?
+slice-aggregate-show c = search needs
 
--- src/lib.rt:833:9
 show-requires : tie.Need-show-requires Inv-loop μ-loop
-show-requires c κs = ?
+show-requires c κs = search needs
 
--- src/lib.rt:813:1
 returns : tie.Need-returns Inv-loop μ-loop
-returns c = ?
+returns c = search needs
 
--- src/lib.rt:813:1
 returns-2 : tie.Need-returns-2 Inv-loop μ-loop
-returns-2 c = ?
+returns-2 c = search needs
 
 pub print-all-spec : {M : Type 1} → statement M
 print-all-spec =
