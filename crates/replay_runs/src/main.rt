@@ -1,1 +1,128 @@
-fn main() {}
+// That a replay can fail: each digit of what stored vectors expect is changed, and each vector torn at each of its digits. How many of
+// these are found is printed, then what is said of vectors with one change, of torn ones, and of one that is too long.
+ghost use Prim.Native.Nat.{_≤_, _<_};
+ghost use lib.ListN.{length};
+
+// How many were tried, and how many of them found.
+pub struct Tried {
+    pub tried: u32,
+    pub found: u32,
+}
+
+fn counted(t: Tried, found: bool) -> Tried {
+    let tried = std::num::wrapping_add_u32(t.tried, 1);
+    if found {
+        return Tried {
+            tried,
+            found: std::num::wrapping_add_u32(t.found, 1),
+        };
+    }
+    Tried {
+        tried,
+        found: t.found,
+    }
+}
+
+fn is_digit(b: u8) -> bool {
+    match b {
+        48..=57 => true,
+        97..=102 => true,
+        _ => false,
+    }
+}
+
+// Another digit.
+fn other(b: u8) -> u8 {
+    if b == b'0' { b'1' } else { b'0' }
+}
+
+fn least(a: usize, b: usize) -> usize
+    ensures { λ r. ⌜ r ≤ b ⌝ }
+{
+    if a < b {
+        return a;
+    }
+    b
+}
+
+// Whether the vector at a place isn't met once the digit at p is another one; the digit is put back.
+fn change(input: &mut [u8], at: usize, p: usize) -> bool
+    requires { ⌜ p < length (now input) ⌝ }
+{
+    let b = input[p];
+    input[p] = other(b);
+    let r = replaying::replay(input, at);
+    input[p] = b;
+    !r.same
+}
+
+// Changes each digit between two places.
+fn changes(input: &mut [u8], at: usize, from: usize, to: usize, before: Tried) -> Tried {
+    let end = least(to, input.len());
+    let mut t = before;
+    let mut p = from;
+    while p < end {
+        if is_digit(input[p]) {
+            t = counted(t, change(input, at, p));
+        }
+        p += 1;
+    }
+    t
+}
+
+// Tears the vector at each digit up to a place.
+fn tears(input: &[u8], at: usize, to: usize, before: Tried) -> Tried {
+    let end = least(to, input.len());
+    let mut t = before;
+    let mut p = at;
+    while p < end {
+        if is_digit(input[p]) {
+            let r = replaying::replay(&input[..p], at);
+            t = counted(t, !r.same);
+        }
+        p += 1;
+    }
+    t
+}
+
+fn show(t: Tried, what: &[u8]) {
+    replaying::show_number(t.tried);
+    replaying::show(what);
+    replaying::show_number(t.found);
+    replaying::show(b" found\n");
+}
+
+// Every vector's digits.
+fn run(input: &mut [u8]) {
+    let mut changed = Tried { tried: 0, found: 0 };
+    let mut torn = Tried { tried: 0, found: 0 };
+    let mut at = replaying::skip(input, 0);
+    while at < input.len() {
+        let r = replaying::replay(input, at);
+        changed = changes(input, at, r.expected, r.next, changed);
+        torn = tears(input, at, r.next, torn);
+        at = replaying::further(at, r.next);
+    }
+    show(changed, b" digits changed, ");
+    show(torn, b" times torn, ");
+}
+
+// Prints what is said where the first vector's first number answered is another one, and where the input lacks its second half.
+fn spoil(input: &mut [u8]) {
+    let r = replaying::replay(input, 0);
+    let p = std::num::wrapping_add_usize(r.expected, 2);
+    if p < input.len() {
+        input[p] = other(input[p]);
+    }
+    replaying::print(input);
+    let n = input.len() / 2;
+    replaying::print(&input[..n]);
+}
+
+fn main() {
+    let mut input = [0u8; 65_536];
+    let n = io::read_full(libc::STDIN_FILENO, &mut input);
+    run(&mut input[..n]);
+    spoil(&mut input[..n]);
+    replaying::print(b"3 43 1 2 3");
+}

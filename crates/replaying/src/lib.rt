@@ -25,8 +25,9 @@ pub struct Seen {
     pub next: usize,
 }
 
-// One vector replayed: the call, the number it answered, where its expectations begin, whether they were met, and where the next vector stands.
-pub struct Replayed {
+// One vector replayed: the call, the number it answered, where its expectations begin, whether it could be read and they were met, and where
+// the next vector stands.
+pub struct Vector {
     pub call: u32,
     pub number: u32,
     pub expected: usize,
@@ -537,6 +538,17 @@ fn make(
     }
 }
 
+// The answer and the lent cells together.
+fn replayed(call: u32, m: Answered, s: Seen) -> Vector {
+    Vector {
+        call,
+        number: m.number,
+        expected: m.expected,
+        same: both(both(m.same, s.same), s.next != LOST),
+        next: s.next,
+    }
+}
+
 // Fills the areas, makes the call and looks at every cell.
 fn play(
     call: u32,
@@ -555,7 +567,7 @@ fn play(
     events: &mut [u8],
     words: &mut [u32],
     floats: &mut [f32],
-) -> Replayed {
+) -> Vector {
     lend(events, words, floats);
     let m = make(
         call,
@@ -576,13 +588,7 @@ fn play(
         floats,
     );
     let s = same_lent(input, m.next, amounts, events, words, floats);
-    Replayed {
-        call,
-        number: m.number,
-        expected: m.expected,
-        same: both(m.same, s.same),
-        next: s.next,
-    }
+    replayed(call, m, s)
 }
 
 // Plays with areas of the lengths that stand here.
@@ -603,7 +609,7 @@ fn play_within(
     events: &mut [u8],
     words: &mut [u32],
     floats: &mut [f32],
-) -> Replayed {
+) -> Vector {
     let e = length_of(input, from, events.len());
     let w = length_of(input, e.next, words.len());
     let f = length_of(input, w.next, floats.len());
@@ -642,7 +648,7 @@ fn replay_gas(
     starts: &[u32],
     neighbours: &[u32],
     link_flags: &[u8],
-) -> Replayed {
+) -> Vector {
     let mut immutable = [0u8; 66];
     let mut amounts = [0.0f32; 512];
     let mut events = [0u8; 12_000];
@@ -682,7 +688,7 @@ fn replay_links(
     flags: &[u8],
     planetary: &[u8],
     mixtures: &[u32],
-) -> Replayed {
+) -> Vector {
     let mut starts = [0u32; 66];
     let mut neighbours = [0u32; 512];
     let mut link_flags = [0u8; 512];
@@ -707,7 +713,7 @@ fn replay_links(
 }
 
 // Replays the vector that stands here.
-pub fn replay(input: &[u8], from: usize) -> Replayed {
+pub fn replay(input: &[u8], from: usize) -> Vector {
     let mut ids = [0u32; 66];
     let mut flags = [0u8; 66];
     let mut planetary = [0u8; 66];
@@ -775,7 +781,7 @@ fn show_digit(n: u32, power: u32)
 }
 
 // Prints a number.
-fn show_number(n: u32) {
+pub fn show_number(n: u32) {
     let mut power = 1_000_000_000;
     while 0 < power {
         show_digit(n, power);
@@ -783,7 +789,7 @@ fn show_number(n: u32) {
     }
 }
 
-fn show(text: &[u8]) {
+pub fn show(text: &[u8]) {
     io::write_all(STDOUT_FILENO, text);
 }
 
@@ -817,7 +823,7 @@ fn show_total(t: Total) {
 }
 
 // A place further on, or the lost one.
-fn further(at: usize, next: usize) -> usize
+pub fn further(at: usize, next: usize) -> usize
     requires { ⌜ at < 18446744073709551615 ⌝ }
     ensures { λ r. ⌜ at < r ⌝ }
 {
