@@ -1,5 +1,5 @@
 // That a replay can fail: each digit of what stored vectors expect is changed, and each vector torn at each of its digits. How many of
-// these are found is printed, then what is said of vectors with one change, of torn ones, and of one that is too long.
+// these are found is printed, then what is said of vectors with one change, of a torn input, and of a list that is too long.
 ghost use Prim.Native.Nat.{_≤_, _<_};
 ghost use lib.ListN.{length};
 
@@ -107,22 +107,32 @@ fn run(input: &mut [u8]) {
     show(torn, b" times torn, ");
 }
 
-// Prints what is said where the first vector's first number answered is another one, and where the input lacks its second half.
+// The first vector's first number answered becomes another one.
 fn spoil(input: &mut [u8]) {
     let r = replaying::replay(input, 0);
     let p = std::num::wrapping_add_usize(r.expected, 2);
-    if p < input.len() {
-        input[p] = other(input[p]);
+    if input.len() <= p {
+        return;
     }
-    replaying::print(input);
+    input[p] = other(input[p]);
+}
+
+// Prints what is said of the first half.
+fn print_half(input: &[u8]) {
     let n = input.len() / 2;
     replaying::print(&input[..n]);
+}
+
+fn run_all(input: &mut [u8]) {
+    run(input);
+    spoil(input);
+    replaying::print(input);
+    print_half(input);
+    replaying::print(b"3 43 1 2 3");
 }
 
 fn main() {
     let mut input = [0u8; 65_536];
     let n = io::read_full(libc::STDIN_FILENO, &mut input);
-    run(&mut input[..n]);
-    spoil(&mut input[..n]);
-    replaying::print(b"3 43 1 2 3");
+    run_all(&mut input[..n]);
 }

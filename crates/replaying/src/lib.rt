@@ -650,7 +650,7 @@ fn replay_gas(
     link_flags: &[u8],
 ) -> Vector {
     let mut immutable = [0u8; 66];
-    let mut amounts = [0.0f32; 512];
+    let mut amounts = [0.0f32; 192];
     let mut events = [0u8; 12_000];
     let mut words = [0u32; 4_000];
     let mut floats = [0.0f32; 2_000];
@@ -858,9 +858,9 @@ fn print_all(input: &[u8]) {
     }
 }
 
-// Prints what came of at most 1 MiB of vectors.
+// Prints what came of at most 384 KiB of vectors.
 pub fn print(input: &[u8]) {
-    if 1_048_576 < input.len() {
+    if 393_216 < input.len() {
         show(b"too long\n");
         return;
     }

@@ -80,7 +80,7 @@ pub fn fits(case: &Case) -> bool {
     rows.into_iter().all(|length| length <= 66)
         && board.neighbours.len() <= 512
         && board.link_flags.len() <= 512
-        && board.amounts.len() <= 512
+        && board.amounts.len() <= 192
         && case.events.len() <= 12_000
         && case.words.len() <= 4_000
         && case.floats.len() <= 2_000
