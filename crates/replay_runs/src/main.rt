@@ -45,15 +45,18 @@ fn least(a: usize, b: usize) -> usize
     b
 }
 
-// Whether the vector at a place isn't met once the digit at p is another one; the digit is put back.
-fn change(input: &mut [u8], at: usize, p: usize) -> bool
+// Makes the digit at p another one, if there is one: the vector at a place must not be met then. The digit is put back.
+fn change(input: &mut [u8], at: usize, p: usize, t: Tried) -> Tried
     requires { ⌜ p < length (now input) ⌝ }
 {
     let b = input[p];
+    if !is_digit(b) {
+        return t;
+    }
     input[p] = other(b);
     let r = replaying::replay(input, at);
     input[p] = b;
-    !r.same
+    counted(t, !r.same)
 }
 
 // Changes each digit between two places.
@@ -62,9 +65,7 @@ fn changes(input: &mut [u8], at: usize, from: usize, to: usize, before: Tried) -
     let mut t = before;
     let mut p = from;
     while p < end {
-        if is_digit(input[p]) {
-            t = counted(t, change(input, at, p));
-        }
+        t = change(input, at, p, t);
         p += 1;
     }
     t

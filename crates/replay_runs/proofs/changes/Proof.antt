@@ -18,17 +18,8 @@ least-requires c κs = search needs
 loop-holds : tie.Need-loop-holds Inv-loop μ-loop
 loop-holds c = search needs
 
-slice-read-is-digit : tie.Need-slice-read-is-digit Inv-loop μ-loop
-slice-read-is-digit c = search needs
-
-is-digit-requires : tie.Need-is-digit-requires Inv-loop μ-loop
-is-digit-requires c κs = search needs
-
 change-requires : tie.Need-change-requires Inv-loop μ-loop
 change-requires c κs = search needs
-
-counted-requires : tie.Need-counted-requires Inv-loop μ-loop
-counted-requires c κs = search needs
 
 add-p : tie.Need-add-p Inv-loop μ-loop
 add-p c = search needs
@@ -53,10 +44,7 @@ changes-spec =
     μ-loop
     least-requires
     loop-holds
-    slice-read-is-digit
-    is-digit-requires
     change-requires
-    counted-requires
     add-p
     loop-less
     loop-again
