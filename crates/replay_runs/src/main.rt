@@ -9,6 +9,7 @@ pub struct Tried {
     pub found: u32,
 }
 
+// One more was tried.
 fn counted(t: Tried, found: bool) -> Tried {
     let tried = std::num::wrapping_add_u32(t.tried, 1);
     if found {
@@ -23,6 +24,7 @@ fn counted(t: Tried, found: bool) -> Tried {
     }
 }
 
+// Whether a byte is a hexadecimal digit.
 fn is_digit(b: u8) -> bool {
     match b {
         48..=57 => true,
@@ -36,6 +38,7 @@ fn other(b: u8) -> u8 {
     if b == b'0' { b'1' } else { b'0' }
 }
 
+// The lesser one.
 fn least(a: usize, b: usize) -> usize
     ensures { λ r. ⌜ r ≤ b ⌝ }
 {
@@ -86,6 +89,7 @@ fn tears(input: &[u8], at: usize, to: usize, before: Tried) -> Tried {
     t
 }
 
+// A line about what was tried.
 fn show(t: Tried, what: &[u8]) {
     replaying::show_number(t.tried);
     replaying::show(what);
@@ -124,6 +128,7 @@ fn print_half(input: &[u8]) {
     replaying::print(&input[..n]);
 }
 
+// All runs, one after the other.
 fn run_all(input: &mut [u8]) {
     run(input);
     spoil(input);

@@ -203,7 +203,7 @@ fn read_amounts(input: &[u8], from: usize, out: &mut [f32]) -> List
     List { count, next: at }
 }
 
-// What the event area, the scratch words and the scratch floats hold before a call.
+// What a byte of the event area holds before a call; then a scratch word, and the bits of a scratch float.
 fn event_before(i: usize) -> u8 {
     ((i % 256 * 31 + 7) % 256) as u8
 }
@@ -212,10 +212,11 @@ fn word_before(i: usize) -> u32 {
     ((i % 0x1_0000_0000 * 2_654_435_761 + 1) % 0x1_0000_0000) as u32
 }
 
-fn float_before(i: usize) -> f32 {
-    f32::from_bits((0x3f00_0000 + i % 65536) as u32)
+fn float_before(i: usize) -> u32 {
+    (0x3f00_0000 + i % 65536) as u32
 }
 
+// Fill the event area, the scratch words and the scratch floats.
 fn lend_events(events: &mut [u8]) {
     let mut i = 0;
     while i < events.len() {
@@ -235,18 +236,19 @@ fn lend_words(words: &mut [u32]) {
 fn lend_floats(floats: &mut [f32]) {
     let mut i = 0;
     while i < floats.len() {
-        floats[i] = float_before(i);
+        floats[i] = amount_of(float_before(i));
         i += 1;
     }
 }
 
-// Fills the areas with what they hold before a call.
+// Fills all three areas.
 fn lend(events: &mut [u8], words: &mut [u32], floats: &mut [f32]) {
     lend_events(events);
     lend_words(words);
     lend_floats(floats);
 }
 
+// Whether two things hold; unlike `&&` it is no branch of the caller.
 fn both(a: bool, b: bool) -> bool {
     if a {
         return b;
@@ -291,6 +293,7 @@ fn same_amounts(input: &[u8], from: usize, amounts: &[f32]) -> Seen {
     Seen { same, next: at }
 }
 
+// A byte as a number.
 fn wide(b: u8) -> u32 {
     b as u32
 }
@@ -322,7 +325,7 @@ fn same_events(input: &[u8], from: usize, events: &[u8]) -> Seen {
     Seen { same, next: at }
 }
 
-// What a scratch word, and a scratch float, hold after a call that clears so many.
+// What a scratch word, and the bits of a scratch float, hold after a call that clears so many.
 fn word_after(zeros: usize, i: usize) -> u32 {
     if i < zeros {
         return 0;
@@ -334,7 +337,7 @@ fn float_after(zeros: usize, i: usize) -> u32 {
     if i < zeros {
         return 0;
     }
-    (0x3f00_0000 + i % 65536) as u32
+    float_before(i)
 }
 
 // Whether so many words from the first are 0, and the others what they were.
@@ -768,6 +771,7 @@ fn tally(counts: &mut [u32; 32], call: u32, number: u32) {
     counts[k] = std::num::wrapping_add_u32(counts[k], 1);
 }
 
+// Prints the digit of a power of ten, but no leading zero.
 fn show_digit(n: u32, power: u32)
     requires { ⌜ 0 < power ⌝ }
 {
@@ -789,6 +793,7 @@ pub fn show_number(n: u32) {
     }
 }
 
+// Prints a text.
 pub fn show(text: &[u8]) {
     io::write_all(STDOUT_FILENO, text);
 }

@@ -18,6 +18,9 @@ loop-holds c = search needs
 float-before-requires : tie.Need-float-before-requires Inv-loop μ-loop
 float-before-requires c κs = search needs
 
+amount-of-requires : tie.Need-amount-of-requires Inv-loop μ-loop
+amount-of-requires c κs = search needs
+
 mul-floats : tie.Need-mul-floats Inv-loop μ-loop
 mul-floats c = search needs
 
@@ -47,6 +50,7 @@ lend-floats-spec =
     μ-loop
     loop-holds
     float-before-requires
+    amount-of-requires
     mul-floats
     slice-write-floats
     add-i
