@@ -4,8 +4,9 @@ pub mod judged;
 pub mod lister;
 
 use boards::families::{FAMILIES, case, with_turns};
-use boards::paper::{ask_a, board};
+use boards::paper::{ask_a, board, rows};
 use boards::refusal::refusal;
+use boards::vectors::fits;
 use boards::{Board, Call, Case, Equalize, Walk, model};
 
 /// What a comparison of the text with the model came to.
@@ -50,17 +51,22 @@ pub fn agree(each: u64, seed: u64) -> Agreement {
     agreement
 }
 
-/// The cases of every family and call, so many each, with the text's answers, as a file of vectors; of large boards none.
-pub fn vectors(each: u64, seed: u64) -> String {
+/// Cases of some calls with the text's answers, as a file of vectors that a program without the Rust replays: the paper's boards, and of
+/// every family the first so many that `fits` lets pass, of ill-formed ones three times as many; of large boards none.
+pub fn vectors(each: u64, seed: u64, calls: &[u32]) -> String {
     let mut file = format!("# {each} boards a family and call from seed {seed}, answered by the Rust text with the FILLED mixture.\n");
     file += "# Each with no turns, and equalize with turns too. The format: oracle/boards/src/vectors.rs.\n";
+    let mut add = |name: &str, case: &Case| file += &format!("# {name}\n{}", boards::vectors::write(case, &filled::play::outcome(case)));
+    rows().iter().filter(|row| calls.contains(&row.case.call.number())).for_each(|row| add(row.name, &row.case));
     for (family, name) in FAMILIES.into_iter().enumerate().filter(|family| family.1 != "large") {
-        for (call, seed) in (1..=3).flat_map(|call| (seed..seed + each).map(move |seed| (call, seed))) {
-            let plain = case(family, call, seed);
-            let turned = (call == 1).then(|| with_turns(plain.clone(), seed));
-            for case in [plain].into_iter().chain(turned) {
-                file += &format!("# {name} {call} {seed}\n");
-                file += &boards::vectors::write(&case, &filled::play::outcome(&case));
+        let count = if matches!(name, "refusals" | "pairs") { 3 * each } else { each };
+        for &call in calls {
+            let cases = (seed..).map(|seed| (seed, case(family, call, seed))).filter(|(_, case)| fits(case)).take(count as usize);
+            for (seed, plain) in cases {
+                add(&format!("{name} {seed}"), &plain);
+                if call == 1 {
+                    add(&format!("{name} {seed} with turns"), &with_turns(plain, seed));
+                }
             }
         }
     }

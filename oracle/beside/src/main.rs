@@ -9,7 +9,7 @@ const HELP: &str = "beside agree EACH SEED       the text against the document's
 beside two-turfs             the same, every board of two turfs over a set of values
 beside published EACH SEED   the text with the FILLED mixture against the text with the published mixture.rs
 beside numbers EACH SEED     weights and amounts on accepted boards: the largest, and the odd ones
-beside vectors EACH SEED     cases with the text's answers, to standard output
+beside vectors EACH SEED CALL..   cases of the calls (1 equalize, 2 depressurize, 3 planet walk) with the text's answers, to standard output
 beside judged EACH SEED      small cases with the text's answers as rows that the checker computes, to standard output
 beside bench                 how long the text's equalize takes on the boards that speed is measured on
 beside lister EACH SEED COMMAND..   events, damaged, torn and over-long ones too, listed by a command and by the lister here
@@ -86,7 +86,10 @@ fn main() {
             numbers.test(&heaviest());
             println!("{numbers:?}, the largest weight 2^{:.2}", numbers.largest_weight.log2());
         }
-        ("vectors", Some(each), Some(seed)) => print!("{}", vectors(each, seed)),
+        ("vectors", Some(each), Some(seed)) => {
+            let calls: Vec<u32> = (3..words.len()).filter_map(number).map(|call| call as u32).collect();
+            print!("{}", vectors(each, seed, &calls));
+        }
         ("judged", Some(each), Some(seed)) => print!("{}", judged::rows(each, seed)),
         ("lister", Some(each), Some(seed)) if words.len() > 3 => match lister::against(&words[3..], each, seed) {
             Ok(inputs) => println!("lister: {inputs} inputs, no disagreement"),

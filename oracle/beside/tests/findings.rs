@@ -63,7 +63,7 @@ fn log2_by_leading_zeros() {
 /// The vectors' file reads back as what was written.
 #[test]
 fn vectors_read_back() {
-    let file = vectors(2, 5);
+    let file = vectors(2, 5, &[1, 2, 3]);
     let cases = boards::vectors::read(&file);
     assert_eq!(cases.len(), file.lines().filter(|line| line.starts_with('#')).count() - 2);
     assert!(cases.iter().all(|(case, due)| &outcome(case) == due));

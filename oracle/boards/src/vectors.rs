@@ -1,21 +1,22 @@
 //! The vectors' file: cases with what a call answers and leaves, for a program that has no Rust at hand.
 //!
 //! Plain text: lines of lower-case hexadecimal numbers below 2^32 with one space between; a line that begins with `#` is a remark. A list
-//! is its length, then its elements. An amount is the bits of its f32. A case is 25 lines:
+//! is its length, then its elements. An amount is the bits of its f32. A case is these lines:
 //!
-//! | line | what stands on it |
+//! | lines | what stands on them |
 //! |---|---|
 //! | 1 | the call: 1 equalize, 2 depressurize, 3 planet walk |
-//! | 2 to 9 | the lists ids, flags, planetary, mixtures, starts, neighbours, link flags, immutable |
-//! | 10 | gases |
-//! | 11 | the list of amounts |
-//! | 12, 13 | the lists of hot ids and turns (empty for the walks) |
-//! | 14 to 17 | threshold, limit, allowance, id (0 where the call isn't lent it) |
-//! | 18 to 20 | how long the event area, the scratch words and the scratch floats are; `Case::lend` says what they hold |
-//! | 21 | the list of numbers answered |
-//! | 22 | the list of amounts afterwards |
-//! | 23 | the list of event bytes written; the area's other bytes are unchanged |
-//! | 24, 25 | how many scratch words, and floats, from the first are 0 afterwards; the others are unchanged |
+//! | 8 | the lists ids, flags, planetary, mixtures, starts, neighbours, link flags, immutable |
+//! | 1 | gases |
+//! | 1 | the list of amounts |
+//! | 3 | how long the event area, the scratch words and the scratch floats are; `Case::lend` says what they hold |
+//! | 5 or 2 | what is asked: of equalize the lists of hot ids and turns, threshold, limit and allowance; of the walks id and limit |
+//! | 1 | the list of numbers answered |
+//! | 1 | the list of amounts afterwards |
+//! | 1 | the list of event bytes written; the area's other bytes are unchanged |
+//! | 2 | how many scratch words, and floats, from the first are 0 afterwards; the others are unchanged |
+//!
+//! The crate `replaying` reads it, into arrays of a fixed size: `fits` says which cases they hold.
 
 use crate::{Board, Call, Case, Equalize, Outcome, Room, Walk};
 use std::fmt::Write;
@@ -54,14 +55,15 @@ pub fn write(case: &Case, outcome: &Outcome) -> String {
     bytes(o, &board.immutable);
     number(o, board.gases);
     floats(o, &board.amounts);
-    let (hot, turns, asked) = match &case.call {
-        Call::Equalize(ask) => (&ask.hot[..], &ask.turns[..], [ask.threshold.to_bits(), ask.limit, ask.allowance, 0]),
-        Call::Depressurize(walk) | Call::PlanetWalk(walk) => (&[][..], &[][..], [0, walk.limit, 0, walk.id]),
-    };
-    words(o, hot);
-    words(o, turns);
-    asked.into_iter().for_each(|n| number(o, n));
     [case.events.len(), case.words.len(), case.floats.len()].into_iter().for_each(|n| number(o, n as u32));
+    match &case.call {
+        Call::Equalize(ask) => {
+            words(o, &ask.hot);
+            words(o, &ask.turns);
+            [ask.threshold.to_bits(), ask.limit, ask.allowance].into_iter().for_each(|n| number(o, n));
+        }
+        Call::Depressurize(walk) | Call::PlanetWalk(walk) => [walk.id, walk.limit].into_iter().for_each(|n| number(o, n)),
+    }
     words(o, &outcome.answer);
     floats(o, &outcome.amounts);
     let done = outcome.answer[0] == 0;
@@ -69,6 +71,19 @@ pub fn write(case: &Case, outcome: &Outcome) -> String {
     bytes(o, if done { &outcome.events[..written] } else { &[] });
     [room.words, room.floats].into_iter().for_each(|n| number(o, if done { n as u32 } else { 0 }));
     out
+}
+
+/// Whether the program that replays vectors has room for the case.
+pub fn fits(case: &Case) -> bool {
+    let board = &case.board;
+    let rows = [board.ids.len(), board.flags.len(), board.planetary.len(), board.mixtures.len(), board.starts.len(), board.immutable.len()];
+    rows.into_iter().all(|length| length <= 66)
+        && board.neighbours.len() <= 512
+        && board.link_flags.len() <= 512
+        && board.amounts.len() <= 192
+        && case.events.len() <= 12_000
+        && case.words.len() <= 4_000
+        && case.floats.len() <= 2_000
 }
 
 /// Takes the numbers of a file one after the other.
@@ -105,16 +120,21 @@ impl Numbers<'_> {
             gases: self.0.next()?,
             amounts: self.floats()?,
         };
-        let (hot, turns) = (self.words()?, self.words()?);
-        let (threshold, limit, allowance, id) = (f32::from_bits(self.0.next()?), self.0.next()?, self.0.next()?, self.0.next()?);
+        let mut next = || self.0.next().map(|n| n as usize);
+        let room = Room { events: next()?, words: next()?, floats: next()? };
         let call = match call {
-            1 => Call::Equalize(Equalize { hot, turns, threshold, limit, allowance }),
-            2 => Call::Depressurize(Walk { id, limit }),
-            _ => Call::PlanetWalk(Walk { id, limit }),
+            1 => Call::Equalize(Equalize {
+                hot: self.words()?,
+                turns: self.words()?,
+                threshold: f32::from_bits(self.0.next()?),
+                limit: self.0.next()?,
+                allowance: self.0.next()?,
+            }),
+            2 => Call::Depressurize(Walk { id: self.0.next()?, limit: self.0.next()? }),
+            _ => Call::PlanetWalk(Walk { id: self.0.next()?, limit: self.0.next()? }),
         };
         let mut case = Case { board, call, events: Vec::new(), words: Vec::new(), floats: Vec::new() };
-        let mut next = || self.0.next().map(|n| n as usize);
-        case.lend(Room { events: next()?, words: next()?, floats: next()? });
+        case.lend(room);
         let mut outcome = case.refused(0);
         (outcome.answer, outcome.amounts) = (self.words()?, self.floats()?);
         let written = self.bytes()?;
