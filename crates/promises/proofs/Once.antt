@@ -1,0 +1,73 @@
+-- Two outcomes that the promise of a public function allows for one input are equal: number, counts and every lent cell. Each promise is an equation with the
+-- definition's result, or says the answer and every cell place by place. Assumes nothing.
+use mathlib.Core.Path.{_≡_, ap, _∙_, sym}
+use mathlib.Core.List.{List, _++_}
+use Prim.Native.Nat.{ℕ}
+use lib.ListN.{take, drop}
+use Rattle.turfs.specs.Board.{Board}
+use Rattle.events.specs.Area.{Wrote}
+use Rattle.events.specs.Events.{Put, put, readAt}
+use Rattle.events.specs.Lister.{listing}
+use Rattle.events.specs.Interface.{WriteEvent, readEvent, writeEvent}
+use Rattle.events.specs.declared.Event.{Event}
+use Rattle.events.specs.declared.Reading.{Reading}
+use Rattle.lent.specs.Lent.{Lent, Result, Extra, refusal}
+use Rattle.equalize.specs.Equalize.{Ask}
+use Rattle.equalize.specs.Result.{equalizeResult}
+use Rattle.equalize.specs.declared.EqualizeAnswer.{EqualizeAnswer}
+use Rattle.depressurize.specs.Depressurize.{depressurizeResult}
+use Rattle.depressurize.specs.declared.DepressurizeAnswer.{DepressurizeAnswer}
+use Rattle.planet_walk.specs.Planet.{planetResult}
+use Rattle.planet_walk.specs.declared.PlanetAnswer.{PlanetAnswer}
+use Rattle.katmos.specs.Answers.{Answers}
+
+-- an equation with one result allows one outcome
+once : {A : Type 0} (x o o′ : A) → o ≡ x → o′ ≡ x → o ≡ o′
+once x o o′ p p′ = p ∙ sym p′
+
+-- ---- the calls
+
+pub equalize-once : (b : Board) (q : Ask) (turns : List ℕ) (l : Lent) (o o′ : Result EqualizeAnswer) → o ≡ equalizeResult b q turns l → o′ ≡ equalizeResult b q turns l → o ≡ o′
+equalize-once b q turns l = once (equalizeResult b q turns l)
+
+pub depressurize-once : (b : Board) (limit id : ℕ) (l : Lent) (o o′ : Result DepressurizeAnswer) → o ≡ depressurizeResult b limit id l → o′ ≡ depressurizeResult b limit id l → o ≡ o′
+depressurize-once b limit id l = once (depressurizeResult b limit id l)
+
+pub planet-once : (b : Board) (limit id : ℕ) (l : Lent) (o o′ : Result PlanetAnswer) → o ≡ planetResult b limit id l → o′ ≡ planetResult b limit id l → o ≡ o′
+planet-once b limit id l = once (planetResult b limit id l)
+
+-- ---- the exported calls: what was returned, the answer's array, all that was lent
+
+module _ {A : Type 0} (numbers : A → List ℕ) (o : Result A) (n n′ : ℕ) (a a′ : List ℕ) (l l′ : Lent) where
+  pub answers-once : Answers numbers o n a l → Answers numbers o n′ a′ l′ → (n ≡ n′) × ((a ≡ a′) × (l ≡ l′))
+  answers-once x y = (x .returned ∙ sym (y .returned), (x .written ∙ sym (y .written), x .lent ∙ sym (y .lent)))
+
+-- ---- events
+
+pub read-once : (area : List ℕ) (offset : ℕ) (o o′ : Reading) → o ≡ readAt area offset → o′ ≡ readAt area offset → o ≡ o′
+read-once area offset = once (readAt area offset)
+
+pub read-event-once : (area : List ℕ) (offset : ℕ) (o o′ : List ℕ) → o ≡ readEvent area offset → o′ ≡ readEvent area offset → o ≡ o′
+read-event-once area offset = once (readEvent area offset)
+
+pub put-once : (e : Event) (area : List ℕ) (offset : ℕ) (o o′ : Put) → o ≡ put e area offset → o′ ≡ put e area offset → o ≡ o′
+put-once e area offset = once (put e area offset)
+
+pub write-event-once : (kind a b c d : ℕ) (area : List ℕ) (offset : ℕ) (o o′ : WriteEvent) → o ≡ writeEvent kind a b c d area offset → o′ ≡ writeEvent kind a b c d area offset → o ≡ o′
+write-event-once kind a b c d area offset = once (writeEvent kind a b c d area offset)
+
+-- ---- the refusals
+
+pub refusal-once : (b : Board) (l : Lent) (room : ℕ) (x : Extra) (n n′ : ℕ) → n ≡ refusal b l room x → n′ ≡ refusal b l room x → n ≡ n′
+refusal-once b l room x = once (refusal b l room x)
+
+-- ---- the lister's text
+
+-- bytes written at a place: how far they go, and the whole area
+pub wrote-once : (bs : List ℕ) (at to to′ : ℕ) (area a a′ : List ℕ) → Wrote bs at to area a → Wrote bs at to′ area a′ → (to ≡ to′) × (a ≡ a′)
+wrote-once bs at to to′ area a a′ w w′ =
+    let e : to ≡ to′ = w .end ∙ sym (w′ .end) in
+    (e, w .bytes ∙ ap (λ (x : ℕ). take at area ++ (bs ++ drop x area)) e ∙ sym (w′ .bytes))
+
+pub list-once : (input out a a′ : List ℕ) (n n′ : ℕ) → Wrote (listing input) 0 n out a → Wrote (listing input) 0 n′ out a′ → (n ≡ n′) × (a ≡ a′)
+list-once input out a a′ n n′ = wrote-once (listing input) 0 n n′ out a a′
