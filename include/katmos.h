@@ -1,0 +1,117 @@
+/* The air of a space station game: equalize, depressurize and the planet walk, proved. docs/PROMISES.md says what each call promises.
+ *
+ * Every call does its own checking. An ill-formed table gets a refusal number with every other count zero, and gas, event area and scratch
+ * then hold what they held before. A call ends, keeps to the areas that it is lent, and keeps nothing between calls, so several threads
+ * may call at once, each with areas of its own. equalize's recursion is as deep as the board: lend it a thread with 2 MiB of stack.
+ *
+ * A pointer and the number of its elements go together. A table without elements may have any pointer that isn't null.
+ *
+ * N turfs are rows 0..N-1: ids (strictly ascending), flags (bit 0 or 1: enabled), a planetary byte (not 0: planetary), the row of its mixture.
+ * E links: N+1 starts, then for each link the neighbour's row and flags (bit 1: a firelock). M mixtures: an immutable byte (not 0: immutable)
+ * and `gases` amounts each. N is the length of ids, E of neighbours, M of immutable.
+ */
+#ifndef KATMOS_H
+#define KATMOS_H
+
+#include <stddef.h>
+#include <stdint.h>
+
+#ifdef __cplusplus
+extern "C" {
+#endif
+
+/* The first number of every answer, which is returned too. */
+enum {
+    KATMOS_DONE = 0,
+    KATMOS_SIZES = 1,     /* a size outside its limits */
+    KATMOS_TABLES = 2,    /* a table's length doesn't fit N, E, M or the gases */
+    KATMOS_IDS = 3,       /* ids not strictly ascending */
+    KATMOS_LINKS = 4,     /* starts, neighbours or mixture rows; a turf linked to itself; a neighbour twice in one row */
+    KATMOS_AMOUNTS = 5,   /* an amount or the threshold outside its range */
+    KATMOS_HOT = 6,       /* hot ids not strictly ascending */
+    KATMOS_ROOM = 7,      /* event area or scratch too short */
+    KATMOS_RECORD = 8     /* a bad event record, kind or offset */
+};
+
+/* Kinds of events; a record's fields stand in this order. An amount is the bits of its float. */
+enum {
+    KATMOS_END = 0,                   /* no record: the offset is the area's end */
+    KATMOS_DEPRESSURIZE_WANTED = 1,   /* id */
+    KATMOS_PLANET_WANTED = 2,         /* id */
+    KATMOS_PRESSURE = 3,              /* zone, amount, from, to: the giver's side, with the planned amount */
+    KATMOS_FIRELOCK = 4,              /* id, neighbour */
+    KATMOS_TARGET = 5,                /* id, target */
+    KATMOS_HIGH_PRESSURE = 6,         /* id */
+    KATMOS_DIFFERENCE = 7,            /* id, amount, from, to */
+    KATMOS_FLOOR_RIP = 8              /* id, amount */
+};
+
+/* What depressurize came to. */
+enum {
+    KATMOS_NO_SPACE = 0,   /* unknown id, or no space within the limit */
+    KATMOS_PLANET = 1,     /* a planetary turf was met */
+    KATMOS_VENTED = 2
+};
+
+/* Limits. */
+#define KATMOS_MOST_TURFS 4096u
+#define KATMOS_MOST_MIXTURES 4096u
+#define KATMOS_MOST_LINKS 24576u
+#define KATMOS_MOST_GASES 64u
+#define KATMOS_MOST_HOT 4096u
+#define KATMOS_MOST_TURNS 65536u
+
+/* How long the areas must be at least, in elements. Scratch may hold anything; after KATMOS_DONE these first elements of it are zero. */
+#define KATMOS_EQUALIZE_EVENTS(n, e) (20u * (size_t)(e) + 16u * (size_t)(n))
+#define KATMOS_DEPRESSURIZE_EVENTS(n) (84u * (size_t)(n))
+#define KATMOS_PLANET_WALK_EVENTS(n) (12u * (size_t)(n))
+#define KATMOS_WORDS(n, e, m) (16u * (size_t)(n) + 4u * (size_t)(e) + 2u * (size_t)(m) + 16u)
+#define KATMOS_FLOATS(n, e) (4u * (size_t)(n) + 2u * (size_t)(e))
+
+/* Evens out the gas of the rooms around the hot ones. Zones are finished by `turns`: each entry picks one of the unfinished zones; with no turns
+ * zone after zone. `allowance` is how many clock tests may be made.
+ * answer: number, cancelled, processed, tests, zones, apart, bytes of events written. */
+uint32_t katmos_equalize(
+    const uint32_t *ids, size_t ids_len, const uint8_t *flags, size_t flags_len,
+    const uint8_t *planetary, size_t planetary_len, const uint32_t *mixtures, size_t mixtures_len,
+    const uint32_t *starts, size_t starts_len, const uint32_t *neighbours, size_t neighbours_len,
+    const uint8_t *link_flags, size_t link_flags_len, const uint8_t *immutable, size_t immutable_len,
+    uint32_t gases, float *amounts, size_t amounts_len,
+    const uint32_t *hot, size_t hot_len, const uint32_t *turns, size_t turns_len,
+    float threshold, uint32_t limit, uint32_t allowance,
+    uint8_t *events, size_t events_len, uint32_t *words, size_t words_len, float *floats, size_t floats_len,
+    uint32_t answer[7]);
+
+/* Empties the rooms around the turf `id` towards space. answer: number, outcome, bytes. */
+uint32_t katmos_depressurize(
+    const uint32_t *ids, size_t ids_len, const uint8_t *flags, size_t flags_len,
+    const uint8_t *planetary, size_t planetary_len, const uint32_t *mixtures, size_t mixtures_len,
+    const uint32_t *starts, size_t starts_len, const uint32_t *neighbours, size_t neighbours_len,
+    const uint8_t *link_flags, size_t link_flags_len, const uint8_t *immutable, size_t immutable_len,
+    uint32_t gases, float *amounts, size_t amounts_len, uint32_t id, uint32_t limit,
+    uint8_t *events, size_t events_len, uint32_t *words, size_t words_len, float *floats, size_t floats_len,
+    uint32_t answer[3]);
+
+/* Looks for firelocks from the turf `id` towards a planet. answer: number, bytes. */
+uint32_t katmos_planet_walk(
+    const uint32_t *ids, size_t ids_len, const uint8_t *flags, size_t flags_len,
+    const uint8_t *planetary, size_t planetary_len, const uint32_t *mixtures, size_t mixtures_len,
+    const uint32_t *starts, size_t starts_len, const uint32_t *neighbours, size_t neighbours_len,
+    const uint8_t *link_flags, size_t link_flags_len, const uint8_t *immutable, size_t immutable_len,
+    uint32_t gases, const float *amounts, size_t amounts_len, uint32_t id, uint32_t limit,
+    uint8_t *events, size_t events_len, uint32_t *words, size_t words_len, float *floats, size_t floats_len,
+    uint32_t answer[2]);
+
+/* Reads the record at `offset` of the first events_len bytes. answer: number, kind, next offset, four fields; those that the kind hasn't are 0. */
+uint32_t katmos_read_event(const uint8_t *events, size_t events_len, uint32_t offset, uint32_t answer[7]);
+
+/* Writes a record at `offset`; fields that the kind hasn't are ignored. answer: number, next offset. */
+uint32_t katmos_write_event(
+    uint32_t kind, uint32_t f0, uint32_t f1, uint32_t f2, uint32_t f3,
+    uint8_t *events, size_t events_len, uint32_t offset, uint32_t answer[2]);
+
+#ifdef __cplusplus
+}
+#endif
+
+#endif
