@@ -396,6 +396,65 @@ fn made(input: &[u8], expected: usize, number: u32, answer: &[u32]) -> Answered 
     }
 }
 
+// Equalizes as is asked here.
+fn equalize(
+    input: &[u8],
+    from: usize,
+    ids: &[u32],
+    flags: &[u8],
+    planetary: &[u8],
+    mixtures: &[u32],
+    starts: &[u32],
+    neighbours: &[u32],
+    link_flags: &[u8],
+    immutable: &[u8],
+    gases: u32,
+    amounts: &mut [f32],
+    events: &mut [u8],
+    words: &mut [u32],
+    floats: &mut [f32],
+) -> Answered {
+    let mut hot = [0u32; 4_097];
+    let mut turns = [0u32; 128];
+    let h = read_words(input, from, &mut hot);
+    let t = read_words(input, h.next, &mut turns);
+    let threshold = read_number(input, t.next);
+    let limit = read_number(input, threshold.next);
+    let allowance = read_number(input, limit.next);
+    let hot_count = h.count;
+    let turn_count = t.count;
+    let a = equalize_call::equalize(
+        ids,
+        flags,
+        planetary,
+        mixtures,
+        starts,
+        neighbours,
+        link_flags,
+        immutable,
+        gases,
+        amounts,
+        &hot[..hot_count],
+        &turns[..turn_count],
+        amount_of(threshold.value),
+        limit.value,
+        allowance.value,
+        events,
+        words,
+        floats,
+    );
+    let answer = [
+        a.number,
+        a.cancelled,
+        a.processed,
+        a.tests,
+        a.zones,
+        a.apart,
+        a.bytes,
+    ];
+    made(input, allowance.next, a.number, &answer)
+}
+
 // Depressurizes as is asked here.
 fn depressurize(
     input: &[u8],
@@ -498,6 +557,23 @@ fn make(
     floats: &mut [f32],
 ) -> Answered {
     match call {
+        1 => equalize(
+            input,
+            from,
+            ids,
+            flags,
+            planetary,
+            mixtures,
+            starts,
+            neighbours,
+            link_flags,
+            immutable,
+            gases,
+            amounts,
+            events,
+            words,
+            floats,
+        ),
         2 => depressurize(
             input,
             from,
@@ -855,6 +931,7 @@ fn print_all(input: &[u8]) {
             t = counted(t, r.same);
         }
     }
+    show_call(b"equalize: ", &counts, 1);
     show_call(b"depressurize: ", &counts, 2);
     show_call(b"planet walk: ", &counts, 3);
     show_total(t);
@@ -863,9 +940,9 @@ fn print_all(input: &[u8]) {
     }
 }
 
-// Prints what came of at most 384 KiB of vectors.
+// Prints what came of at most 512 KiB of vectors.
 pub fn print(input: &[u8]) {
-    if 393_216 < input.len() {
+    if 524_288 < input.len() {
         show(b"too long\n");
         return;
     }

@@ -4,7 +4,7 @@ pub mod judged;
 pub mod lister;
 
 use boards::families::{FAMILIES, case, with_turns};
-use boards::paper::{ask_a, board, rows};
+use boards::paper::{ask_a, board, rows, six};
 use boards::refusal::refusal;
 use boards::vectors::fits;
 use boards::{Board, Call, Case, Equalize, Walk, model};
@@ -58,6 +58,10 @@ pub fn vectors(each: u64, seed: u64, calls: &[u32]) -> String {
     file += "# Each with no turns, and equalize with turns too. The format: oracle/boards/src/vectors.rs.\n";
     let mut add = |name: &str, case: &Case| file += &format!("# {name}\n{}", boards::vectors::write(case, &filled::play::outcome(case)));
     rows().iter().filter(|row| calls.contains(&row.case.call.number())).for_each(|row| add(row.name, &row.case));
+    if calls.contains(&1) {
+        add("six turfs, three givers", &six([20.0, 0.0, 20.0, 0.0, 20.0, 0.0]));
+        add("six turfs, two givers", &six([42.0, 0.0, 0.0, 18.0, 0.0, 0.0]));
+    }
     for (family, name) in FAMILIES.into_iter().enumerate().filter(|family| family.1 != "large") {
         let count = if matches!(name, "refusals" | "pairs") { 3 * each } else { each };
         for &call in calls {

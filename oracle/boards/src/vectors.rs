@@ -76,6 +76,10 @@ pub fn write(case: &Case, outcome: &Outcome) -> String {
 /// Whether the program that replays vectors has room for the case.
 pub fn fits(case: &Case) -> bool {
     let board = &case.board;
+    let (hot, turns) = match &case.call {
+        Call::Equalize(ask) => (ask.hot.len(), ask.turns.len()),
+        _ => (0, 0),
+    };
     let rows = [board.ids.len(), board.flags.len(), board.planetary.len(), board.mixtures.len(), board.starts.len(), board.immutable.len()];
     rows.into_iter().all(|length| length <= 66)
         && board.neighbours.len() <= 512
@@ -84,6 +88,8 @@ pub fn fits(case: &Case) -> bool {
         && case.events.len() <= 12_000
         && case.words.len() <= 4_000
         && case.floats.len() <= 2_000
+        && hot <= 4_097
+        && turns <= 128
 }
 
 /// Takes the numbers of a file one after the other.

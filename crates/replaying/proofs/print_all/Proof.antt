@@ -6,10 +6,10 @@ use Rattle.replaying.proofs.print_all.Statement.{statement}
 use Rattle.replaying.proofs.print_all.Tie as tie
 
 abbrev Inv-loop : tie.InvT-loop
-Inv-loop input counts₀ t₀ at₀ t6 t7 t8 counts t at = Unit {0}
+Inv-loop input counts₀ t₀ at₀ t6 t7 t8 t9 counts t at = Unit {0}
 
 abbrev μ-loop : tie.MeasureT-loop
-μ-loop input counts₀ t₀ at₀ t6 t7 t8 counts t at = length input - at
+μ-loop input counts₀ t₀ at₀ t6 t7 t8 t9 counts t at = length input - at
 
 skip-requires : tie.Need-skip-requires Inv-loop μ-loop
 skip-requires c κs = search needs
@@ -53,6 +53,12 @@ slice-aggregate-show-call-2 c = search needs
 show-call-requires-2 : tie.Need-show-call-requires-2 Inv-loop μ-loop
 show-call-requires-2 c κs = search needs
 
+slice-aggregate-show-call-3 : tie.Need-slice-aggregate-show-call-3 Inv-loop μ-loop
+slice-aggregate-show-call-3 c = search needs
+
+show-call-requires-3 : tie.Need-show-call-requires-3 Inv-loop μ-loop
+show-call-requires-3 c κs = search needs
+
 show-total-requires : tie.Need-show-total-requires Inv-loop μ-loop
 show-total-requires c κs = search needs
 
@@ -88,6 +94,8 @@ print-all-spec =
     show-call-requires
     slice-aggregate-show-call-2
     show-call-requires-2
+    slice-aggregate-show-call-3
+    show-call-requires-3
     show-total-requires
     slice-aggregate-show
     show-requires
