@@ -43,19 +43,30 @@ fn equalize(board: &Board, ask: &Equalize) -> Played {
     Played { amounts: types::amounts(), events, cancelled, processed: processed as u32, tests, filling, zones, planned, vented: false }
 }
 
-/// How long the text's `equalize` takes, the board loaded and what it sends to the game not run: the least of so many runs.
-pub fn time_equalize(board: &Board, ask: &Equalize, runs: u32) -> Duration {
+/// The least time of so many runs of the text's `equalize`, the board loaded and what it sends to the game not run, as `taken` tells it of the
+/// whole run's.
+fn least(board: &Board, ask: &Equalize, runs: u32, taken: impl Fn(Duration) -> Duration) -> Duration {
     let hot = ask.hot.iter().copied().collect();
     let one = |_| {
         load(board);
         watch::begin_quiet(ask.threshold);
         let begun = Instant::now();
         processing::equalize(ask.limit, &hot, ask.allowance);
-        let taken = begun.elapsed();
+        let taken = taken(begun.elapsed());
         run_all().expect("what was sent can be called");
         taken
     };
     (0..runs).map(one).min().unwrap_or_default()
+}
+
+/// How long the text's `equalize` takes.
+pub fn time_equalize(board: &Board, ask: &Equalize, runs: u32) -> Duration {
+    least(board, ask, runs, |whole| whole)
+}
+
+/// How long its planning takes, of all zones.
+pub fn time_planning(board: &Board, ask: &Equalize, runs: u32) -> Duration {
+    least(board, ask, runs, |_| watch::planned_in())
 }
 
 /// What a walk shows the game, in order.

@@ -1,0 +1,63 @@
+//! How long the proved parts take, on the boards that speed is measured on.
+
+use crate::{asked, fill, stages_fill, stages_plan};
+use boards::guarded::Lent;
+use boards::{Call, Case, call};
+use std::time::{Duration, Instant};
+
+/// The least time of a few runs in ns, and the zones kept.
+fn least(case: &Case) -> (u128, u32) {
+    let run = |_| {
+        let begun = Instant::now();
+        let left = fill(case).expect("the boundary's promises");
+        (begun.elapsed().as_nanos(), left.answer[2])
+    };
+    (0..9).map(run).min().expect("a run")
+}
+
+/// Filling with the board's hot ids, and with none: the refusals and the clearing.
+pub fn filling() {
+    for (name, mut case) in boards::bench::boards() {
+        let (with, zones) = least(&case);
+        if let Call::Equalize(ask) = &mut case.call {
+            ask.hot.clear();
+        }
+        let (without, _) = least(&case);
+        let size = case.board.ids.len() + case.board.neighbours.len();
+        let each = with.saturating_sub(without) / size as u128;
+        println!("{name}: {zones} zones, {with} ns, with no hot ids {without} ns: {each} ns for each turf and link");
+    }
+}
+
+/// The least times of filling, and of filling and planning, over so many runs of each, in turns. A run's scratch is what the one before it left.
+fn least_planning(case: &Case, runs: u32) -> (Duration, Duration) {
+    let (board, mut lent, ask) = (&case.board, Lent::new(case, 6), asked(case));
+    let mut least = (Duration::MAX, Duration::MAX);
+    for _ in 0..runs {
+        let begun = Instant::now();
+        let number = call!(stages_fill, board, &mut lent, *const f32, ask.hot.as_ptr(), ask.hot.len(), ask.threshold, ask.limit, ask.allowance);
+        least.0 = least.0.min(begun.elapsed());
+        let begun = Instant::now();
+        let same = call!(stages_plan, board, &mut lent, *const f32, ask.hot.as_ptr(), ask.hot.len(), ask.threshold, ask.limit, ask.allowance);
+        least.1 = least.1.min(begun.elapsed());
+        assert_eq!((number, same), (0, 0));
+    }
+    least
+}
+
+/// Planning of all zones: the text's, from the first zone's start to the last one's end, and the proved one's, filling and planning less filling
+/// alone. Runs of both in turns; of each the least.
+pub fn planning() {
+    println!("{:36} {:>13} {:>13} {:>7}", "board", "text ns", "proved ns", "times");
+    for (name, case) in boards::bench::boards() {
+        let runs = if case.board.ids.len() > 1_000 { 4 } else { 400 };
+        let (mut text, mut fill, mut both) = (Duration::MAX, Duration::MAX, Duration::MAX);
+        for _ in 0..5 {
+            text = text.min(filled::play::time_planning(&case.board, asked(&case), runs));
+            let ours = least_planning(&case, runs);
+            (fill, both) = (fill.min(ours.0), both.min(ours.1));
+        }
+        let (text, ours) = (text.as_nanos(), both.saturating_sub(fill).as_nanos().max(1));
+        println!("{name:36} {text:13} {ours:13} {:7.1}", text as f64 / ours as f64);
+    }
+}
