@@ -29,33 +29,32 @@ pub fn filling() {
     }
 }
 
-/// The least times of filling, and of filling and planning, over so many runs of each, in turns. A run's scratch is what the one before it left.
-fn least_planning(case: &Case, runs: u32) -> (Duration, Duration) {
-    let (board, mut lent, ask) = (&case.board, Lent::new(case, 6), asked(case));
-    let mut least = (Duration::MAX, Duration::MAX);
-    for _ in 0..runs {
-        let begun = Instant::now();
-        let number = call!(stages_fill, board, &mut lent, *const f32, ask.hot.as_ptr(), ask.hot.len(), ask.threshold, ask.limit, ask.allowance);
-        least.0 = least.0.min(begun.elapsed());
-        let begun = Instant::now();
-        let same = call!(stages_plan, board, &mut lent, *const f32, ask.hot.as_ptr(), ask.hot.len(), ask.threshold, ask.limit, ask.allowance);
-        least.1 = least.1.min(begun.elapsed());
-        assert_eq!((number, same), (0, 0));
-    }
-    least
+/// How long filling takes, and filling and planning. The scratch is what the run before left.
+fn run_planning(case: &Case, lent: &mut Lent) -> (Duration, Duration) {
+    let (board, ask) = (&case.board, asked(case));
+    let begun = Instant::now();
+    let number = call!(stages_fill, board, lent, *const f32, ask.hot.as_ptr(), ask.hot.len(), ask.threshold, ask.limit, ask.allowance);
+    let filled = begun.elapsed();
+    let begun = Instant::now();
+    let same = call!(stages_plan, board, lent, *const f32, ask.hot.as_ptr(), ask.hot.len(), ask.threshold, ask.limit, ask.allowance);
+    let planned = begun.elapsed();
+    assert_eq!((number, same), (0, 0));
+    (filled, planned)
 }
 
-/// Planning of all zones: the text's, from the first zone's start to the last one's end, and the proved one's, filling and planning less filling
-/// alone. Runs of both in turns; of each the least.
+/// Planning of all zones: the text's, from the first zone's start to the last one's end, and the proved one's, which is filling and planning
+/// less filling alone. Of each the least, over runs in turns for some seconds a board.
 pub fn planning() {
     println!("{:36} {:>13} {:>13} {:>7}", "board", "text ns", "proved ns", "times");
     for (name, case) in boards::bench::boards() {
-        let runs = if case.board.ids.len() > 1_000 { 4 } else { 400 };
+        let mut lent = Lent::new(&case, 6);
         let (mut text, mut fill, mut both) = (Duration::MAX, Duration::MAX, Duration::MAX);
-        for _ in 0..5 {
-            text = text.min(filled::play::time_planning(&case.board, asked(&case), runs));
-            let ours = least_planning(&case, runs);
+        let (begun, mut rounds) = (Instant::now(), 0);
+        while rounds < 12 || begun.elapsed() < Duration::from_secs(5) {
+            text = text.min(filled::play::time_planning(&case.board, asked(&case), 1));
+            let ours = run_planning(&case, &mut lent);
             (fill, both) = (fill.min(ours.0), both.min(ours.1));
+            rounds += 1;
         }
         let (text, ours) = (text.as_nanos(), both.saturating_sub(fill).as_nanos().max(1));
         println!("{name:36} {text:13} {ours:13} {:7.1}", text as f64 / ours as f64);
