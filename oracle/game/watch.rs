@@ -1,10 +1,11 @@
 //! What the runs see of the text at work: requests asked of the game, zones as filled, planned and finished. Told by the shim `tracing`.
 
+use boards::clock::now;
 use boards::outcome::{Edge, Filling, Zone};
 use petgraph::{graph::NodeIndex, graphmap::DiGraphMap};
 use std::cell::{Cell, RefCell};
 use std::cmp::Ordering;
-use std::time::{Duration, Instant};
+use std::time::Duration;
 
 pub type Graph = DiGraphMap<NodeIndex, Cell<f32>>;
 
@@ -20,7 +21,7 @@ struct Watch {
     planned: Vec<Vec<Edge>>,
     records: Vec<usize>,
     deferred: Vec<Graph>,
-    planning: Option<Instant>,
+    planning: Option<Duration>,
     planned_in: Option<Duration>,
 }
 
@@ -83,7 +84,7 @@ pub fn found(ids: impl Iterator<Item = u32>, over: bool) {
 /// A zone is to be planned: with the first one planning begins.
 pub fn planning() {
     with(|w| {
-        w.planning.get_or_insert_with(Instant::now);
+        w.planning.get_or_insert_with(now);
     });
 }
 
@@ -98,7 +99,7 @@ pub fn planned(graph: &Graph) {
 pub fn finishing(graph: Graph) -> Option<Graph> {
     with(|w| {
         if let (Some(begun), None) = (w.planning, w.planned_in) {
-            w.planned_in = Some(begun.elapsed());
+            w.planned_in = Some(now() - begun);
         }
         if !w.deferring {
             return Some(graph);

@@ -1,6 +1,7 @@
 //! How long the proved parts take, on the boards that speed is measured on.
 
 use crate::{asked, fill, stages_fill, stages_plan};
+use boards::clock::now;
 use boards::guarded::Lent;
 use boards::{Call, Case, call};
 use std::time::{Duration, Instant};
@@ -32,18 +33,17 @@ pub fn filling() {
 /// How long filling takes, and filling and planning. The scratch is what the run before left.
 fn run_planning(case: &Case, lent: &mut Lent) -> (Duration, Duration) {
     let (board, ask) = (&case.board, asked(case));
-    let begun = Instant::now();
+    let begun = now();
     let number = call!(stages_fill, board, lent, *const f32, ask.hot.as_ptr(), ask.hot.len(), ask.threshold, ask.limit, ask.allowance);
-    let filled = begun.elapsed();
-    let begun = Instant::now();
+    let filled = now();
     let same = call!(stages_plan, board, lent, *const f32, ask.hot.as_ptr(), ask.hot.len(), ask.threshold, ask.limit, ask.allowance);
-    let planned = begun.elapsed();
+    let planned = now();
     assert_eq!((number, same), (0, 0));
-    (filled, planned)
+    (filled - begun, planned - filled)
 }
 
 /// Planning of all zones: the text's, from the first zone's start to the last one's end, and the proved one's, which is filling and planning
-/// less filling alone. Of each the least, over runs in turns for some seconds a board.
+/// less filling alone. Of each the least time of the processor, over runs in turns for some seconds a board.
 pub fn planning() {
     println!("{:36} {:>13} {:>13} {:>7}", "board", "text ns", "proved ns", "times");
     for (name, case) in boards::bench::boards() {
