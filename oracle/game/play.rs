@@ -3,13 +3,14 @@
 use crate::turfs::processing;
 use crate::{gas::types, watch};
 use auxcallback::run_all;
+use boards::clock::{cost, now};
 use boards::outcome::{Filling, turn_order};
 use boards::refusal::refusal;
 use boards::{Board, Call, Case, Equalize, Event, Outcome, Played, Walk};
 use byondapi::{ByondValue, Seen, take_seen};
 use parking_lot::Mutex;
 use std::collections::HashMap;
-use std::time::{Duration, Instant};
+use std::time::Duration;
 
 fn load(board: &Board) {
     types::load(board.gases as usize, &board.immutable, &board.amounts);
@@ -43,19 +44,30 @@ fn equalize(board: &Board, ask: &Equalize) -> Played {
     Played { amounts: types::amounts(), events, cancelled, processed: processed as u32, tests, filling, zones, planned, vented: false }
 }
 
-/// How long the text's `equalize` takes, the board loaded and what it sends to the game not run: the least of so many runs.
-pub fn time_equalize(board: &Board, ask: &Equalize, runs: u32) -> Duration {
+/// The least of so many runs of the text's `equalize`, as `taken` tells it of the whole run's time: that of the processor, the board loaded and what
+/// is sent to the game not run.
+fn least(board: &Board, ask: &Equalize, runs: u32, taken: impl Fn(Duration) -> Duration) -> Duration {
     let hot = ask.hot.iter().copied().collect();
     let one = |_| {
         load(board);
         watch::begin_quiet(ask.threshold);
-        let begun = Instant::now();
+        let begun = now();
         processing::equalize(ask.limit, &hot, ask.allowance);
-        let taken = begun.elapsed();
+        let taken = taken(now() - begun);
         run_all().expect("what was sent can be called");
         taken
     };
-    (0..runs).map(one).min().unwrap_or_default()
+    (0..runs).map(one).min().unwrap_or_default().saturating_sub(cost())
+}
+
+/// How long the text's `equalize` takes.
+pub fn time_equalize(board: &Board, ask: &Equalize, runs: u32) -> Duration {
+    least(board, ask, runs, |whole| whole)
+}
+
+/// How long its planning takes, of all zones.
+pub fn time_planning(board: &Board, ask: &Equalize, runs: u32) -> Duration {
+    least(board, ask, runs, |_| watch::planned_in())
 }
 
 /// What a walk shows the game, in order.

@@ -1,9 +1,11 @@
 //! What the runs see of the text at work: requests asked of the game, zones as filled, planned and finished. Told by the shim `tracing`.
 
+use boards::clock::now;
 use boards::outcome::{Edge, Filling, Zone};
 use petgraph::{graph::NodeIndex, graphmap::DiGraphMap};
 use std::cell::{Cell, RefCell};
 use std::cmp::Ordering;
+use std::time::Duration;
 
 pub type Graph = DiGraphMap<NodeIndex, Cell<f32>>;
 
@@ -19,6 +21,8 @@ struct Watch {
     planned: Vec<Vec<Edge>>,
     records: Vec<usize>,
     deferred: Vec<Graph>,
+    planning: Option<Duration>,
+    planned_in: Option<Duration>,
 }
 
 thread_local!(static WATCH: RefCell<Watch> = RefCell::default());
@@ -77,6 +81,13 @@ pub fn found(ids: impl Iterator<Item = u32>, over: bool) {
     }
 }
 
+/// A zone is to be planned: with the first one planning begins.
+pub fn planning() {
+    with(|w| {
+        w.planning.get_or_insert_with(now);
+    });
+}
+
 /// A zone was planned, in the order in which zones were filled.
 pub fn planned(graph: &Graph) {
     if !with(|w| w.quiet) {
@@ -84,9 +95,12 @@ pub fn planned(graph: &Graph) {
     }
 }
 
-/// A zone is to be finished: it is handed back, or it waits for its turns.
+/// A zone is to be finished: it is handed back, or it waits for its turns. With the first one planning is over.
 pub fn finishing(graph: Graph) -> Option<Graph> {
     with(|w| {
+        if let (Some(begun), None) = (w.planning, w.planned_in) {
+            w.planned_in = Some(now() - begun);
+        }
         if !w.deferring {
             return Some(graph);
         }
@@ -115,6 +129,11 @@ pub fn take_filling() -> Filling {
 
 pub fn take_planned() -> Vec<Vec<Edge>> {
     with(|w| std::mem::take(&mut w.planned))
+}
+
+/// How long the planning of all zones took.
+pub fn planned_in() -> Duration {
+    with(|w| w.planned_in.unwrap_or_default())
 }
 
 pub fn take_records() -> Vec<usize> {

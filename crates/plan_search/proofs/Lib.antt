@@ -1,3 +1,4 @@
+pub mod Sides
 pub mod Trades
 pub mod Drains
 pub mod Seeks

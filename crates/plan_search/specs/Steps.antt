@@ -4,7 +4,7 @@ use mathlib.Core.List.{List}
 use mathlib.Core.Bool.{Bool, not, _&&_, cond}
 use lib.Dec.{eqb}
 use lib.ListN.{getD, set}
-use lib.Ieee.{Float, nan, ne}
+use lib.Ieee.{Float, nan, ne, neg}
 use Rattle.basics.specs.Loops.{if_then_else_}
 use Rattle.basics.specs.Floats.{0f, _+f_, _-f_}
 use Rattle.basics.specs.declared.Spot.{Spot}
@@ -12,8 +12,14 @@ use Rattle.basics.specs.declared.Spot.the-variants.{At, Nowhere}
 use Rattle.process_zone.specs.Plan.{Plan, Seek, load, withDelta, wants, more, seekTo}
 use Rattle.process_zone.specs.declared.MonstermosInfo.{MonstermosInfo}
 use Rattle.process_zone.specs.declared.Side.{Side}
+use Rattle.process_zone.specs.declared.Side.the-variants.{Giving, Taking}
 use Rattle.plan_state.specs.Steps.{backLink, adjustAt}
 use Rattle.plan_search.specs.declared.Both.{Both}
+
+-- a giver's number as it is, a taker's negated
+abbrev pub given : Side → Float → Float
+given Giving x = x
+given Taking x = neg x
 
 -- what `trade` comes to for the turf in hand and the turf that is met
 unfoldable pub bargain : Side → MonstermosInfo → MonstermosInfo → Both

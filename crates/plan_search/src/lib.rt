@@ -15,7 +15,7 @@ ghost use Rattle.index_set.specs.Line.{Below};
 ghost use Rattle.reverse_links.specs.Reverse.{Linked, Reverses};
 ghost use Rattle.plan_state.specs.Held.{grid, area, view, Fit, Does, Serves};
 ghost use Rattle.plan_search.specs.Search.{Seeking, Sought, Searched, AllMet, KeepsMet, Within};
-ghost use Rattle.plan_search.specs.Steps.{bargain, point, alongPart, handOn, drainVia};
+ghost use Rattle.plan_search.specs.Steps.{given, bargain, point, alongPart, handOn, drainVia};
 use basics::Spot;
 use index_set::contains;
 use index_set::insert;
@@ -28,34 +28,35 @@ use plan_state::store;
 use process_zone::MonstermosInfo;
 use process_zone::Side;
 
+// A giver's number as it is, a taker's negated, so that one comparison serves both.
+fn given(side: Side, x: f32) -> f32
+    ensures { λ r. ⌜ r ≡ given side x ⌝ }
+{
+    match side {
+        Side::Giving => x,
+        Side::Taking => -x,
+    }
+}
+
 // The turf in hand has nothing more to give, or to take.
 fn settled(side: Side, x: f32) -> bool
     ensures { λ r. ⌜ r ≡ settled side x ⌝ }
 {
-    match side {
-        Side::Giving => x <= 0.0,
-        Side::Taking => x >= 0.0,
-    }
+    given(side, x) <= 0.0
 }
 
 // The turf that is met can take, or give.
 fn wants(side: Side, y: f32) -> bool
     ensures { λ r. ⌜ r ≡ wants side y ⌝ }
 {
-    match side {
-        Side::Giving => y < 0.0,
-        Side::Taking => y > 0.0,
-    }
+    given(side, y) < 0.0
 }
 
 // The turf that is met has room for all that the turf in hand has left, and some over.
 fn more(side: Side, x: f32, y: f32) -> bool
     ensures { λ r. ⌜ r ≡ more side x y ⌝ }
 {
-    match side {
-        Side::Giving => -y > x,
-        Side::Taking => y > -x,
-    }
+    -given(side, y) > given(side, x)
 }
 
 // The turf in hand and the turf that is met.

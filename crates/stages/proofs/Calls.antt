@@ -3,26 +3,33 @@ use Prim.Native.Nat.{ℕ, _+_, _*_, _≤_}
 use native.Mathlib.Omega.{arith}
 use native.Mathlib.Decide.{ℕ-discrete}
 use mathlib.Core.Path.{_≡_, refl, ap, _∙_, sym}
-use mathlib.Core.List.{[], _∷_}
-use mathlib.Core.Bool.{true, _&&_}
+use mathlib.Core.List.{List, []}
+use mathlib.Core.Bool.{true, false, true≢false, _&&_}
 use lib.Dec.{leb}
+use lib.Ieee.{Float}
 use lib.Ieee.Bits.{is-true}
 use lib.ListN.{length}
 use Rattle.basics.specs.Floats.{finiteSignClear}
-use Rattle.turfs.specs.Board.{Board, turfCount, linkCount}
+use Rattle.turfs.specs.Board.{Board, turfCount, linkCount, mixtureCount}
 use Rattle.turfs.specs.Refuse.{ascending}
 use Rattle.turfs.proofs.Accepted.{Accepted}
 use Rattle.lent.specs.Lent.{Lent, Extra, wordsRoom, floatsRoom, refusal}
 use Rattle.lent.proofs.Passed.{Passed, passed}
-use Rattle.flood_fill.specs.Held.{nodesAt}
-use Rattle.equalize.specs.Equalize.{Ask, fillAll, bit}
+use Rattle.lent.specs.Given.{lent}
+use Rattle.flood_fill.specs.Held.{nodesAt, Sizes}
+use Rattle.reverse_links.specs.Reverse.{Linked}
+use Rattle.plan_zone.specs.Zone.{Gassed}
+use Rattle.plan_zone.proofs.Whole.{tablesOf}
+use Rattle.plan_all.specs.Zones.{Zoned, PlansAll}
+use Rattle.equalize.specs.Equalize.{Ask, fillAll}
 use Rattle.equalize.specs.Result.{equalizeRoom, equalizeNumber}
 use Rattle.equalize.proofs.Zones.{test-room}
 use Rattle.equalize.proofs.Room.{requests-bytes}
 use Rattle.fill_all.specs.Held.{molesAt, start, FillsAll}
 use Rattle.fill_all.specs.declared.Filling.{Filling}
 use Rattle.fill_all.proofs.Words.{nodes-few, tests-are}
-use Rattle.stages.specs.Stages.{Fills, FillAnswers}
+use Rattle.stages.specs.Stages.{Fills, Few, workAt, Plans}
+use Rattle.stages.proofs.Planning.{links-pass, plan-asks, plan-comes}
 
 module _ (b : Board) (q : Ask) (l : Lent) where
   -- what only equalize is lent
@@ -55,12 +62,6 @@ module _ (b : Board) (q : Ask) (l : Lent) where
       done-fills d = record { refusal = sym z ∙ r; refused = λ n. absurd (n refl); done = λ _. d }
 
   -- every count of the answer is small
-  pub record Few (s : Filling) : Type 0 where
-    pub zones : s .zones ≤ 4096
-    pub nodes : s .nodes ≤ 28672
-    pub tests : s .tests ≤ 4096
-    pub used : s .used ≤ 65536
-
   pub few : {l′ : Lent} {number : ℕ} {s : Filling} → Fills b q l l′ number s → Few s
   few {l′} {number} {s} f = go (ℕ-discrete number 0)
     where
@@ -76,7 +77,36 @@ module _ (b : Board) (q : Ask) (l : Lent) where
             used = omega (arith, d .wrote .wrote .end, requests-bytes b (l .gas) a q, a .turfs .1);
           }
 
-  -- as numbers
-  pub fill-answers : {l′ : Lent} {number mark : ℕ} {s : Filling} → Fills b q l l′ number s → mark ≡ bit (s .cancelled)
-      → FillAnswers b q l l′ number (number ∷ mark ∷ s .zones ∷ s .nodes ∷ s .tests ∷ s .used ∷ [])
-  fill-answers {l′} {number} {mark} {s} f e = record { filling = s; fills = f; written = ap (λ (x : ℕ). number ∷ x ∷ s .zones ∷ s .nodes ∷ s .tests ∷ s .used ∷ []) e }
+  -- a refusal, or a clock that ran out: nothing is planned
+  pub refused-plans : {l′ : Lent} {number : ℕ} {s : Filling} → Fills b q l l′ number s → (number ≡ 0 → ⊥) → Plans b q l l′ number s
+  refused-plans {l′} f z = record { left = l′; fills = f; refused = λ _. refl; cancelled = λ _. refl; planned = λ e. absurd (z e) }
+
+  pub cancelled-plans : {l′ : Lent} {number : ℕ} {s : Filling} → Fills b q l l′ number s → s .cancelled ≡ true → Plans b q l l′ number s
+  cancelled-plans {l′} f c = record { left = l′; fills = f; refused = λ _. refl; cancelled = λ _. refl; planned = λ _ k. absurd (true≢false (sym c ∙ k)) }
+
+  -- filling is done: the tables are such as planning asks for, and then planned
+  module _ {left : Lent} {number : ℕ} {s : Filling} (f : Fills b q l left number s) (z : number ≡ 0) where
+    done-board : Accepted b (length (l .gas))
+    done-board = let-pass (f .refusal) z .board
+
+    pub work-asks : Sizes (turfCount b) (linkCount b) × (mixtureCount b ≤ 4096)
+    work-asks = (record { turfs = done-board .turfs .1; links = done-board .links }, done-board .mixtures .1)
+
+    pub plan-ready : length (left .words) ≡ length (l .words) → length (left .floats) ≡ length (l .floats) → (work : ℕ) → work ≡ workAt b
+        → (Gassed (turfCount b) (b .mixtures) (b .gases) (l .gas) × (Linked (turfCount b) (b .starts) (b .neighbours) × (linkCount b ≡ linkCount b)))
+        × (Zoned (turfCount b) (linkCount b) (s .zones) (left .words) (left .floats)
+        × ((nodesAt (turfCount b) (linkCount b) + turfCount b + linkCount b ≤ work) × (work + linkCount b + turfCount b + turfCount b ≤ length (left .words))))
+    unfolding equalizeNumber
+    plan-ready lw lf =
+        let p = let-pass (f .refusal) z in
+        plan-asks b q l left s (f .done z) (p .board) (links-pass b l (equalizeRoom b) extra (sym (f .refusal) ∙ z)) (omega (arith, lw, p .words)) (omega (arith, lf, p .floats))
+
+    pub planned-plans : s .cancelled ≡ false → {w : List ℕ} {r : List Float} (work : ℕ) → work ≡ workAt b
+        → PlansAll (turfCount b) (linkCount b) (s .zones) work (tablesOf b) (l .gas) (left .words) w (left .floats) r → Plans b q l (lent (l .gas) (left .area) w r) number s
+    planned-plans c work e r = record {
+      left = left;
+      fills = f;
+      refused = λ n. absurd (n z);
+      cancelled = λ k. absurd (true≢false (sym k ∙ c));
+      planned = λ _ _. plan-comes b q l left s (f .done z) work e refl r;
+    }

@@ -2,13 +2,14 @@
 use fill_all::Filling;
 ghost use mathlib.Core.Path.{_≡_};
 ghost use mathlib.Core.List.{[]};
-ghost use Prim.Native.Nat.{ℕ};
+ghost use Prim.Native.Nat.{ℕ, _+_, _≤_};
 ghost use Rattle.turfs.specs.Tables.{board};
 ghost use Rattle.lent.specs.Given.{lent};
+ghost use Rattle.flood_fill.specs.Held.{nodesAt, Sizes};
 ghost use Rattle.equalize.specs.Equalize.{bit};
 ghost use Rattle.equalize.specs.Result.{equalizeNumber};
 ghost use Rattle.fill_all.specs.Held.{ask};
-ghost use Rattle.stages.specs.Stages.{Fills, FillAnswers};
+ghost use Rattle.stages.specs.Stages.{Fills, Few, fillNumbers, FillAnswers, Plans, PlanAnswers};
 
 // What filling answers: its number, and what it came to.
 pub struct FillAnswer {
@@ -21,6 +22,27 @@ fn bit(mark: bool) -> u32
     ensures { λ r. ⌜ r ≡ bit mark ⌝ }
 {
     if mark { 1 } else { 0 }
+}
+
+// Writes number, cancelled, zones, nodes, tests, bytes.
+fn write(a: FillAnswer, answer: &mut [u32; 6])
+    requires { ⌜ Few (a .filling) ⌝ }
+    ensures { λ _. ⌜ now (answer .exit) ≡ fillNumbers (a .number) (a .filling) ⌝ }
+{
+    let s = a.filling;
+    let zones = s.zones as u32;
+    let nodes = s.nodes as u32;
+    let tests = s.tests as u32;
+    let used = s.used as u32;
+    *answer = [a.number, bit(s.cancelled), zones, nodes, tests, used];
+}
+
+// Where planning works with words, on a board of n turfs, e links and m mixtures: behind the nodes and a word for each mixture.
+fn work_at(n: usize, e: usize, m: usize) -> usize
+    requires { ⌜ Sizes n e × (m ≤ 4096) ⌝ }
+    ensures { λ r. ⌜ r ≡ nodesAt n e + n + e + m ⌝ }
+{
+    flood_fill::nodes_at(n, e) + n + e + m
 }
 
 // Equalize's refusals, for no turns.
@@ -135,6 +157,72 @@ pub fn fill(
     FillAnswer { number: 0, filling }
 }
 
+// Filling, and then planning unless the clock ran out.
+pub fn plan(
+    ids: &[u32],
+    flags: &[u8],
+    planetary: &[u8],
+    mixtures: &[u32],
+    starts: &[u32],
+    neighbours: &[u32],
+    link_flags: &[u8],
+    immutable: &[u8],
+    gases: u32,
+    amounts: &[f32],
+    hot: &[u32],
+    threshold: f32,
+    limit: u32,
+    allowance: u32,
+    events: &mut [u8],
+    words: &mut [u32],
+    floats: &mut [f32],
+) -> FillAnswer
+    ensures { λ r. ⌜ Plans (board (now (ids .entry)) (now (flags .entry)) (now (planetary .entry)) (now (mixtures .entry)) (now (starts .entry)) (now (neighbours .entry)) (now («link_flags» .entry)) (now (immutable .entry)) gases) (ask (now (hot .entry)) threshold limit allowance) (lent (now (amounts .entry)) (now (events .entry)) (now (words .entry)) (now (floats .entry))) (lent (now (amounts .entry)) (now (events .exit)) (now (words .exit)) (now (floats .exit))) (r .number) (r .filling) ⌝ }
+{
+    let a = fill(
+        ids,
+        flags,
+        planetary,
+        mixtures,
+        starts,
+        neighbours,
+        link_flags,
+        immutable,
+        gases,
+        amounts,
+        hot,
+        threshold,
+        limit,
+        allowance,
+        events,
+        words,
+        floats,
+    );
+    if a.number != 0 {
+        return a;
+    }
+    if a.filling.cancelled {
+        return a;
+    }
+    let n = ids.len();
+    let e = neighbours.len();
+    let work = work_at(n, e, immutable.len());
+    plan_all::plan_all(
+        a.filling.zones,
+        mixtures,
+        gases as usize,
+        amounts,
+        starts,
+        neighbours,
+        n,
+        e,
+        work,
+        words,
+        floats,
+    );
+    a
+}
+
 // Filling alone: number, cancelled, zones, nodes, tests, bytes.
 #[no_mangle]
 pub extern "C" fn stages_fill(
@@ -178,11 +266,53 @@ pub extern "C" fn stages_fill(
         words,
         floats,
     );
-    let s = a.filling;
-    let zones = s.zones as u32;
-    let nodes = s.nodes as u32;
-    let tests = s.tests as u32;
-    let used = s.used as u32;
-    *answer = [a.number, bit(s.cancelled), zones, nodes, tests, used];
+    write(a, answer);
+    a.number
+}
+
+// Filling and planning: number, cancelled, zones, nodes, tests, bytes.
+#[no_mangle]
+pub extern "C" fn stages_plan(
+    ids: &[u32],
+    flags: &[u8],
+    planetary: &[u8],
+    mixtures: &[u32],
+    starts: &[u32],
+    neighbours: &[u32],
+    link_flags: &[u8],
+    immutable: &[u8],
+    gases: u32,
+    amounts: &[f32],
+    hot: &[u32],
+    threshold: f32,
+    limit: u32,
+    allowance: u32,
+    events: &mut [u8],
+    words: &mut [u32],
+    floats: &mut [f32],
+    answer: &mut [u32; 6],
+) -> u32
+    ensures { λ r. ⌜ PlanAnswers (board (now (ids .entry)) (now (flags .entry)) (now (planetary .entry)) (now (mixtures .entry)) (now (starts .entry)) (now (neighbours .entry)) (now («link_flags» .entry)) (now (immutable .entry)) gases) (ask (now (hot .entry)) threshold limit allowance) (lent (now (amounts .entry)) (now (events .entry)) (now (words .entry)) (now (floats .entry))) (lent (now (amounts .entry)) (now (events .exit)) (now (words .exit)) (now (floats .exit))) r (now (answer .exit)) ⌝ }
+{
+    let a = plan(
+        ids,
+        flags,
+        planetary,
+        mixtures,
+        starts,
+        neighbours,
+        link_flags,
+        immutable,
+        gases,
+        amounts,
+        hot,
+        threshold,
+        limit,
+        allowance,
+        events,
+        words,
+        floats,
+    );
+    write(a, answer);
     a.number
 }

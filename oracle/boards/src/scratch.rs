@@ -1,4 +1,4 @@
-//! How equalize's scratch is laid out while it works, and whether what filling leaves in it is what the text's filling came to.
+//! How equalize's scratch is laid out while it works, and whether what filling and planning leave in it is what the text's came to.
 
 use crate::events::encode;
 use crate::outcome::{Outcome, Played, bits};
@@ -14,6 +14,12 @@ const STARTS: usize = 11;
 const NODES: usize = 12;
 /// Of floats: the totals of the zones.
 const MOLES: usize = 4;
+/// What planning writes. Of words: the reverses, those of its state and its searches, and past the arrays, behind a word for each mixture, those
+/// that the search for the reverses works with. Of floats: the weights and its state.
+const REVERSE: usize = 1;
+const PLAN_WORDS: Range<usize> = 1..8;
+const WEIGHT: usize = 0;
+const PLAN_FLOATS: Range<usize> = 0..3;
 
 /// Arrays one after the other, and last what is left of so many cells.
 fn arrays(sizes: &[usize], cells: usize) -> Vec<Range<usize>> {
@@ -132,4 +138,56 @@ fn zones_differ(board: &Board, played: &Played, left: &Outcome) -> Option<&'stat
     }
     let unkept = |link: usize| owner[link] == 0 || (last > played.zones.len() && owner[link] as usize == last);
     (0..owner.len()).any(|link| owner[link] != owned[link] && !unkept(link)).then_some("owners")
+}
+
+/// The words and the floats that planning leaves as filling left them.
+fn unplanned(board: &Board, left: &Outcome) -> (Vec<usize>, Vec<usize>) {
+    let (words, floats) = (word_arrays(board, left.words.len()), float_arrays(board, left.floats.len()));
+    let (n, e, rest) = (board.ids.len(), board.neighbours.len(), words.len() - 1);
+    let work = words[rest].start + board.immutable.len();
+    let kept = (0..rest).filter(|array| !PLAN_WORDS.contains(array)).flat_map(|array| words[array].clone());
+    let word = kept.chain(words[rest].start..work).chain(work + e + n + n..left.words.len());
+    let float = (PLAN_FLOATS.end..floats.len()).flat_map(|array| floats[array].clone());
+    (word.collect(), float.collect())
+}
+
+/// The words and the floats that are compared where planning was done: all but its state and what it works with.
+pub fn planned_fixed(case: &Case, left: &Outcome) -> (Vec<usize>, Vec<usize>) {
+    let (mut words, mut floats) = unplanned(&case.board, left);
+    words.extend(word_arrays(&case.board, left.words.len())[REVERSE].clone());
+    floats.extend(float_arrays(&case.board, left.floats.len())[WEIGHT].clone());
+    (words, floats)
+}
+
+/// Which of planning's promises doesn't fit what the text came to, given what filling alone left.
+pub fn planning_differs(case: &Case, played: &Played, filled: &Outcome, left: &Outcome) -> Option<&'static str> {
+    if left.answer != filled.answer || left.events != filled.events || bits(&left.amounts) != bits(&filled.amounts) {
+        return Some("answer, requests or gas");
+    }
+    let (words, floats) = unplanned(&case.board, left);
+    let floats_kept = floats.iter().all(|&at| left.floats[at].to_bits() == filled.floats[at].to_bits());
+    if !floats_kept || words.iter().any(|&at| left.words[at] != filled.words[at]) {
+        return Some("a cell that planning leaves");
+    }
+    reverses_differ(&case.board, left).or_else(|| weights_differ(&case.board, played, left))
+}
+
+/// By link, one more than the first link that leads back; 0: none does.
+fn reverses_differ(board: &Board, left: &Outcome) -> Option<&'static str> {
+    let reverses = &left.words[word_arrays(board, left.words.len())[REVERSE].clone()];
+    let back = |row: usize, link: usize| board.links(board.neighbours[link] as usize).find(|&back| board.neighbours[back] as usize == row);
+    let due = (0..board.ids.len()).flat_map(|row| board.links(row).map(move |link| back(row, link).map_or(0, |back| back as u32 + 1)));
+    (!due.eq(reverses.iter().copied())).then_some("reverses")
+}
+
+/// By link its weight, by bits; of a link that no zone owns, 0.
+fn weights_differ(board: &Board, played: &Played, left: &Outcome) -> Option<&'static str> {
+    let owner = &left.words[word_arrays(board, left.words.len())[OWNER].clone()];
+    let weights = &left.floats[float_arrays(board, left.floats.len())[WEIGHT].clone()];
+    let mut due = vec![0; weights.len()];
+    for (number, (zone, planned)) in (1..).zip(played.zones.iter().zip(&played.planned)) {
+        let links = zone.nodes.iter().flat_map(|&row| board.links(row as usize)).filter(|&link| owner[link] == number);
+        links.zip(planned).for_each(|(link, edge)| due[link] = edge.weight.to_bits());
+    }
+    (played.planned.len() != played.zones.len() || bits(weights) != due).then_some("weights")
 }

@@ -15,7 +15,7 @@ fn looks(name: &str) -> (&'static str, &'static str, &'static str) {
             *lent = own;",
             "",
         ),
-        "process_zone" => ("", "crate::watch::planned(&answer);", ""),
+        "process_zone" => ("crate::watch::planning();", "crate::watch::planned(&answer);", ""),
         "finalize_eq_zone" => (
             "let Some(graph) = crate::watch::finishing(graph) else { return None; };",
             "crate::watch::finished(answer.as_ref().map_or(0, Vec::len));",

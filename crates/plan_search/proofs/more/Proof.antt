@@ -1,19 +1,25 @@
--- By the case of the side. Assumes nothing.
+-- One comparison serves both sides. Assumes nothing.
+use Rattle.plan_search.proofs.Sides.{more-given}
+use mathlib.Core.Path.{ap₂, _∙_}
+use lib.Ieee.{Float, lt, neg}
 use borrow.Author.Needs.{needs}
 use Rattle.plan_search.proofs.more.Statement.{statement}
 use Rattle.plan_search.proofs.more.Tie as tie
+use Rattle.plan_search.proofs.more.Reads as reads
+use Rattle.plan_search.proofs.more.Lts as lts
+use Rattle.plan_search.proofs.given.Reads as given-reads
 
-enum-told : tie.Need-enum-told
-enum-told c = search needs
+-- src/lib.rt:59:6
+given-requires : tie.Need-given-requires
+given-requires c κs = search needs
 
-enum-told-2 : tie.Need-enum-told-2
-enum-told-2 c = search needs
+-- src/lib.rt:59:23
+given-requires-2 : tie.Need-given-requires-2
+given-requires-2 c κs = search needs
 
+-- src/lib.rt:56:1
 returns : tie.Need-returns
-returns c = rw (c .enum-told .given .1)
-
-returns-2 : tie.Need-returns-2
-returns-2 c = rw (c .enum-told2 .given .1)
+returns c = ap₂ (λ (a b : Float). lt a (neg b)) (c .given2 .ensures) (c .before .given .ensures) ∙ more-given (c .before .before .args .side) (c .before .before .args .x) (c .before .before .args .y)
 
 pub more-spec : {M : Type 1} → statement M
-more-spec = tie.close (tie.spec enum-told enum-told-2 returns returns-2)
+more-spec = tie.close (tie.spec given-requires given-requires-2 returns)

@@ -1,0 +1,62 @@
+//! How long the proved parts take, on the boards that speed is measured on.
+
+use crate::{asked, fill, stages_fill, stages_plan};
+use boards::clock::now;
+use boards::guarded::Lent;
+use boards::{Call, Case, call};
+use std::time::{Duration, Instant};
+
+/// The least time of a few runs in ns, and the zones kept.
+fn least(case: &Case) -> (u128, u32) {
+    let run = |_| {
+        let begun = Instant::now();
+        let left = fill(case).expect("the boundary's promises");
+        (begun.elapsed().as_nanos(), left.answer[2])
+    };
+    (0..9).map(run).min().expect("a run")
+}
+
+/// Filling with the board's hot ids, and with none: the refusals and the clearing.
+pub fn filling() {
+    for (name, mut case) in boards::bench::boards() {
+        let (with, zones) = least(&case);
+        if let Call::Equalize(ask) = &mut case.call {
+            ask.hot.clear();
+        }
+        let (without, _) = least(&case);
+        let size = case.board.ids.len() + case.board.neighbours.len();
+        let each = with.saturating_sub(without) / size as u128;
+        println!("{name}: {zones} zones, {with} ns, with no hot ids {without} ns: {each} ns for each turf and link");
+    }
+}
+
+/// How long filling takes, and filling and planning. The scratch is what the run before left.
+fn run_planning(case: &Case, lent: &mut Lent) -> (Duration, Duration) {
+    let (board, ask) = (&case.board, asked(case));
+    let begun = now();
+    let number = call!(stages_fill, board, lent, *const f32, ask.hot.as_ptr(), ask.hot.len(), ask.threshold, ask.limit, ask.allowance);
+    let filled = now();
+    let same = call!(stages_plan, board, lent, *const f32, ask.hot.as_ptr(), ask.hot.len(), ask.threshold, ask.limit, ask.allowance);
+    let planned = now();
+    assert_eq!((number, same), (0, 0));
+    (filled - begun, planned - filled)
+}
+
+/// Planning of all zones: the text's, from the first zone's start to the last one's end, and the proved one's, which is filling and planning
+/// less filling alone. Of each the least time of the processor, over runs in turns for some seconds a board.
+pub fn planning() {
+    println!("{:36} {:>13} {:>13} {:>7}", "board", "text ns", "proved ns", "times");
+    for (name, case) in boards::bench::boards() {
+        let mut lent = Lent::new(&case, 6);
+        let (mut text, mut fill, mut both) = (Duration::MAX, Duration::MAX, Duration::MAX);
+        let (begun, mut rounds) = (Instant::now(), 0);
+        while rounds < 12 || begun.elapsed() < Duration::from_secs(5) {
+            text = text.min(filled::play::time_planning(&case.board, asked(&case), 1));
+            let ours = run_planning(&case, &mut lent);
+            (fill, both) = (fill.min(ours.0), both.min(ours.1));
+            rounds += 1;
+        }
+        let (text, ours) = (text.as_nanos(), both.saturating_sub(fill).as_nanos().max(1));
+        println!("{name:36} {text:13} {ours:13} {:7.1}", text as f64 / ours as f64);
+    }
+}
