@@ -4,13 +4,14 @@ use boards::events::{BAD, Event, read};
 use boards::families::{FAMILIES, case, with_turns};
 use boards::random::Random;
 use boards::{Case, refusal::refusal};
-use library::{outcome, read_event, write_event};
-use std::time::Instant;
+use library::{bench, outcome, read_event, write_event};
+use std::time::{Duration, Instant};
 
 const HELP: &str = "library walks EACH SEED      depressurize and the planet walk on EACH boards a family, against the text
 library equalize EACH SEED   equalize on EACH boards a family, with and without turns, against the text
 library paper                document 01's boards
-library events COUNT SEED    the reader and the writer on COUNT areas, against the independent ones";
+library events COUNT SEED    the reader and the writer on COUNT areas, against the independent ones
+library bench SECONDS        how long equalize takes, the text's and the library's, in turn for SECONDS a board";
 
 /// What a comparison came to.
 #[derive(Default)]
@@ -152,6 +153,7 @@ fn main() {
         ("equalize", Some(each), Some(seed)) => compare(&[1], each, seed),
         ("paper", None, None) => paper(),
         ("events", Some(count), Some(seed)) => events(count, seed),
+        ("bench", Some(seconds), None) => bench::table(Duration::from_secs(seconds)),
         _ => println!("{HELP}"),
     }
     eprintln!("{} s", begun.elapsed().as_secs());
