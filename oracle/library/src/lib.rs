@@ -6,6 +6,8 @@ use boards::{Board, Call, Case, Equalize, Outcome, Walk, call};
 use std::time::{Duration, Instant};
 
 pub mod bench;
+pub mod picture;
+pub mod stack;
 
 boards::calls! {
     fn katmos_equalize(amounts: *mut f32, amounts_len: usize, hot: *const u32, hot_len: usize, turns: *const u32, turns_len: usize, threshold: f32, limit: u32, allowance: u32);
