@@ -9,7 +9,7 @@ use boards::{Board, Call, Case, Equalize, Event, Outcome, Played, Walk};
 use byondapi::{ByondValue, Seen, take_seen};
 use parking_lot::Mutex;
 use std::collections::HashMap;
-use std::time::{Duration, Instant};
+use std::time::Duration;
 
 fn load(board: &Board) {
     types::load(board.gases as usize, &board.immutable, &board.amounts);
@@ -43,15 +43,15 @@ fn equalize(board: &Board, ask: &Equalize) -> Played {
     Played { amounts: types::amounts(), events, cancelled, processed: processed as u32, tests, filling, zones, planned, vented: false }
 }
 
-/// How long the text's `equalize` takes, the board loaded and what it sends to the game not run: the least of so many runs.
-pub fn time_equalize(board: &Board, ask: &Equalize, runs: u32) -> Duration {
+/// How long the text's `equalize` takes, the board loaded and what it sends to the game not run: the least of so many runs by a clock.
+pub fn time_equalize(board: &Board, ask: &Equalize, runs: u32, clock: fn() -> Duration) -> Duration {
     let hot = ask.hot.iter().copied().collect();
     let one = |_| {
         load(board);
         watch::begin_quiet(ask.threshold);
-        let begun = Instant::now();
+        let begun = clock();
         processing::equalize(ask.limit, &hot, ask.allowance);
-        let taken = begun.elapsed();
+        let taken = clock() - begun;
         run_all().expect("what was sent can be called");
         taken
     };

@@ -52,7 +52,7 @@ pub fn sized() -> Vec<(&'static str, Vec<Case>)> {
         ("six links each", powers(3, 12).map(|turfs| random(six(turfs))).collect()),
         ("complete", powers(1, 7).chain([157]).map(|turfs| random(complete(turfs))).collect()),
         ("hub", powers(1, 12).map(|turfs| random(hub(turfs))).collect()),
-        ("chain, one half full", powers(1, 12).map(|turfs| case(&chain(turfs as usize), half(turfs), vec![10])).collect()),
+        ("chain, one half full", powers(1, 12).map(|turfs| case(&chain(turfs as usize), half(turfs), vec![turfs * 5])).collect()),
     ]
 }
 

@@ -2,6 +2,7 @@
 //! Rust text or the port.
 
 pub mod bench;
+pub mod clock;
 pub mod events;
 pub mod families;
 pub mod guarded;

@@ -4,45 +4,56 @@
 use crate::picture::{Family, Point};
 use crate::{Host, outcome};
 use boards::bench::sized;
+use boards::clock::{own, wall};
 use boards::{Board, Call, Case};
 use std::hint::black_box;
-use std::time::{Duration, Instant};
+use std::time::Duration;
 
 /// The least time of what is run again and again for so long, eight times at least.
 fn least(seconds: Duration, mut run: impl FnMut() -> Duration) -> Duration {
-    let (begun, mut least, mut runs) = (Instant::now(), Duration::MAX, 0);
-    while runs < 8 || begun.elapsed() < seconds {
+    let (begun, mut least, mut runs) = (wall(), Duration::MAX, 0);
+    while runs < 8 || wall() - begun < seconds {
         least = least.min(run());
         runs += 1;
     }
     least
 }
 
-/// Where this runs, and what reading the clock takes, which is part of every figure.
+/// A call's clock: the thread's own where it is so long that others would come in between, else the one that is sooner read.
+fn clock(once: Duration) -> fn() -> Duration {
+    if once < Duration::from_millis(1) { wall } else { own }
+}
+
+/// Where this runs, and what reading the clocks takes, which is part of every figure.
 fn machine() -> String {
     let kernel = std::fs::read_to_string("/proc/sys/kernel/arch").unwrap_or_default();
     let how = if kernel.trim() == std::env::consts::ARCH { "native" } else { "emulated" };
-    let clock = (0..10_000).map(|_| Instant::now().elapsed()).min().unwrap_or_default();
-    format!("{} on {}: {how}; reading the clock takes {} ns", std::env::consts::ARCH, kernel.trim(), clock.as_nanos())
+    let [wall, own] = [wall, own].map(|clock| (0..10_000).map(|_| clock()).map(|begun| clock() - begun).min().unwrap_or_default().as_nanos());
+    format!("{} on {}: {how}; reading the clock takes {wall} ns, the thread's own {own} ns", std::env::consts::ARCH, kernel.trim())
 }
 
 fn host(case: &Case) -> Host<'_> {
     Host::new(case).expect("a case of equalize")
 }
 
-/// Calls in a row before it is the other side's turn: many where they are short, so that each side finds its code and data near.
-fn in_a_row(once: Duration) -> u32 {
-    if once < Duration::from_millis(5) { 50 } else { 1 }
+/// The least time of the library's call.
+fn ours(case: &Case, seconds: Duration) -> Duration {
+    let mut host = host(case);
+    let clock = clock(host.time(own));
+    least(seconds, || host.time(clock))
 }
 
-/// The least time of the text's call and of the library's, by turns for so long.
+/// The least time of the text's call and of the library's, by turns for so long: short ones many in a row, so that each side finds its code
+/// and data near.
 fn both(case: &Case, seconds: Duration) -> (Duration, Duration) {
     let (Call::Equalize(ask), mut host) = (&case.call, host(case)) else { panic!("a case of equalize") };
-    let row = in_a_row(filled::play::time_equalize(&case.board, ask, 1));
+    let text = |row, clock| filled::play::time_equalize(&case.board, ask, row, clock);
+    let (theirs, mine) = (clock(text(1, own)), clock(host.time(own)));
+    let row = if text(1, own) < Duration::from_millis(5) { 50 } else { 1 };
     let mut ours = Duration::MAX;
     let text = least(seconds, || {
-        ours = (0..row).map(|_| host.time()).fold(ours, Duration::min);
-        filled::play::time_equalize(&case.board, ask, row)
+        ours = (0..row).map(|_| host.time(mine)).fold(ours, Duration::min);
+        text(row, theirs)
     });
     (text, ours)
 }
@@ -71,11 +82,7 @@ fn less(case: &Case) -> [Case; 2] {
 pub fn parts(seconds: Duration) {
     println!("{}\n\n| board | refusals, ns | clearing, ns | the rest, ns |\n|---|--:|--:|--:|", machine());
     for (name, case) in boards::bench::boards() {
-        let ours = |case: &Case| {
-            let mut host = host(case);
-            least(seconds, || host.time())
-        };
-        let ([short, cold], whole) = (less(&case).map(|case| ours(&case)), ours(&case));
+        let ([short, cold], whole) = (less(&case).map(|case| ours(&case, seconds)), ours(&case, seconds));
         let parts = [short, cold.saturating_sub(short), whole.saturating_sub(cold)].map(|part| part.as_nanos());
         println!("| {name} | {} | {} | {} |", parts[0], parts[1], parts[2]);
     }
@@ -96,10 +103,10 @@ fn reading(case: &Case, seconds: Duration) -> Duration {
     let Call::Equalize(ask) = &case.call else { panic!("a case of equalize") };
     let again = 1 + 10_000 / case.board.ids.len() as u32;
     let pass = || {
-        let begun = Instant::now();
+        let begun = wall();
         let sums = (0..again).fold(0, |sums: u32, _| sums.wrapping_add(sum(black_box(&case.board), &ask.hot)));
         black_box(sums);
-        begun.elapsed()
+        wall() - begun
     };
     least(seconds, pass) / again
 }
@@ -115,8 +122,7 @@ pub fn cost(seconds: Duration) -> Vec<Family> {
         let mut points = Vec::new();
         for case in cases {
             let (turfs, links) = (case.board.ids.len(), case.board.neighbours.len());
-            let mut host = host(&case);
-            let (ours, read) = (least(seconds, || host.time()), reading(&case, seconds / 4));
+            let (ours, read) = (ours(&case, seconds), reading(&case, seconds / 4));
             println!("| {name} | {turfs} | {links} | {} | {} | {} |", ours.as_nanos(), ours.as_nanos() as usize / (turfs + links), read.as_nanos());
             points.push(Point { turfs, links, cost: ours, read });
         }
