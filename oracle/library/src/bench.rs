@@ -24,12 +24,16 @@ fn clock(once: Duration) -> fn() -> Duration {
     if once < Duration::from_millis(1) { wall } else { own }
 }
 
+/// Where this runs.
+pub fn machine() -> String {
+    let (own, kernel) = (std::env::consts::ARCH, std::fs::read_to_string("/proc/sys/kernel/arch").unwrap_or_default());
+    if kernel.trim() == own { format!("{own}, native") } else { format!("{own} under an emulator on {}", kernel.trim()) }
+}
+
 /// Where this runs, and what reading the clocks takes, which is part of every figure.
-fn machine() -> String {
-    let kernel = std::fs::read_to_string("/proc/sys/kernel/arch").unwrap_or_default();
-    let how = if kernel.trim() == std::env::consts::ARCH { "native" } else { "emulated" };
+fn heading() -> String {
     let [wall, own] = [wall, own].map(|clock| (0..10_000).map(|_| clock()).map(|begun| clock() - begun).min().unwrap_or_default().as_nanos());
-    format!("{} on {}: {how}; reading the clock takes {wall} ns, the thread's own {own} ns", std::env::consts::ARCH, kernel.trim())
+    format!("{}; reading the clock takes {wall} ns, the thread's own {own} ns", machine())
 }
 
 fn host(case: &Case) -> Host<'_> {
@@ -60,7 +64,7 @@ fn both(case: &Case, seconds: Duration) -> (Duration, Duration) {
 
 /// The boards that speed is measured on, so long each. Both sides must answer alike.
 pub fn table(seconds: Duration) {
-    println!("{}\n\n| board | text, ns | library, ns | times as fast |\n|---|--:|--:|--:|", machine());
+    println!("{}\n\n| board | text, ns | library, ns | times as fast |\n|---|--:|--:|--:|", heading());
     for (name, case) in boards::bench::boards() {
         assert_eq!(outcome(&case), Ok(filled::play::outcome(&case)), "{name}");
         let (text, ours) = both(&case, seconds);
@@ -80,7 +84,7 @@ fn less(case: &Case) -> [Case; 2] {
 
 /// What of the library's time is for the refusals, for the clearing, and for the rest.
 pub fn parts(seconds: Duration) {
-    println!("{}\n\n| board | refusals, ns | clearing, ns | the rest, ns |\n|---|--:|--:|--:|", machine());
+    println!("{}\n\n| board | refusals, ns | clearing, ns | the rest, ns |\n|---|--:|--:|--:|", heading());
     for (name, case) in boards::bench::boards() {
         let ([short, cold], whole) = (less(&case).map(|case| ours(&case, seconds)), ours(&case, seconds));
         let parts = [short, cold.saturating_sub(short), whole.saturating_sub(cold)].map(|part| part.as_nanos());
@@ -115,7 +119,7 @@ fn reading(case: &Case, seconds: Duration) -> Duration {
 pub fn cost(seconds: Duration) -> Vec<Family> {
     println!(
         "{}\n\n| boards | turfs | links | library, ns | a turf or link, ns | reading each table once, ns |\n|---|--:|--:|--:|--:|--:|",
-        machine()
+        heading()
     );
     let mut families = Vec::new();
     for (name, cases) in sized() {

@@ -159,7 +159,7 @@ fn main() {
         ("bench", Some(seconds), None) => bench::table(Duration::from_secs(seconds)),
         ("parts", Some(seconds), None) => bench::parts(Duration::from_secs(seconds)),
         ("cost", Some(milliseconds), None) if words.len() == 3 => {
-            let picture = picture::svg(&bench::cost(Duration::from_millis(milliseconds)));
+            let picture = picture::svg(&bench::cost(Duration::from_millis(milliseconds)), &bench::machine());
             std::fs::write(&words[2], picture).expect("the picture can be written");
         }
         ("stack", None, None) => std::process::exit((!stack::stack()).into()),

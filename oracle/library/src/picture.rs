@@ -88,14 +88,14 @@ fn legend(svg: &mut String, families: &[Family]) {
     }
 }
 
-/// The whole picture.
-pub fn svg(families: &[Family]) -> String {
+/// The whole picture; `machine` says where it was measured.
+pub fn svg(families: &[Family], machine: &str) -> String {
     let mut svg = String::from(
         r#"<svg xmlns="http://www.w3.org/2000/svg" width="960" height="545" viewBox="0 0 960 545" font-family="sans-serif" font-size="12">"#,
     );
     svg += "\n<rect width=\"960\" height=\"545\" fill=\"#fff\"/>\n";
     svg += "<text x=\"70\" y=\"26\" font-size=\"16\">One call of katmos_equalize: its time against the size of the board</text>\n";
-    svg += "<text x=\"70\" y=\"46\" fill=\"#555\">x86-64 code under an emulator; the least of many calls; both scales logarithmic</text>\n";
+    let _ = writeln!(svg, r##"<text x="70" y="46" fill="#555">{machine}; the least of many calls; both scales logarithmic</text>"##);
     let turfs = Panel { left: 70.0, title: "turfs", size: |point| point.turfs };
     let links = Panel { left: 540.0, title: "links", size: |point| point.links };
     [turfs, links].iter().for_each(|panel| panel.draw(&mut svg, families));
