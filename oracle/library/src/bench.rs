@@ -105,7 +105,7 @@ fn sum(board: &Board, hot: &[u32]) -> u32 {
 /// The least time of reading each table once.
 fn reading(case: &Case, seconds: Duration) -> Duration {
     let Call::Equalize(ask) = &case.call else { panic!("a case of equalize") };
-    let again = 1 + 10_000 / case.board.ids.len() as u32;
+    let again = 1 + 10_000 / (case.board.ids.len() + case.board.neighbours.len()) as u32;
     let pass = || {
         let begun = wall();
         let sums = (0..again).fold(0, |sums: u32, _| sums.wrapping_add(sum(black_box(&case.board), &ask.hot)));
