@@ -3,7 +3,7 @@
 use crate::turfs::processing;
 use crate::{gas::types, watch};
 use auxcallback::run_all;
-use boards::clock::{cost, now};
+use boards::clock::{cost, own};
 use boards::outcome::{Filling, turn_order};
 use boards::refusal::refusal;
 use boards::{Board, Call, Case, Equalize, Event, Outcome, Played, Walk};
@@ -44,30 +44,30 @@ fn equalize(board: &Board, ask: &Equalize) -> Played {
     Played { amounts: types::amounts(), events, cancelled, processed: processed as u32, tests, filling, zones, planned, vented: false }
 }
 
-/// The least of so many runs of the text's `equalize`, as `taken` tells it of the whole run's time: that of the processor, the board loaded and what
-/// is sent to the game not run.
-fn least(board: &Board, ask: &Equalize, runs: u32, taken: impl Fn(Duration) -> Duration) -> Duration {
+/// The least of so many runs of the text's `equalize` by a clock, as `taken` tells it of the whole run's time: the board loaded, and what is sent to
+/// the game not run.
+fn least(board: &Board, ask: &Equalize, runs: u32, clock: fn() -> Duration, taken: impl Fn(Duration) -> Duration) -> Duration {
     let hot = ask.hot.iter().copied().collect();
     let one = |_| {
         load(board);
         watch::begin_quiet(ask.threshold);
-        let begun = now();
+        let begun = clock();
         processing::equalize(ask.limit, &hot, ask.allowance);
-        let taken = taken(now() - begun);
+        let taken = taken(clock() - begun);
         run_all().expect("what was sent can be called");
         taken
     };
-    (0..runs).map(one).min().unwrap_or_default().saturating_sub(cost())
+    (0..runs).map(one).min().unwrap_or_default()
 }
 
 /// How long the text's `equalize` takes.
-pub fn time_equalize(board: &Board, ask: &Equalize, runs: u32) -> Duration {
-    least(board, ask, runs, |whole| whole)
+pub fn time_equalize(board: &Board, ask: &Equalize, runs: u32, clock: fn() -> Duration) -> Duration {
+    least(board, ask, runs, clock, |whole| whole)
 }
 
-/// How long its planning takes, of all zones.
+/// How long its planning takes, of all zones, by the thread's own clock.
 pub fn time_planning(board: &Board, ask: &Equalize, runs: u32) -> Duration {
-    least(board, ask, runs, |_| watch::planned_in())
+    least(board, ask, runs, own, |_| watch::planned_in()).saturating_sub(cost())
 }
 
 /// What a walk shows the game, in order.

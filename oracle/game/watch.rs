@@ -1,6 +1,6 @@
 //! What the runs see of the text at work: requests asked of the game, zones as filled, planned and finished. Told by the shim `tracing`.
 
-use boards::clock::now;
+use boards::clock::own;
 use boards::outcome::{Edge, Filling, Zone};
 use petgraph::{graph::NodeIndex, graphmap::DiGraphMap};
 use std::cell::{Cell, RefCell};
@@ -99,7 +99,7 @@ pub fn planned(graph: &Graph) {
 pub fn finishing(graph: Graph) -> Option<Graph> {
     with(|w| {
         if let (Some(begun), None) = (w.planning, w.planned_in) {
-            w.planned_in = Some(now() - begun);
+            w.planned_in = Some(own() - begun);
         }
         if !w.deferring {
             return Some(graph);

@@ -1,8 +1,8 @@
--- The tests of the refusals in loops that stop at the first failure. Assumes nothing.
+-- The tests of the refusals in loops that stop at the first failure, or go on to the end. Assumes nothing.
 use Prim.Native.Nat.{ℕ, suc, _+_, _-_, _≤_, _<_}
 use native.Mathlib.Omega.{arith}
 use native.Mathlib.Numerals.{add-one}
-use mathlib.Core.Path.{_≡_, refl, _∙_, sym}
+use mathlib.Core.Path.{_≡_, refl, ap, _∙_, sym}
 use mathlib.Core.List.{List, [], _∷_}
 use mathlib.Core.Bool.{Bool, true, false, not, _&&_}
 use lib.ListN.{length, getD, take, drop, drop-of-length-le, length-drop}
@@ -36,6 +36,14 @@ module _ (test : ℕ → ℕ → Bool) (l : List ℕ) (i : ℕ) where
       short (x ∷ []) k = refl
       short (x ∷ y ∷ s) k = absurd (omega arith)
 
+and-false : (b : Bool) → (b && false) ≡ false
+and-false true = refl
+and-false false = refl
+
+and-true : (b : Bool) → (b && true) ≡ b
+and-true true = refl
+and-true false = refl
+
 module _ (l : List ℕ) (x i : ℕ) where
   module _ (h : i < length l) where
     pub lacks-next : (getD l i 0 ≡ x → ⊥) → not (member x (drop i l)) ≡ not (member x (drop (i + 1) l))
@@ -46,9 +54,19 @@ module _ (l : List ℕ) (x i : ℕ) where
     unfolding member
     lacks-fails e = rw (drop-cons l i 0 h, eq-eqb x (getD l i 0) (sym e))
 
+    -- b says whether the part before lacks x; b′ whether it still does after the next number
+    pub lacks-hit : (b b′ r : Bool) → getD l i 0 ≡ x → b′ ≡ false → (b && not (member x (drop i l))) ≡ r → (b′ && not (member x (drop (i + 1) l))) ≡ r
+    lacks-hit b b′ r e q k = rw q (sym (and-false b) ∙ ap (λ (t : Bool). b && t) (sym (lacks-fails e)) ∙ k)
+
+    pub lacks-miss : (b b′ r : Bool) → (getD l i 0 ≡ x → ⊥) → b′ ≡ b → (b && not (member x (drop i l))) ≡ r → (b′ && not (member x (drop (i + 1) l))) ≡ r
+    lacks-miss b b′ r n q k = rw q (ap (λ (t : Bool). b && t) (sym (lacks-next n)) ∙ k)
+
   pub lacks-end : length l ≤ i → not (member x (drop i l)) ≡ true
   unfolding member
   lacks-end h = rw (drop-of-length-le l h)
+
+  pub lacks-all : (b r : Bool) → length l ≤ i → (b && not (member x (drop i l))) ≡ r → b ≡ r
+  lacks-all b r h k = sym (and-true b) ∙ ap (λ (t : Bool). b && t) (sym (lacks-end h)) ∙ k
 
 -- a slice's part from j to its end
 whole-rest : (l : List ℕ) (j : ℕ) → take (length l - j) (drop j l) ≡ drop j l

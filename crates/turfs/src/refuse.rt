@@ -110,18 +110,19 @@ fn all_below(xs: &[u32], n: usize) -> bool
     true
 }
 
-// Is x not in the list?
+// Is x not in the list? All of it is looked at: a loop with no other way out is compiled to compare several numbers at once.
 fn lacks(xs: &[u32], x: u32) -> bool
     ensures { λ r. ⌜ r ≡ not (member x (now (xs .entry))) ⌝ }
 {
+    let mut none = true;
     let mut i = 0;
     while i < xs.len() {
         if xs[i] == x {
-            return false;
+            none = false;
         }
         i += 1;
     }
-    true
+    none
 }
 
 // No number twice?

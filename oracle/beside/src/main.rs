@@ -47,8 +47,8 @@ fn bench() {
     for (name, case) in boards::bench::boards() {
         assert_eq!(refusal(&case), 0, "{name}");
         let boards::Call::Equalize(ask) = &case.call else { continue };
-        let runs = if case.board.ids.len() > 1_000 { 20 } else { 2_000 };
-        println!("{name}: {} ns", filled::play::time_equalize(&case.board, ask, runs).as_nanos());
+        let runs = if case.board.ids.len() > 1_000 { 10 } else { 2_000 };
+        println!("{name}: {} ns", filled::play::time_equalize(&case.board, ask, runs, boards::clock::wall).as_nanos());
     }
 }
 

@@ -22,6 +22,11 @@ impl<T: Copy + PartialEq> Guarded<T> {
     pub fn start(&mut self) -> *mut T {
         self.cells[GUARD..].as_mut_ptr()
     }
+    /// The area, to be lent again with other cells.
+    pub fn area(&mut self) -> &mut [T] {
+        let end = self.cells.len() - GUARD;
+        &mut self.cells[GUARD..end]
+    }
     /// The area; `None` where a canary died.
     pub fn take(self) -> Option<Vec<T>> {
         let end = self.cells.len() - GUARD;

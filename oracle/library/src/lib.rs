@@ -1,7 +1,13 @@
 //! The proved library, called as a host calls it, with canaries around every area that it is lent.
 
 use boards::guarded::{Guarded, Lent};
+use boards::outcome::bits;
 use boards::{Board, Call, Case, Equalize, Outcome, Walk, call};
+use std::time::Duration;
+
+pub mod bench;
+pub mod picture;
+pub mod stack;
 
 boards::calls! {
     fn katmos_equalize(amounts: *mut f32, amounts_len: usize, hot: *const u32, hot_len: usize, turns: *const u32, turns_len: usize, threshold: f32, limit: u32, allowance: u32);
@@ -36,6 +42,29 @@ pub fn outcome(case: &Case) -> Result<Outcome, &'static str> {
         Call::PlanetWalk(walk) => planet_walk(&board, walk, &mut lent),
     };
     lent.outcome(number, &board, case)
+}
+
+/// A host that calls `katmos_equalize` again and again, with the same gas each time.
+pub struct Host<'a> {
+    board: &'a Board,
+    ask: &'a Equalize,
+    gas: Vec<u32>,
+    lent: Lent,
+}
+
+impl<'a> Host<'a> {
+    /// For a case of equalize.
+    pub fn new(case: &'a Case) -> Option<Self> {
+        let Call::Equalize(ask) = &case.call else { return None };
+        Some(Self { board: &case.board, ask, gas: bits(&case.board.amounts), lent: Lent::new(case, 7) })
+    }
+    /// How long one call takes by a clock, the gas put back before it. Whatever stands in the scratch stays: the call clears it itself.
+    pub fn time(&mut self, clock: fn() -> Duration) -> Duration {
+        self.lent.amounts.area().copy_from_slice(&self.gas);
+        let begun = clock();
+        equalize(self.board, self.ask, &mut self.lent);
+        clock() - begun
+    }
 }
 
 /// `katmos_read_event`: the seven numbers.

@@ -4,13 +4,17 @@ use boards::events::{BAD, Event, read};
 use boards::families::{FAMILIES, case, with_turns};
 use boards::random::Random;
 use boards::{Case, refusal::refusal};
-use library::{outcome, read_event, write_event};
-use std::time::Instant;
+use library::{bench, outcome, picture, read_event, stack, write_event};
+use std::time::{Duration, Instant};
 
 const HELP: &str = "library walks EACH SEED      depressurize and the planet walk on EACH boards a family, against the text
 library equalize EACH SEED   equalize on EACH boards a family, with and without turns, against the text
 library paper                document 01's boards
-library events COUNT SEED    the reader and the writer on COUNT areas, against the independent ones";
+library events COUNT SEED    the reader and the writer on COUNT areas, against the independent ones
+library bench SECONDS        how long equalize takes, the text's and the library's by turns, SECONDS a board at least
+library parts SECONDS        what of the library's time is for refusals and for clearing
+library cost MILLISECONDS PICTURE   how long the library's takes on growing boards, as a table and as a picture (SVG)
+library stack                how much stack the deepest board takes; that 2 MiB are enough and half of what it takes isn't";
 
 /// What a comparison came to.
 #[derive(Default)]
@@ -152,6 +156,13 @@ fn main() {
         ("equalize", Some(each), Some(seed)) => compare(&[1], each, seed),
         ("paper", None, None) => paper(),
         ("events", Some(count), Some(seed)) => events(count, seed),
+        ("bench", Some(seconds), None) => bench::table(Duration::from_secs(seconds)),
+        ("parts", Some(seconds), None) => bench::parts(Duration::from_secs(seconds)),
+        ("cost", Some(milliseconds), None) if words.len() == 3 => {
+            let picture = picture::svg(&bench::cost(Duration::from_millis(milliseconds)), &bench::machine());
+            std::fs::write(&words[2], picture).expect("the picture can be written");
+        }
+        ("stack", None, None) => std::process::exit((!stack::stack()).into()),
         _ => println!("{HELP}"),
     }
     eprintln!("{} s", begun.elapsed().as_secs());

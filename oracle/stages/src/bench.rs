@@ -1,7 +1,7 @@
 //! How long the proved parts take, on the boards that speed is measured on.
 
 use crate::{asked, fill, stages_fill, stages_plan};
-use boards::clock::now;
+use boards::clock::own;
 use boards::guarded::Lent;
 use boards::{Call, Case, call};
 use std::time::{Duration, Instant};
@@ -33,11 +33,11 @@ pub fn filling() {
 /// How long filling takes, and filling and planning. The scratch is what the run before left.
 fn run_planning(case: &Case, lent: &mut Lent) -> (Duration, Duration) {
     let (board, ask) = (&case.board, asked(case));
-    let begun = now();
+    let begun = own();
     let number = call!(stages_fill, board, lent, *const f32, ask.hot.as_ptr(), ask.hot.len(), ask.threshold, ask.limit, ask.allowance);
-    let filled = now();
+    let filled = own();
     let same = call!(stages_plan, board, lent, *const f32, ask.hot.as_ptr(), ask.hot.len(), ask.threshold, ask.limit, ask.allowance);
-    let planned = now();
+    let planned = own();
     assert_eq!((number, same), (0, 0));
     (filled - begun, planned - filled)
 }

@@ -1,0 +1,136 @@
+//! How long `equalize` takes: the text's and the library's side by side, what of the library's is for refusals and clearing, and what it
+//! grows with.
+
+use crate::picture::{Family, Point};
+use crate::{Host, outcome};
+use boards::bench::sized;
+use boards::clock::{own, wall};
+use boards::{Board, Call, Case};
+use std::hint::black_box;
+use std::time::Duration;
+
+/// The least time of what is run again and again for so long, eight times at least.
+fn least(seconds: Duration, mut run: impl FnMut() -> Duration) -> Duration {
+    let (begun, mut least, mut runs) = (wall(), Duration::MAX, 0);
+    while runs < 8 || wall() - begun < seconds {
+        least = least.min(run());
+        runs += 1;
+    }
+    least
+}
+
+/// A call's clock: the thread's own where it is so long that others would come in between, else the one that is sooner read.
+fn clock(once: Duration) -> fn() -> Duration {
+    if once < Duration::from_millis(1) { wall } else { own }
+}
+
+/// Where this runs.
+pub fn machine() -> String {
+    let (own, kernel) = (std::env::consts::ARCH, std::fs::read_to_string("/proc/sys/kernel/arch").unwrap_or_default());
+    if kernel.trim() == own { format!("{own}, native") } else { format!("{own} under an emulator on {}", kernel.trim()) }
+}
+
+/// Where this runs, and what reading the clocks takes, which is part of every figure.
+fn heading() -> String {
+    let [wall, own] = [wall, own].map(|clock| (0..10_000).map(|_| clock()).map(|begun| clock() - begun).min().unwrap_or_default().as_nanos());
+    format!("{}; reading the clock takes {wall} ns, the thread's own {own} ns", machine())
+}
+
+fn host(case: &Case) -> Host<'_> {
+    Host::new(case).expect("a case of equalize")
+}
+
+/// The least time of the library's call.
+fn ours(case: &Case, seconds: Duration) -> Duration {
+    let mut host = host(case);
+    let clock = clock(host.time(own));
+    least(seconds, || host.time(clock))
+}
+
+/// The least time of the text's call and of the library's, by turns for so long: short ones many in a row, so that each side finds its code
+/// and data near.
+fn both(case: &Case, seconds: Duration) -> (Duration, Duration) {
+    let (Call::Equalize(ask), mut host) = (&case.call, host(case)) else { panic!("a case of equalize") };
+    let text = |row, clock| filled::play::time_equalize(&case.board, ask, row, clock);
+    let (theirs, mine) = (clock(text(1, own)), clock(host.time(own)));
+    let row = if text(1, own) < Duration::from_millis(5) { 50 } else { 1 };
+    let mut ours = Duration::MAX;
+    let text = least(seconds, || {
+        ours = (0..row).map(|_| host.time(mine)).fold(ours, Duration::min);
+        text(row, theirs)
+    });
+    (text, ours)
+}
+
+/// The boards that speed is measured on, so long each. Both sides must answer alike.
+pub fn table(seconds: Duration) {
+    println!("{}\n\n| board | text, ns | library, ns | times as fast |\n|---|--:|--:|--:|", heading());
+    for (name, case) in boards::bench::boards() {
+        assert_eq!(outcome(&case), Ok(filled::play::outcome(&case)), "{name}");
+        let (text, ours) = both(&case, seconds);
+        println!("| {name} | {} | {} | {:.1} |", text.as_nanos(), ours.as_nanos(), text.as_secs_f64() / ours.as_secs_f64());
+    }
+}
+
+/// The case with an area a byte short, which is refused after all tests, and the case with no hot ids, where nothing is filled.
+fn less(case: &Case) -> [Case; 2] {
+    let (mut short, mut cold) = (case.clone(), case.clone());
+    short.events.truncate(case.room().events - 1);
+    if let Call::Equalize(ask) = &mut cold.call {
+        ask.hot.clear();
+    }
+    [short, cold]
+}
+
+/// What of the library's time is for the refusals, for the clearing, and for the rest.
+pub fn parts(seconds: Duration) {
+    println!("{}\n\n| board | refusals, ns | clearing, ns | the rest, ns |\n|---|--:|--:|--:|", heading());
+    for (name, case) in boards::bench::boards() {
+        let ([short, cold], whole) = (less(&case).map(|case| ours(&case, seconds)), ours(&case, seconds));
+        let parts = [short, cold.saturating_sub(short), whole.saturating_sub(cold)].map(|part| part.as_nanos());
+        println!("| {name} | {} | {} | {} |", parts[0], parts[1], parts[2]);
+    }
+}
+
+/// All that is read of a board, added up once.
+fn sum(board: &Board, hot: &[u32]) -> u32 {
+    let words = [&board.ids, &board.mixtures, &board.starts, &board.neighbours, hot]
+        .map(|table: &[u32]| table.iter().fold(0, |s: u32, &x| s.wrapping_add(x)));
+    let bytes = [&board.flags, &board.planetary, &board.link_flags, &board.immutable]
+        .map(|table| table.iter().fold(0, |s: u32, &x| s.wrapping_add(x.into())));
+    let gas = board.amounts.iter().sum::<f32>();
+    words.into_iter().chain(bytes).fold(gas.to_bits(), u32::wrapping_add)
+}
+
+/// The least time of reading each table once.
+fn reading(case: &Case, seconds: Duration) -> Duration {
+    let Call::Equalize(ask) = &case.call else { panic!("a case of equalize") };
+    let again = 1 + 10_000 / (case.board.ids.len() + case.board.neighbours.len()) as u32;
+    let pass = || {
+        let begun = wall();
+        let sums = (0..again).fold(0, |sums: u32, _| sums.wrapping_add(sum(black_box(&case.board), &ask.hot)));
+        black_box(sums);
+        wall() - begun
+    };
+    least(seconds, pass) / again
+}
+
+/// What the library's call costs on growing boards, so long each; prints a table, and answers what a picture needs.
+pub fn cost(seconds: Duration) -> Vec<Family> {
+    println!(
+        "{}\n\n| boards | turfs | links | library, ns | a turf or link, ns | reading each table once, ns |\n|---|--:|--:|--:|--:|--:|",
+        heading()
+    );
+    let mut families = Vec::new();
+    for (name, cases) in sized() {
+        let mut points = Vec::new();
+        for case in cases {
+            let (turfs, links) = (case.board.ids.len(), case.board.neighbours.len());
+            let (ours, read) = (ours(&case, seconds), reading(&case, seconds / 4));
+            println!("| {name} | {turfs} | {links} | {} | {} | {} |", ours.as_nanos(), ours.as_nanos() as usize / (turfs + links), read.as_nanos());
+            points.push(Point { turfs, links, cost: ours, read });
+        }
+        families.push(Family { name, points });
+    }
+    families
+}
