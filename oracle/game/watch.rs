@@ -84,7 +84,7 @@ pub fn found(ids: impl Iterator<Item = u32>, over: bool) {
 /// A zone is to be planned: with the first one planning begins.
 pub fn planning() {
     with(|w| {
-        w.planning.get_or_insert_with(now);
+        w.planning.get_or_insert_with(own);
     });
 }
 
