@@ -364,3 +364,17 @@ pub fn with_turns(mut case: Case, seed: u64) -> Case {
     }
     case
 }
+
+/// A call's cases of every family from a seed on, so many each, of large boards a hundredth, and equalize's with turns too; each with what
+/// it is called.
+pub fn cases(call: u32, each: u64, seed: u64, test: &mut impl FnMut(&str, &Case)) {
+    for (family, name) in FAMILIES.into_iter().enumerate() {
+        for seed in seed..seed + if name == "large" { each.div_ceil(100) } else { each } {
+            let plain = case(family, call, seed);
+            test(&format!("{name}, call {call}, seed {seed}"), &plain);
+            if call == 1 {
+                test(&format!("{name}, call {call}, seed {seed}, with turns"), &with_turns(plain, seed));
+            }
+        }
+    }
+}

@@ -5,6 +5,7 @@ pub mod bench;
 pub mod events;
 pub mod families;
 pub mod guarded;
+pub mod limits;
 pub mod model;
 pub mod outcome;
 pub mod paper;
