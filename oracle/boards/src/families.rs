@@ -96,7 +96,7 @@ fn any_links(random: &mut Random, most: usize, ways: bool) -> Links {
 }
 
 /// An amount as a game has it, or a plain one that makes ties.
-fn amount(random: &mut Random) -> f32 {
+pub fn amount(random: &mut Random) -> f32 {
     match random.below(8) {
         0 => 0.0,
         1..=3 => random.below(128) as f32,

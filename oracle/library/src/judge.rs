@@ -225,16 +225,7 @@ fn make(asked: &Asked, a: &[Area; 15], more: usize) -> u32 {
     let [first, second, third] = asked.words;
     let (hot, turns) = (&a[HOT], &a[HOT + 1]);
     match asked.call {
-        1 => lent!(
-            katmos_equalize,
-            hot.at.cast(),
-            hot.length / 4 + more,
-            turns.at.cast(),
-            turns.length / 4,
-            f32::from_bits(first),
-            second,
-            third
-        ),
+        1 => lent!(katmos_equalize, hot.at.cast(), hot.length / 4 + more, turns.at.cast(), turns.length / 4, f32::from_bits(first), second, third),
         2 => lent!(katmos_depressurize, first, second),
         _ => lent!(katmos_planet_walk, first, second),
     }
