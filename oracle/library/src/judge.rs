@@ -323,13 +323,14 @@ impl Judge {
     }
 }
 
-/// Steps over a wall, which must fault: behind the hot ids the library does, told of one more than there is; before an area it is done here.
-pub fn overstep(before: bool) {
-    let (mut judge, mut packet) = (Judge::new(Some(if before { Place::First } else { Place::Last })), Vec::new());
+/// Steps out of an area, which must fault at a wall: behind the hot ids the library does, told of one more than there is; before them it is
+/// done here. On the heap both are done, for whoever watches it.
+pub fn overstep(place: Place) {
+    let (mut judge, mut packet) = (Judge::new(Some(place)), Vec::new());
     let row = &boards::paper::rows()[0];
     packet.bytes(b"a step over a wall");
     put(&mut packet, &row.case, &row.outcome());
-    let number = judge.call(&Supply::new().read(&packet), usize::from(!before));
+    let number = judge.call(&Supply::new().read(&packet), usize::from(place != Place::First));
     // SAFETY: none; that is what is shown.
     let byte = unsafe { judge.areas[HOT].at.sub(1).read_volatile() };
     println!("no fault: {number} was returned, {byte} was read");

@@ -10,7 +10,7 @@ use std::io::{BufReader, stdin};
 use std::time::Instant;
 
 const HELP: &str = "library judge [PLACE]        what `beside outcomes` sends, every area at a wall; PLACE: last, first or heap
-library overstep SIDE        a step over a wall, before or behind, which must fault
+library overstep PLACE       a step out of an area, which must fault at a wall
 library walks EACH SEED      depressurize and the planet walk on EACH boards a family, against the text
 library equalize EACH SEED   equalize on EACH boards a family, with and without turns, against the text
 library paper                document 01's boards
@@ -151,15 +151,16 @@ fn write(random: &mut Random, area: &[u8], offset: u32) {
 fn main() {
     let words: Vec<String> = std::env::args().skip(1).collect();
     let number = |at: usize| words.get(at).and_then(|word| word.parse::<u64>().ok());
+    let place = match words.get(1).map(String::as_str) {
+        Some("last") => Some(Place::Last),
+        Some("first") => Some(Place::First),
+        Some("heap") => Some(Place::Heap),
+        _ => None,
+    };
     let begun = Instant::now();
     match (words.first().map_or("", String::as_str), number(1), number(2)) {
-        ("judge", None, None) => judge(match words.get(1).map(String::as_str) {
-            Some("last") => Some(Place::Last),
-            Some("first") => Some(Place::First),
-            Some("heap") => Some(Place::Heap),
-            _ => None,
-        }),
-        ("overstep", None, None) => overstep(words.get(1).is_some_and(|side| side == "before")),
+        ("judge", None, None) => judge(place),
+        ("overstep", None, None) => overstep(place.unwrap_or(Place::Last)),
         ("walks", Some(each), Some(seed)) => compare(&[2, 3], each, seed),
         ("equalize", Some(each), Some(seed)) => compare(&[1], each, seed),
         ("paper", None, None) => paper(),
