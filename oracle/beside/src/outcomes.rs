@@ -43,7 +43,11 @@ pub fn outcomes(words: &[&str]) -> Option<()> {
         ("depressurize", Some(each), Some(seed)) => cases(2, each, seed, &mut send),
         ("planet-walk", Some(each), Some(seed)) => cases(3, each, seed, &mut send),
         ("every", Some(each), Some(seed)) => (1..=3).for_each(|call| cases(call, each, seed, &mut send)),
-        ("limits", Some(each), Some(seed)) => (seed..seed + each).for_each(|seed| limits::cases(seed, &mut send)),
+        ("limits", Some(each), Some(seed)) => {
+            send("the deepest board", &crate::deepest(4_096));
+            send("the heaviest board", &crate::heaviest());
+            (seed..seed + each).for_each(|seed| limits::cases(seed, &mut send));
+        }
         ("two-turfs", Some(step @ 1..), Some(first)) => {
             let mut place = 0;
             crate::two_turfs(&mut |case| {
