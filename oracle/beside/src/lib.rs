@@ -2,6 +2,7 @@
 
 pub mod judged;
 pub mod lister;
+pub mod outcomes;
 
 use boards::families::{FAMILIES, case, with_turns};
 use boards::paper::{ask_a, board, rows, six};

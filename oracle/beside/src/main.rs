@@ -1,12 +1,15 @@
 //! The commands of the runs beside the Rust. With no word it says which there are.
 
-use beside::{Agreement, Numbers, Published, accepted, agree, deepest, drop_small, heaviest, judged, lister, two_turfs, vectors};
+use beside::{Agreement, Numbers, Published, accepted, agree, deepest, drop_small, heaviest, judged, lister, outcomes, two_turfs, vectors};
 use boards::refusal::refusal;
 use std::process::Command;
 use std::time::Instant;
 
 const HELP: &str = "beside agree EACH SEED       the text against the document's model: EACH boards a family and call
 beside two-turfs             the same, every board of two turfs over a set of values
+beside outcomes CALL EACH SEED   cases of a call (equalize, depressurize, planet-walk, every) with what the text leaves, for `library judge`
+beside outcomes limits EACH SEED   the same, boards at each limit and one beyond
+beside outcomes two-turfs STEP FIRST   the same, of every STEP boards of two turfs the one in place FIRST
 beside published EACH SEED   the text with the FILLED mixture against the text with the published mixture.rs
 beside numbers EACH SEED     weights and amounts on accepted boards: the largest, and the odd ones
 beside vectors EACH SEED CALL..   cases of the calls (1 equalize, 2 depressurize, 3 planet walk) with the text's answers, to standard output
@@ -70,6 +73,13 @@ fn main() {
             let mut agreement = Agreement::default();
             two_turfs(&mut |case| agreement.test(|| "two turfs".to_string(), case));
             say("two-turfs", &agreement);
+        }
+        ("outcomes", ..) => {
+            let words: Vec<&str> = words[1..].iter().map(String::as_str).collect();
+            if outcomes::outcomes(&words).is_none() {
+                eprintln!("{HELP}");
+                std::process::exit(1);
+            }
         }
         ("published", Some(each), Some(seed)) => {
             for drops in [false, true] {

@@ -96,7 +96,7 @@ fn any_links(random: &mut Random, most: usize, ways: bool) -> Links {
 }
 
 /// An amount as a game has it, or a plain one that makes ties.
-fn amount(random: &mut Random) -> f32 {
+pub fn amount(random: &mut Random) -> f32 {
     match random.below(8) {
         0 => 0.0,
         1..=3 => random.below(128) as f32,
@@ -363,4 +363,18 @@ pub fn with_turns(mut case: Case, seed: u64) -> Case {
         ask.turns = (0..random.within(1, most)).map(|_| random.pick(&[0, 1, 2, 7, u32::MAX, 12_345])).collect();
     }
     case
+}
+
+/// A call's cases of every family from a seed on, so many each, of large boards a hundredth, and equalize's with turns too; each with what
+/// it is called.
+pub fn cases(call: u32, each: u64, seed: u64, test: &mut impl FnMut(&str, &Case)) {
+    for (family, name) in FAMILIES.into_iter().enumerate() {
+        for seed in seed..seed + if name == "large" { each.div_ceil(100) } else { each } {
+            let plain = case(family, call, seed);
+            test(&format!("{name}, call {call}, seed {seed}"), &plain);
+            if call == 1 {
+                test(&format!("{name}, call {call}, seed {seed}, with turns"), &with_turns(plain, seed));
+            }
+        }
+    }
 }

@@ -6,6 +6,7 @@ pub mod clock;
 pub mod events;
 pub mod families;
 pub mod guarded;
+pub mod limits;
 pub mod model;
 pub mod outcome;
 pub mod paper;

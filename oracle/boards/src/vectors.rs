@@ -18,59 +18,83 @@
 //!
 //! The crate `replaying` reads it, into arrays of a fixed size: `fits` says which cases they hold.
 
+use crate::outcome::bits;
 use crate::{Board, Call, Case, Equalize, Outcome, Room, Walk};
 use std::fmt::Write;
 
-fn list(out: &mut String, items: impl ExactSizeIterator<Item = u32>) {
-    write!(out, "{:x}", items.len()).unwrap();
-    items.for_each(|item| write!(out, " {item:x}").unwrap());
-    out.push('\n');
+/// What takes a case's numbers and lists: lines of text, or a packet.
+pub trait Sink {
+    fn number(&mut self, number: u32);
+    fn words(&mut self, list: &[u32]);
+    fn bytes(&mut self, list: &[u8]);
 }
 
-fn bytes(out: &mut String, items: &[u8]) {
-    list(out, items.iter().map(|&byte| u32::from(byte)));
+/// Lines of hexadecimal numbers.
+impl Sink for String {
+    fn number(&mut self, number: u32) {
+        writeln!(self, "{number:x}").unwrap();
+    }
+    fn words(&mut self, list: &[u32]) {
+        write!(self, "{:x}", list.len()).unwrap();
+        list.iter().for_each(|item| write!(self, " {item:x}").unwrap());
+        self.push('\n');
+    }
+    fn bytes(&mut self, list: &[u8]) {
+        self.words(&list.iter().map(|&byte| byte.into()).collect::<Vec<_>>());
+    }
 }
 
-fn words(out: &mut String, items: &[u32]) {
-    list(out, items.iter().copied());
+/// A packet, for a program that only compares: a number is four bytes, the lowest first; a list is its length in bytes, then its elements.
+impl Sink for Vec<u8> {
+    fn number(&mut self, number: u32) {
+        self.extend(number.to_le_bytes());
+    }
+    fn words(&mut self, list: &[u32]) {
+        self.number(4 * list.len() as u32);
+        list.iter().for_each(|&item| self.number(item));
+    }
+    fn bytes(&mut self, list: &[u8]) {
+        self.number(list.len() as u32);
+        self.extend(list);
+    }
 }
 
-fn floats(out: &mut String, items: &[f32]) {
-    list(out, items.iter().map(|x| x.to_bits()));
+/// One case and its outcome, as lines.
+pub fn write(case: &Case, outcome: &Outcome) -> String {
+    let mut out = String::new();
+    put(&mut out, case, outcome);
+    out
 }
 
 /// One case and its outcome.
-pub fn write(case: &Case, outcome: &Outcome) -> String {
-    let mut out = String::new();
-    let (board, o) = (&case.board, &mut out);
-    let number = |o: &mut String, n: u32| writeln!(o, "{n:x}").unwrap();
-    number(o, case.call.number());
-    words(o, &board.ids);
-    bytes(o, &board.flags);
-    bytes(o, &board.planetary);
-    words(o, &board.mixtures);
-    words(o, &board.starts);
-    words(o, &board.neighbours);
-    bytes(o, &board.link_flags);
-    bytes(o, &board.immutable);
-    number(o, board.gases);
-    floats(o, &board.amounts);
-    [case.events.len(), case.words.len(), case.floats.len()].into_iter().for_each(|n| number(o, n as u32));
+pub fn put(out: &mut impl Sink, case: &Case, outcome: &Outcome) {
+    let board = &case.board;
+    out.number(case.call.number());
+    out.words(&board.ids);
+    out.bytes(&board.flags);
+    out.bytes(&board.planetary);
+    out.words(&board.mixtures);
+    out.words(&board.starts);
+    out.words(&board.neighbours);
+    out.bytes(&board.link_flags);
+    out.bytes(&board.immutable);
+    out.number(board.gases);
+    out.words(&bits(&board.amounts));
+    [case.events.len(), case.words.len(), case.floats.len()].into_iter().for_each(|n| out.number(n as u32));
     match &case.call {
         Call::Equalize(ask) => {
-            words(o, &ask.hot);
-            words(o, &ask.turns);
-            [ask.threshold.to_bits(), ask.limit, ask.allowance].into_iter().for_each(|n| number(o, n));
+            out.words(&ask.hot);
+            out.words(&ask.turns);
+            [ask.threshold.to_bits(), ask.limit, ask.allowance].into_iter().for_each(|n| out.number(n));
         }
-        Call::Depressurize(walk) | Call::PlanetWalk(walk) => [walk.id, walk.limit].into_iter().for_each(|n| number(o, n)),
+        Call::Depressurize(walk) | Call::PlanetWalk(walk) => [walk.id, walk.limit].into_iter().for_each(|n| out.number(n)),
     }
-    words(o, &outcome.answer);
-    floats(o, &outcome.amounts);
+    out.words(&outcome.answer);
+    out.words(&bits(&outcome.amounts));
     let done = outcome.answer[0] == 0;
     let (room, written) = (case.room(), outcome.answer[outcome.answer.len() - 1] as usize);
-    bytes(o, if done { &outcome.events[..written] } else { &[] });
-    [room.words, room.floats].into_iter().for_each(|n| number(o, if done { n as u32 } else { 0 }));
-    out
+    out.bytes(if done { &outcome.events[..written] } else { &[] });
+    [room.words, room.floats].into_iter().for_each(|n| out.number(if done { n as u32 } else { 0 }));
 }
 
 /// Whether the program that replays vectors has room for the case.

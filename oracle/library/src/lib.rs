@@ -9,6 +9,8 @@ pub mod bench;
 pub mod picture;
 pub mod stack;
 
+pub mod judge;
+
 boards::calls! {
     fn katmos_equalize(amounts: *mut f32, amounts_len: usize, hot: *const u32, hot_len: usize, turns: *const u32, turns_len: usize, threshold: f32, limit: u32, allowance: u32);
     fn katmos_depressurize(amounts: *mut f32, amounts_len: usize, id: u32, limit: u32);

@@ -1,13 +1,17 @@
 //! The proved library beside the Rust text: the same cases, every number and every lent cell.
 
 use boards::events::{BAD, Event, read};
-use boards::families::{FAMILIES, case, with_turns};
+use boards::families::cases;
 use boards::random::Random;
 use boards::{Case, refusal::refusal};
+use library::judge::{Judge, Place, overstep};
 use library::{bench, outcome, picture, read_event, stack, write_event};
+use std::io::{BufReader, stdin};
 use std::time::{Duration, Instant};
 
-const HELP: &str = "library walks EACH SEED      depressurize and the planet walk on EACH boards a family, against the text
+const HELP: &str = "library judge [PLACE]        what `beside outcomes` sends, every area at a wall; PLACE: last, first or heap
+library overstep PLACE       a step out of an area, which must fault at a wall
+library walks EACH SEED      depressurize and the planet walk on EACH boards a family, against the text
 library equalize EACH SEED   equalize on EACH boards a family, with and without turns, against the text
 library paper                document 01's boards
 library events COUNT SEED    the reader and the writer on COUNT areas, against the independent ones
@@ -38,19 +42,11 @@ impl Compared {
     }
 }
 
-/// Boards of every family by these calls; of large ones a hundredth.
+/// Boards of every family by these calls.
 fn compare(calls: &[u32], each: u64, seed: u64) {
     for &call in calls {
         let mut compared = Compared::default();
-        for (family, name) in FAMILIES.into_iter().enumerate() {
-            for seed in seed..seed + if name == "large" { each.div_ceil(100) } else { each } {
-                let plain = case(family, call, seed);
-                compared.test(&format!("{name} {call} {seed}"), &plain);
-                if call == 1 {
-                    compared.test(&format!("{name} {call} {seed} with turns"), &with_turns(plain, seed));
-                }
-            }
-        }
+        cases(call, each, seed, &mut |label, case| compared.test(label, case));
         let name = ["equalize", "depressurize", "planet walk"][call as usize - 1];
         println!("{name}: {} boards, refusals 1 to 7 {:?}, no difference", compared.boards, compared.refused);
     }
@@ -64,6 +60,15 @@ fn paper() {
         count += 1;
     }
     println!("paper: {count} boards as the paper has them");
+}
+
+/// What standard input sends.
+fn judge(place: Option<Place>) {
+    let said = Judge::new(place).all(BufReader::with_capacity(1 << 16, stdin().lock()));
+    println!("{}", said.as_ref().unwrap_or_else(|found| found));
+    if said.is_err() {
+        std::process::exit(1);
+    }
 }
 
 /// An area of records, some of them damaged or torn.
@@ -150,8 +155,16 @@ fn write(random: &mut Random, area: &[u8], offset: u32) {
 fn main() {
     let words: Vec<String> = std::env::args().skip(1).collect();
     let number = |at: usize| words.get(at).and_then(|word| word.parse::<u64>().ok());
+    let place = match words.get(1).map(String::as_str) {
+        Some("last") => Some(Place::Last),
+        Some("first") => Some(Place::First),
+        Some("heap") => Some(Place::Heap),
+        _ => None,
+    };
     let begun = Instant::now();
     match (words.first().map_or("", String::as_str), number(1), number(2)) {
+        ("judge", None, None) => judge(place),
+        ("overstep", None, None) => overstep(place.unwrap_or(Place::Last)),
         ("walks", Some(each), Some(seed)) => compare(&[2, 3], each, seed),
         ("equalize", Some(each), Some(seed)) => compare(&[1], each, seed),
         ("paper", None, None) => paper(),
