@@ -1,0 +1,5 @@
+use crate::played::Played;
+use crate::text::Script;
+pub fn plate(_: &Script, _: &[Played]) -> String {
+    String::new()
+}
