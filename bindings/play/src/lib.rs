@@ -1,5 +1,6 @@
 //! Plays a board that is written as text, by the proved library; prints what a plate is drawn from, or draws the plate.
 
+pub mod geometry;
 pub mod layout;
 pub mod played;
 pub mod print;

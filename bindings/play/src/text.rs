@@ -134,13 +134,17 @@ fn place(words: &str) -> Read<(i32, i32)> {
     }
 }
 
-/// A line without its comment, with no spaces around `=` and `,`.
-fn tidy(line: &str) -> String {
-    let mut text = line.split('#').next().unwrap_or("").split_whitespace().collect::<Vec<_>>().join(" ");
-    for sign in ["=", ","] {
-        text = text.split(sign).map(str::trim).collect::<Vec<_>>().join(sign);
-    }
-    text
+/// A line's keyword in small letters, and the rest; its comment is gone and one space stands between words.
+fn parts(line: &str) -> (String, String) {
+    let words = line.split('#').next().unwrap_or("").split_whitespace();
+    let mut words = words.collect::<Vec<_>>().into_iter();
+    (words.next().unwrap_or("").to_ascii_lowercase(), words.collect::<Vec<_>>().join(" "))
+}
+
+/// Words without the spaces around `=` and `,`.
+fn tidy(text: &str) -> String {
+    let without = |text: &str, sign: &str| text.split(sign).map(str::trim).collect::<Vec<_>>().join(sign);
+    without(&without(text, "="), ",")
 }
 
 /// A turf's line, read.
@@ -177,8 +181,8 @@ struct Reader {
 pub fn read(text: &str) -> Result<Script, Vec<Fault>> {
     let mut reader = Reader::default();
     for (at, line) in text.lines().enumerate() {
-        let (line, number) = (tidy(line.trim_start_matches('\u{feff}')), at + 1);
-        if let Err(message) = reader.line(&line, number) {
+        let (line, number) = (line.trim_start_matches('\u{feff}'), at + 1);
+        if let Err(message) = reader.line(line, number) {
             reader.fault(number, message);
         }
     }
@@ -193,12 +197,13 @@ impl Reader {
 
     /// Reads one line.
     fn line(&mut self, text: &str, line: usize) -> Read<()> {
-        let (keyword, rest) = text.split_once(' ').unwrap_or((text, ""));
-        let mut words = Words::of(rest);
-        match keyword.to_ascii_lowercase().as_str() {
+        let (keyword, rest) = parts(text);
+        let tidied = tidy(&rest);
+        let mut words = Words::of(&tidied);
+        match keyword.as_str() {
             "" => return Ok(()),
             "title" => {
-                self.title = rest.into();
+                self.title = rest;
                 return Ok(());
             }
             "gases" => self.gases = Some(words.id().map_err(|_| "gases wants a whole number".to_string())?),
@@ -206,7 +211,7 @@ impl Reader {
             "link" => self.link(&mut words, line, true)?,
             "oneway" => self.link(&mut words, line, false)?,
             _ => {
-                let call = call(&keyword.to_ascii_lowercase(), &mut words)?;
+                let call = call(&keyword, &mut words)?;
                 self.calls.push((line, call));
             }
         }

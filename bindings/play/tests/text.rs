@@ -34,6 +34,7 @@ fn spaces_comments_and_case_are_forgiven() {
     let script = read(loose).expect("a board");
     assert_eq!(script.board.tables, read(A).expect("a board").board.tables);
     assert_eq!((script.places[1].name.as_str(), script.places[1].at), ("big hall", Some((1, 0))));
+    assert_eq!(read("Title  One,  two = 2 # three\nturf 1").expect("a board").title, "One, two = 2");
     let Call::Equalize { hot, turns, .. } = &script.calls[0].1 else { panic!("{:?}", script.calls) };
     assert_eq!((&hot[..], &turns[..]), (&[10, 20][..], &[0, 1][..]));
 }
