@@ -7,7 +7,7 @@ use std::collections::{HashSet, VecDeque};
 /// A cell of the grid: column, row.
 pub type Cell = (i32, i32);
 
-/// A cell for each row: the one that is written, unless an earlier room has it; else a free one beside a linked room, so near as there is one.
+/// A cell for each row: the one that is written, unless an earlier room has it; else a free one near the rooms that it is linked to.
 pub fn cells(places: &[Place], t: &Tables) -> Vec<Cell> {
     let mut cells: Vec<Option<Cell>> = vec![None; places.len()];
     let mut taken = HashSet::new();
@@ -30,21 +30,34 @@ pub fn cells(places: &[Place], t: &Tables) -> Vec<Cell> {
 fn spread(cells: &mut [Option<Cell>], taken: &mut HashSet<Cell>, queue: &mut VecDeque<usize>, t: &Tables) {
     while let Some(row) = queue.pop_front() {
         let Some(cell) = cells[row] else { continue };
-        for &next in &t.neighbours[t.starts[row] as usize..t.starts[row + 1] as usize] {
+        for &next in linked(t, row) {
             let next = next as usize;
             if cells[next].is_none() {
-                cells[next] = Some(beside(cell, taken));
+                let friends: Vec<Cell> = linked(t, next).iter().filter_map(|&friend| cells[friend as usize]).collect();
+                cells[next] = Some(beside(cell, &friends, taken));
                 queue.push_back(next);
             }
         }
     }
 }
 
-/// The free cell nearest to this one: to the right, below, to the left, above, then farther out.
-fn beside((x, y): Cell, taken: &mut HashSet<Cell>) -> Cell {
+/// The rows that a row is linked to.
+fn linked(t: &Tables, row: usize) -> &[u32] {
+    &t.neighbours[t.starts[row] as usize..t.starts[row + 1] as usize]
+}
+
+/// How far apart two cells are.
+fn far(a: Cell, b: Cell) -> i32 {
+    (a.0 - b.0).abs() + (a.1 - b.1).abs()
+}
+
+/// A free cell near this one, the nearest to all its friends; of equal ones the first to the right, below, to the left, above.
+fn beside((x, y): Cell, friends: &[Cell], taken: &mut HashSet<Cell>) -> Cell {
     let ring = |far: i32| (0..far).flat_map(move |side| [(far - side, side), (-side, far - side), (side - far, -side), (side, side - far)]);
-    let mut near = (1..).flat_map(ring).map(|(dx, dy)| (x + dx, y + dy));
-    near.find(|&at| taken.insert(at)).unwrap_or_default()
+    let free = (1..).flat_map(ring).map(|(dx, dy)| (x + dx, y + dy)).filter(|at| !taken.contains(at)).take(12);
+    let cell = free.min_by_key(|&at| far(at, (x, y)) + friends.iter().map(|&friend| far(at, friend)).sum::<i32>()).unwrap_or_default();
+    taken.insert(cell);
+    cell
 }
 
 /// The first cell of a line below all rooms.

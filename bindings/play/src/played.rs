@@ -30,6 +30,18 @@ pub fn play(script: &Script) -> Result<Vec<Played>, Fault> {
     Ok(all)
 }
 
+/// The calls, or the board alone where there is none.
+pub fn or_none(script: &Script, played: Vec<Played>) -> Vec<Played> {
+    let board = &script.board;
+    let alone =
+        || Played { call: "the board".into(), before: board.clone(), after: board.clone(), events: Events::default(), counts: "no call".into() };
+    if played.is_empty() {
+        vec![alone()]
+    } else {
+        played
+    }
+}
+
 /// The call itself; for an answer, what was asked for.
 fn plain_calls(call: &Call, asked: &Events) -> Vec<Call> {
     let Call::Answer { limit } = *call else { return vec![call.clone()] };
@@ -71,16 +83,25 @@ fn name(call: &Call) -> String {
     }
 }
 
+/// An amount in decimals, a very small or large one with its power of ten; exact, in that it reads back as itself.
+pub fn exact(amount: f32) -> String {
+    match amount {
+        amount if amount != 0.0 && !(1.0e-4..1.0e9).contains(&amount.abs()) => format!("{amount:e}"),
+        amount => amount.to_string(),
+    }
+}
+
 /// What a record says, in words.
 pub fn meaning(event: &Event) -> String {
+    let words = event.amount().map(exact).unwrap_or_default();
     match *event {
         Event::DepressurizeWanted { id } => format!("{id} is open to space: depressurize it"),
         Event::PlanetWanted { id } => format!("{id} meets a planet behind a firelock"),
-        Event::Pressure { zone, amount, from, to } => format!("{from} gives {to} {amount} (zone {zone})"),
+        Event::Pressure { zone, from, to, .. } => format!("{from} gives {to} {words} (zone {zone})"),
         Event::Firelock { id, neighbour } => format!("the firelock between {id} and {neighbour} shuts"),
         Event::Target { id, target } => format!("{id} empties towards {target}"),
         Event::HighPressure { id } => format!("high pressure in {id}"),
-        Event::Difference { id, amount, from, to } => format!("difference {amount} in {id}, arrow {from} to {to}"),
-        Event::FloorRip { id, amount } => format!("floor of {id} rips by {amount}"),
+        Event::Difference { id, from, to, .. } => format!("difference {words} in {id}, arrow {from} to {to}"),
+        Event::FloorRip { id, .. } => format!("floor of {id} rips by {words}"),
     }
 }

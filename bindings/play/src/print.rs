@@ -1,6 +1,6 @@
 //! What a plate is drawn from, as text: the board before and after, the events as the lister's lines, the counts.
 
-use crate::played::{meaning, Played};
+use crate::played::{exact, meaning, Played};
 use crate::text::{Place, Script};
 use katmos::Board;
 
@@ -26,7 +26,7 @@ fn one(places: &[Place], played: &Played) -> String {
 
 /// A line for each turf: id, name, amounts before and after, what is special about it.
 fn board(places: &[Place], before: &Board, after: Option<&Board>) -> String {
-    let amounts = |board: &Board, id| board.amounts_of(id).unwrap_or(&[]).iter().map(f32::to_string).collect::<Vec<_>>().join(" ");
+    let amounts = |board: &Board, id| board.amounts_of(id).unwrap_or(&[]).iter().map(|&amount| exact(amount)).collect::<Vec<_>>().join(" ");
     let mut rows = vec![["turf".into(), "".into(), "before".into(), if after.is_some() { "after".into() } else { String::new() }, "".into()]];
     for (row, place) in places.iter().enumerate() {
         let after = after.map_or(String::new(), |after| amounts(after, place.id));

@@ -2,7 +2,7 @@
 
 use crate::geometry::{middle, way, Point, Way, GAP, ROOM};
 use crate::layout::{cells, Cell};
-use crate::played::{meaning, Played};
+use crate::played::{exact, meaning, Played};
 use crate::text::Script;
 use katmos::{Board, Event, FIRELOCK};
 use std::collections::HashMap;
@@ -15,7 +15,7 @@ const LISTED: usize = 200;
 const GIVES: &str = "#b3390b";
 const LOCK: &str = "#8c1d40";
 
-/// The plate of a run. It is as wide as a page, or narrower.
+/// The plate of a run. Four rooms in a line are as wide as a page; it grows up to 40 cm.
 pub fn plate(script: &Script, played: &[Played]) -> String {
     let sheet = Sheet::new(script, played);
     let mut body = format!("<text x='0' y='20' font-size='20' font-weight='bold'>{}</text>\n", escaped(&script.title));
@@ -27,7 +27,7 @@ pub fn plate(script: &Script, played: &[Played]) -> String {
     }
     body += &format!("<g transform='translate(0 {y:.1})'>\n{}</g>\n", sheet.key());
     let (width, height) = (sheet.width + 2.0 * MARGIN, y + 72.0 + 2.0 * MARGIN);
-    let page = (0.24 * width).min(180.0);
+    let page = (0.24 * width).min(400.0);
     format!(
         "<svg xmlns='http://www.w3.org/2000/svg' width='{page:.1}mm' height='{:.1}mm' viewBox='0 0 {width:.1} {height:.1}' \
          font-family='Helvetica, Arial, DejaVu Sans, sans-serif' font-size='12' fill='#1b1f24'>\n\
@@ -44,7 +44,7 @@ fn escaped(text: &str) -> String {
 
 /// An amount: exact where that is short, else after `~` with two decimals.
 fn short(amount: f32) -> String {
-    let exact = amount.to_string();
+    let exact = exact(amount);
     match amount {
         _ if exact.len() <= 7 => exact,
         amount if amount < 0.01 || amount >= 1.0e6 => format!("~{amount:.2e}"),

@@ -62,6 +62,12 @@ fn two_rooms_at_one_place_are_put_apart() {
 }
 
 #[test]
+fn a_board_without_calls_is_drawn() {
+    let plate = play::run("a", "turf 1 7", true).expect("a plate");
+    assert!(plate.contains("the board") && plate.contains(">7</text>"));
+}
+
+#[test]
 fn names_cannot_break_the_drawing() {
     let plate = play::run("a", "title A <b> & 'c'\nturf 1 1 name=<&>\nplanet 1", true).expect("a plate");
     assert!(plate.contains("A &lt;b&gt; &amp; 'c'") && plate.contains("&lt;&amp;&gt;"));

@@ -1,4 +1,5 @@
 //! A breach, end to end: equalize asks, depressurize answers. A hall and an airlock with a firelock between them; the airlock is open to space.
+#![forbid(unsafe_code)]
 
 use katmos::{Ask, Board, Event, Link, Mixture, Refusal, Turf};
 

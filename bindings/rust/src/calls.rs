@@ -42,11 +42,11 @@ pub struct Equalized {
 #[derive(Clone, Copy, Debug, PartialEq, Eq)]
 pub enum Outcome {
     /// No turf has this id, or there is no space within the limit.
-    NoSpace,
+    NoSpace = 0,
     /// A planetary turf was met.
-    Planet,
+    Planet = 1,
     /// The rooms are empty.
-    Vented,
+    Vented = 2,
 }
 
 /// What depressurize came to.
