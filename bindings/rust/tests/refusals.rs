@@ -1,6 +1,6 @@
 //! Each refusal's message, by every call that tests for it. Each board is board A with one thing changed.
 
-use katmos::{Ask, Board, Link, Mixture, Tables, Turf};
+use katmos::{Ask, Board, Link, Mixture, Refusal, Tables, Turf};
 
 const ASK: Ask = Ask { hot: &[10], turns: &[], threshold: 0.5, limit: 10, allowance: 100 };
 
@@ -92,4 +92,44 @@ fn an_unknown_neighbour() {
 #[test]
 fn the_first_rule_that_fails_is_named() {
     refused(3, "ids: row 1, id 10, isn't above the row before", |t| (t.ids[1], t.amounts[0], t.neighbours[0]) = (10, -1.0, 9));
+}
+
+/// The next number of a simple generator.
+fn next(seed: &mut u64) -> usize {
+    *seed = seed.wrapping_mul(6_364_136_223_846_793_005).wrapping_add(1_442_695_040_888_963_407);
+    (*seed >> 40) as usize
+}
+
+/// Changes one element of one table.
+fn damage(t: &mut Tables, seed: &mut u64) {
+    let (at, value) = (next(seed), next(seed) as u32 % 4);
+    match next(seed) % 8 {
+        0 => t.ids[at % 2] = value * 10,
+        1 => t.starts[at % 3] = value,
+        2 => t.neighbours[at % 2] = value,
+        3 => t.mixtures[at % 2] = value,
+        4 => t.amounts[at % 2] = [0.0, -0.0, f32::NAN, 2.0e12][value as usize],
+        5 => t.gases = value,
+        6 => t.link_flags.resize(value as usize, 0),
+        _ => t.immutable.resize(value as usize, 0),
+    }
+}
+
+#[test]
+fn every_refusal_has_its_reason() {
+    let (mut seed, mut seen) = (1, [0; 7]);
+    for _ in 0..3_000 {
+        let mut board = changed(|_| ());
+        for _ in 0..1 + next(&mut seed) % 3 {
+            let t = &mut board.tables;
+            if t.gases > 0 && t.link_flags.len() == 2 && t.immutable.len() == 2 {
+                damage(t, &mut seed);
+            }
+        }
+        if let Err(refusal) = board.equalize(&ASK) {
+            assert!(!matches!(refusal, Refusal::Other { .. } | Refusal::Threshold { .. } | Refusal::Room { .. }), "{refusal}: {:?}", board.tables);
+            seen[refusal.number() as usize] += 1;
+        }
+    }
+    assert!(seen[1..=5].iter().all(|&count| count > 100), "{seen:?}");
 }
