@@ -22,6 +22,8 @@ fn main() -> Result<(), Refusal> {
             println!("depressurize {id}: {:?}\n{}", answer.outcome, answer.events);
         }
     }
-    println!("hall {:?}, airlock {:?}", board.total_of(10), board.total_of(20));
+    for (name, id) in [("hall", 10), ("airlock", 20)] {
+        println!("{name}: {} moles", board.total_of(id).unwrap_or_default());
+    }
     Ok(())
 }
