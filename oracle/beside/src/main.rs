@@ -9,6 +9,7 @@ const HELP: &str = "beside agree EACH SEED       the text against the document's
 beside two-turfs             the same, every board of two turfs over a set of values
 beside outcomes CALL EACH SEED   cases of a call (equalize, depressurize, planet-walk, every) with what the text leaves, for `library judge`
 beside outcomes limits EACH SEED   the same, boards at each limit and one beyond
+beside outcomes faults EACH SEED   the same, ill-formed boards: every fault alone, and every two that break different rules
 beside outcomes two-turfs STEP FIRST   the same, of every STEP boards of two turfs the one in place FIRST
 beside published EACH SEED   the text with the FILLED mixture against the text with the published mixture.rs
 beside numbers EACH SEED     weights and amounts on accepted boards: the largest, and the odd ones

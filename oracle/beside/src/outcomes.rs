@@ -2,7 +2,7 @@
 
 use boards::families::cases;
 use boards::vectors::{Sink, put};
-use boards::{Case, limits};
+use boards::{Case, faults, limits};
 use filled::play::outcome;
 use std::io::{BufWriter, Result, Write};
 
@@ -48,6 +48,7 @@ pub fn outcomes(words: &[&str]) -> Option<()> {
             send("the heaviest board", &crate::heaviest());
             (seed..seed + each).for_each(|seed| limits::cases(seed, &mut send));
         }
+        ("faults", Some(each), Some(seed)) => (seed..seed + each).for_each(|seed| faults::cases(seed, &mut |label, _, case| send(label, case))),
         ("two-turfs", Some(step @ 1..), Some(first)) => {
             let mut place = 0;
             crate::two_turfs(&mut |case| {

@@ -1,5 +1,6 @@
 //! Random boards by family. A family, a call and a seed decide a case, the same on every machine.
 
+use crate::faults::spoil;
 use crate::paper::board;
 use crate::random::Random;
 use crate::{Board, Call, Case, Equalize, Walk};
@@ -252,88 +253,6 @@ fn walk(random: &mut Random, family: &str, board: &Board) -> Walk {
         _ => random.pick(&[0, 1, 2, 5, 20, 2_000, u32::MAX]),
     };
     Walk { id, limit }
-}
-
-fn put<T>(list: &mut [T], at: usize, value: T) {
-    if let Some(cell) = list.get_mut(at) {
-        *cell = value;
-    }
-}
-
-/// The next element becomes the same.
-fn repeat(list: &mut [u32], at: usize) {
-    if at + 1 < list.len() {
-        list[at + 1] = list[at];
-    }
-}
-
-/// One way or another to break a rule of the table: what it breaks is for the refusal function to say.
-fn spoil(random: &mut Random, case: &mut Case) {
-    let room = case.room();
-    let board = &mut case.board;
-    let (turfs, links, mixtures) = (board.ids.len(), board.neighbours.len(), board.immutable.len());
-    let (row, link) = (random.below(turfs.max(1) as u64) as usize, random.below(links.max(1) as u64) as usize);
-    match random.below(34) {
-        0 => *board = Board { gases: board.gases, starts: vec![0], ..Board::default() },
-        1 => {
-            board.ids = (0..4_097).collect();
-            board.flags.resize(4_097, 0);
-            board.planetary.resize(4_097, 0);
-            board.mixtures.resize(4_097, 0);
-            board.starts.resize(4_098, links as u32);
-        }
-        2 => {
-            board.immutable.clear();
-            board.amounts.clear();
-        }
-        3 => {
-            board.immutable.resize(4_097, 0);
-            board.amounts.resize(4_097 * board.gases.min(65) as usize, 1.0);
-        }
-        4 => {
-            board.neighbours.resize(24_577, 0);
-            board.link_flags.resize(24_577, 0);
-        }
-        5 => board.gases = random.pick(&[0, 65, u32::MAX]),
-        6 => drop(board.flags.pop()),
-        7 => board.planetary.push(0),
-        8 => drop(board.mixtures.pop()),
-        9 => board.starts.push(links as u32),
-        10 => drop(board.starts.pop()),
-        11 => board.link_flags.push(0),
-        12 => board.amounts.push(1.0),
-        13 => drop(board.amounts.pop()),
-        14 => board.ids.reverse(),
-        15 => repeat(&mut board.ids, row),
-        16 => put(&mut board.starts, row, links as u32 + 1),
-        17 => put(&mut board.starts, turfs, links as u32 + 1),
-        18 => put(&mut board.starts, 0, 1),
-        19 => put(&mut board.neighbours, link, turfs as u32),
-        20 => put(&mut board.neighbours, link, u32::MAX),
-        21 => put(&mut board.mixtures, row, mixtures as u32),
-        22 => put(&mut board.neighbours, link, row as u32),
-        23 => repeat(&mut board.neighbours, link),
-        24..=26 => {
-            let bits = random.pick(&[0x8000_0000, 0xbf80_0000, 0x7f80_0000, 0xff80_0000, 0x7fc0_0000, 0x5380_0001, 0x7f7f_ffff]);
-            let at = random.below(board.amounts.len().max(1) as u64) as usize;
-            put(&mut board.amounts, at, f32::from_bits(bits));
-        }
-        27 => case.events.truncate(room.events.saturating_sub(1)),
-        28 => case.words.truncate(room.words.saturating_sub(1)),
-        29 => case.floats.truncate(room.floats.saturating_sub(1)),
-        _ => spoil_ask(random, case),
-    }
-}
-
-fn spoil_ask(random: &mut Random, case: &mut Case) {
-    let Call::Equalize(ask) = &mut case.call else { return };
-    match random.below(5) {
-        0 => ask.threshold = random.pick(&[-0.0, -1.0, f32::INFINITY, f32::NAN]),
-        1 => ask.hot.push(ask.hot[ask.hot.len() - 1]),
-        2 => ask.hot = vec![5, 4],
-        3 => ask.hot = (0..4_097).collect(),
-        _ => ask.turns = vec![0; 65_537],
-    }
 }
 
 /// The case of a family (its place in `FAMILIES`), a call (1 to 3) and a seed.

@@ -5,6 +5,7 @@ pub mod bench;
 pub mod clock;
 pub mod events;
 pub mod families;
+pub mod faults;
 pub mod guarded;
 pub mod limits;
 pub mod model;

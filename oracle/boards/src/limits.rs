@@ -52,6 +52,11 @@ fn sized(random: &mut Random, call: u32, [turfs, count, mixtures, gases, hots, t
     Case::new(made, asked, 0)
 }
 
+/// A small board, and a call of it.
+pub fn few(random: &mut Random, call: u32) -> Case {
+    sized(random, call, FEW)
+}
+
 /// What can be at its limit or beyond in a cell or a length; each with the refusal that is due.
 fn cells(case: &Case) -> Vec<(&'static str, u32, Case)> {
     let with = |change: &dyn Fn(&mut Case)| {

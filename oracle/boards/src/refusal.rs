@@ -33,7 +33,7 @@ fn lengths_fit(board: &Board) -> bool {
 
 fn links_fit(board: &Board) -> bool {
     let turfs = board.ids.len();
-    let from_to = board.starts[0] == 0 && board.starts[turfs] as usize == board.neighbours.len();
+    let from_to = board.starts.first() == Some(&0) && board.starts.get(turfs) == Some(&(board.neighbours.len() as u32));
     if !from_to || !board.starts.is_sorted() {
         return false;
     }
@@ -66,17 +66,22 @@ fn room_fits(case: &Case) -> bool {
     case.events.len() >= room.events && case.words.len() >= room.words && case.floats.len() >= room.floats
 }
 
+/// The numbers of all tests that fail, ascending.
+pub fn failed(case: &Case) -> Vec<u32> {
+    let (board, call) = (&case.board, &case.call);
+    let passed = [
+        sizes_fit(board, call),
+        lengths_fit(board),
+        ascending(&board.ids),
+        links_fit(board),
+        amounts_fit(board, call),
+        hot_fits(call),
+        room_fits(case),
+    ];
+    (1..).zip(passed).filter(|(_, passed)| !passed).map(|(number, _)| number).collect()
+}
+
 /// The number of the first test that fails, or 0.
 pub fn refusal(case: &Case) -> u32 {
-    let (board, call) = (&case.board, &case.call);
-    let tests: [&dyn Fn() -> bool; 7] = [
-        &|| sizes_fit(board, call),
-        &|| lengths_fit(board),
-        &|| ascending(&board.ids),
-        &|| links_fit(board),
-        &|| amounts_fit(board, call),
-        &|| hot_fits(call),
-        &|| room_fits(case),
-    ];
-    tests.iter().position(|test| !test()).map_or(0, |at| at as u32 + 1)
+    failed(case).first().copied().unwrap_or(0)
 }

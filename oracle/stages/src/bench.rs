@@ -43,10 +43,11 @@ fn run_planning(case: &Case, lent: &mut Lent) -> (Duration, Duration) {
 }
 
 /// Planning of all zones: the text's, from the first zone's start to the last one's end, and the proved one's, which is filling and planning
-/// less filling alone. Of each the least time of the processor, over runs in turns for some seconds a board.
-pub fn planning() {
+/// less filling alone. Of each the least time of the processor, over runs in turns for some seconds a board. The boards are those whose name
+/// has this in it.
+pub fn planning(part: &str) {
     println!("{:36} {:>13} {:>13} {:>7}", "board", "text ns", "proved ns", "times");
-    for (name, case) in boards::bench::boards() {
+    for (name, case) in boards::bench::boards().into_iter().filter(|(name, _)| name.contains(part)) {
         let mut lent = Lent::new(&case, 6);
         let (mut text, mut fill, mut both) = (Duration::MAX, Duration::MAX, Duration::MAX);
         let (begun, mut rounds) = (Instant::now(), 0);

@@ -12,7 +12,7 @@ use std::time::Instant;
 const HELP: &str = "stages filling EACH SEED   what filling leaves on EACH boards a family, of large ones a hundredth, against the text
 stages planning EACH SEED  what planning leaves on them, against the text
 stages time                how long filling takes on the boards that speed is measured on
-stages bench               how long planning takes on them, beside the text's";
+stages bench [NAME]        how long planning takes on them, or on those with this in their name, beside the text's";
 
 boards::calls! {
     fn stages_fill(amounts: *const f32, amounts_len: usize, hot: *const u32, hot_len: usize, threshold: f32, limit: u32, allowance: u32);
@@ -99,7 +99,7 @@ fn main() {
         ("filling", Some(each), Some(seed)) => filling::compare(each, seed),
         ("planning", Some(each), Some(seed)) => planning::compare(each, seed),
         ("time", None, None) => bench::filling(),
-        ("bench", None, None) => bench::planning(),
+        ("bench", None, None) => bench::planning(words.get(1).map_or("", String::as_str)),
         _ => println!("{HELP}"),
     }
     eprintln!("{} s", begun.elapsed().as_secs());
