@@ -8,22 +8,20 @@ use native.Mathlib.Omega.{arith}
 use native.Mathlib.Numerals.{add-one}
 use native.Mathlib.Decide.{ℕ-discrete}
 use lib.Dec.{T, eqb, ltb, eqb·suc-zero, eqb→eq, eqb-refl, lt→ltb, ltb→lt}
-use lib.ListN.{length, getD, set, take}
+use lib.ListN.{length, getD, set, take, drop, replicate}
 use lib.Seq.{take-suc, take-length, getD-set-same, getD-set-other}
+use lib.Ieee.Bits.{is-true}
 use Rattle.basics.specs.Loops.{member, snoc, keep, consIf, every, upFrom}
 use Rattle.basics.proofs.Loops.{All, All-imp, All-getD}
 use Rattle.basics.proofs.Lists.{map-append, member-front, member-last, member-map, members, or-cases, all-every, upFrom-below, upFrom-length}
 use Rattle.basics.proofs.Tests.{differ, every-up-at}
+use Rattle.basics.proofs.Parts.{cleared-length, cleared-far, cleared-at}
 use Rattle.turfs.specs.Board.{Board, mixtureCount, mixOf, immutableMix}
 use Rattle.reverse_links.specs.Words.{But}
-use Rattle.reverse_links.proofs.Places.{but-none, but-set, but-then}
+use Rattle.reverse_links.proofs.Places.{but-set, but-then}
 use Rattle.finalize_eq.specs.Turns.{Zone, zoneAt, nodesAt}
 use Rattle.equalize.specs.Equalize.{hasMix, apart}
 use Rattle.apart.specs.Marks.{Marked, Laid, Stands, hasFirst, Met, Marks, Shared, Passed, Tells}
-
-so : (t : Bool) → T t → t ≡ true
-so true t = refl
-so false t = absurd t
 
 not-so : (t : Bool) → (T t → ⊥) → t ≡ false
 not-so true n = absurd (n tt)
@@ -179,7 +177,7 @@ module _ (b : Board) (zs : List Zone) where
         other y c n e (inr (u, t)) = absurd (differ (sym (d .marked c n .0 ∙ same (e ∙ ap (λ (x : ℕ). x + 1) u)) ∙ f))
           where
             same : {x : ℕ} → x ≡ z + 1 → eqb x (z + 1) ≡ true
-            same {x} q = rw q (so (eqb (z + 1) (z + 1)) (eqb-refl (z + 1)))
+            same {x} q = rw q (is-true (eqb (z + 1) (z + 1)) (eqb-refl (z + 1)))
 
         go : (c : Bool) → immutableMix b mix ≡ c → Dec (getD w (at + mix) 0 ≡ 0) → Shared b zs z
         go true c e = absurd (differ (sym (d .fixed c .0) ∙ f))
@@ -254,7 +252,7 @@ module _ (b : Board) (zs : List Zone) where
   -- the marks at the end of the pass: no mixture is in two zones
   pub apart-true : (z at : ℕ) (w : List ℕ) → length zs ≤ z → Marks b zs z 0 at w → apart b zs ≡ true
   unfolding apart hasMix
-  apart-true z at w h k = so (apart b zs) (all-every _ (upFrom 0 (mixtureCount b)) (All-imp _ _ (upFrom 0 (mixtureCount b)) (λ m l. test m l (immutableMix b m) refl) (upFrom-below 0 (mixtureCount b))))
+  apart-true z at w h k = is-true (apart b zs) (all-every _ (upFrom 0 (mixtureCount b)) (All-imp _ _ (upFrom 0 (mixtureCount b)) (λ m l. test m l (immutableMix b m) refl) (upFrom-below 0 (mixtureCount b))))
     where
       one : (m : ℕ) → m < mixtureCount b → immutableMix b m ≡ false → length (keep (hasMix b m) zs) < 2
       one m l c = one-kept (hasMix b m) zs (λ i j k₁ l₁ t u. omega (arith, k₁, sym (k .only m i l c (inl (omega (arith, h), t))) ∙ k .only m j l c (inl (omega (arith, h), u))))
@@ -340,20 +338,12 @@ module _ (b : Board) (zs : List Zone) (z from to at : ℕ) where
 
 -- ---- the start, and zone after zone
 
--- the first i mixtures have no mark
-pub record Clearing (at m i : ℕ) (w₀ w : List ℕ) : Type 0 where
-  pub but : But at (at + m) w₀ w
-  pub zeros : (j : ℕ) → j < i → getD w (at + j) 0 ≡ 0
-
-pub clearing-start : (at m : ℕ) (w : List ℕ) → Clearing at m 0 w w
-clearing-start at m w = record { but = but-none; zeros = λ j l. absurd (omega arith) }
-
-pub clearing-next : {at m i : ℕ} {w₀ w : List ℕ} → Clearing at m i w₀ w → i < m → at + m ≤ length w₀ → Clearing at m (i + 1) w₀ (set w (at + i) 0)
-clearing-next {at} {m} {i} {w₀} {w} k l room = record { but = but-set (at + i) 0 (omega arith) (omega arith) (k .but); zeros = λ j h. go j h (ℕ-discrete j i) }
-  where
-    go : (j : ℕ) → j < i + 1 → Dec (j ≡ i) → getD (set w (at + i) 0) (at + j) 0 ≡ 0
-    go j h (yes e) = rw e (getD-set-same w (at + i) 0 0 (omega (arith, k .but .len)))
-    go j h (no n) = getD-set-other w (at + i) (at + j) 0 0 (λ e. n (omega (arith, e))) ∙ k .zeros j (omega (arith, n))
+-- the marks came back as zeros, and all else as it was
+pub marks-cleared : (at m : ℕ) (w : List ℕ) {w′ : List ℕ} → at + m ≤ length w → w′ ≡ take at w ++ (replicate m 0 ++ drop m (drop at w)) → But at (at + m) w w′ × ((i : ℕ) → i < m → getD w′ (at + i) 0 ≡ 0)
+marks-cleared at m w h e = (
+  record { len = ap length e ∙ cleared-length at m w h; same = λ i o. ap (λ (l : List ℕ). getD l i 0) e ∙ cleared-far at m w h i o },
+  λ i k. ap (λ (l : List ℕ). getD l (at + i) 0) e ∙ cleared-at at m w h i k,
+)
 
 module _ {n zones first base at : ℕ} {hi : ℕ} {w₀ w : List ℕ} (h : Laid n zones first base at w₀) (k : But at hi w₀ w) (z : ℕ) (l : z < zones) where
   pub start-now : getD w (first + z) 0 ≡ getD w₀ (first + z) 0

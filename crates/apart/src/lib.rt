@@ -55,18 +55,6 @@ fn zone_apart(
     true
 }
 
-// No mixture has a mark.
-fn clear_marks(at: usize, m: usize, words: &mut [u32])
-    requires { ⌜ at + m ≤ length (now words) ⌝ }
-    ensures { λ _. ⌜ But at (at + m) (now (words .entry)) (now (words .exit)) × ((i : ℕ) → i < m → getD (now (words .exit)) (at + i) 0 ≡ 0) ⌝ }
-{
-    let mut i = 0;
-    while i < m {
-        words[at + i] = 0;
-        i += 1;
-    }
-}
-
 // Zone after zone, from no marks.
 fn zones_apart(
     zones: usize,
@@ -108,6 +96,6 @@ pub fn apart(
     requires { ⌜ ((r : ℕ) → r < length (now mixtures) → getD (now mixtures) r 0 < length (now immutable)) ⌝ }
     ensures { λ r. ⌜ Tells (mixed (now (mixtures .entry)) (now (immutable .entry))) zones first nodes at r (now (words .entry)) (now (words .exit)) ⌝ }
 {
-    clear_marks(at, immutable.len(), words);
+    basics::clear_part(words, at, immutable.len());
     zones_apart(zones, first, nodes, at, mixtures, immutable, words)
 }

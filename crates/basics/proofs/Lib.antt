@@ -2,4 +2,5 @@ pub mod Loops
 pub mod Lists
 pub mod Tests
 pub mod Stores
+pub mod Parts
 pub mod Regions

@@ -8,7 +8,7 @@ use native.Mathlib.Nat.{le-refl}
 use native.Mathlib.Decide.{ℕ-discrete}
 use native.Mathlib.Omega.{arith}
 use lib.Dec.{T, eqb, eqb→eq, eqb-refl}
-use lib.ListN.{length, getD, set, drop}
+use lib.ListN.{length, getD, set, drop, replicate}
 use borrow.Author.Tests.{eqb-false, eq-eqb, ne-eqb}
 use Rattle.basics.specs.Loops.{keep, every, consIf, upFrom, member, snoc}
 use Rattle.basics.proofs.Loops.{All, All-imp, All-getD, keep-all, both}
@@ -80,6 +80,10 @@ member-has P x (y ∷ ys) a t = go (or-cases (eqb x y) (member x ys) t) (λ u. m
     go (inl e) ih = subst P (sym (eqb→eq x y e)) (a .0)
     go (inr u) ih = ih u
 
+-- an element is a member
+pub at-member : (xs : List ℕ) (i : ℕ) → i < length xs → T (member (getD xs i 0) xs)
+at-member xs i h = All-getD (λ x. T (member x xs)) xs i 0 (members xs) h
+
 -- a member keeps its place in any list that has all that the first has
 pub member-sub : (x : ℕ) (xs ys : List ℕ) → All (λ y. T (member y ys)) xs → T (member x xs) → T (member x ys)
 member-sub x xs ys a t = member-has (λ y. T (member y ys)) x xs a t
@@ -131,6 +135,13 @@ pub upFrom-length : (a n : ℕ) → length (upFrom a n) ≡ n
 unfolding upFrom
 upFrom-length a zero = refl
 upFrom-length a (suc n) = ap suc (upFrom-length (suc a) n)
+
+-- what a map makes of them
+pub map-up : {B : Type 0} (f : ℕ → B) (a n i : ℕ) (d : B) → i < n → getD (map f (upFrom a n)) i d ≡ f (a + i)
+unfolding upFrom
+map-up f a zero i d h = absurd (omega arith)
+map-up f a (suc n) zero d h = ap f (omega arith)
+map-up f a (suc n) (suc i) d h = map-up f (suc a) n i d (omega arith) ∙ ap f (omega arith)
 
 -- ---- none twice
 
@@ -199,6 +210,12 @@ not-member x (y ∷ ys) e = go (eqb x y) refl e (λ h. not-member x ys h)
     go : (t : Bool) → eqb x y ≡ t → t || member x ys ≡ false → (member x ys ≡ false → All (λ v. v ≢ x) ys) → All (λ v. v ≢ x) (y ∷ ys)
     go true et h ih = absurd (subst T h tt)
     go false et h ih = (λ i. eqb-false x y et (sym i), ih h)
+
+-- and a number that differs from all is no member
+pub no-member : (x : ℕ) (xs : List ℕ) → All (λ y. y ≢ x) xs → member x xs ≡ false
+unfolding member
+no-member x [] h = refl
+no-member x (y ∷ ys) h = rw (ne-eqb x y (λ e. h .0 (sym e))) (no-member x ys (h .1))
 
 pub apart-snoc : (xs : List ℕ) (x : ℕ) → Apart xs → All (λ y. y ≢ x) xs → Apart (snoc xs x)
 apart-snoc [] x a h = (tt, tt)
@@ -275,3 +292,9 @@ module _ {A : Type 0} (p : A → Bool) where
 pub All-front : {A : Type 0} (P : A → Type 0) (xs ys : List A) → All P (xs ++ ys) → All P xs
 All-front P [] ys h = tt
 All-front P (x ∷ xs) ys h = (h .0, All-front P xs ys (h .1))
+
+-- a list of one value alone, and past its end that value
+pub replicate-at : {A : Type 0} (n k : ℕ) (x : A) → getD (replicate n x) k x ≡ x
+replicate-at zero k x = refl
+replicate-at (suc n) zero x = refl
+replicate-at (suc n) (suc k) x = replicate-at n k x

@@ -1,15 +1,16 @@
 -- Laws of the loops and searches. Assumes nothing.
-use mathlib.Core.Path.{_≡_, refl, sym, ap, _∙_}
+use mathlib.Core.Path.{_≡_, refl, sym, ap, ap₂, _∙_}
 use mathlib.Core.Logic.{_⊎_, inl, inr}
-use mathlib.Core.List.{List, [], _∷_, _++_, map}
+use mathlib.Core.List.{List, [], _∷_, _++_, map, reverse, reverseAux}
 use mathlib.Core.Bool.{Bool, true, false, _&&_, cond}
 use Prim.Native.Nat.{ℕ, zero, suc, _+_, _-_, _≤_, _<_}
 use native.Mathlib.Numerals.{add-one}
 use native.Mathlib.Omega.{arith}
-use native.Mathlib.Nat.{not-suc-le-zero, le-of-suc-le-suc, suc-ne-zero, suc-inj}
+use native.Mathlib.Nat.{not-suc-le-zero, le-of-suc-le-suc, suc-ne-zero, suc-inj, add-zero, zero-add, add-suc}
 use lib.Dec.{T}
-use lib.ListN.{length, getD, set}
-use Rattle.basics.specs.Loops.{run, times, consIf, keep, every, allOf, upFrom, first, atOr}
+use lib.ListN.{length, getD, set, take, drop, drop-of-length-le}
+use lib.Seq.{drop-cons, take-suc}
+use Rattle.basics.specs.Loops.{run, times, consIf, keep, every, allOf, upFrom, first, atOr, snoc}
 use Rattle.basics.specs.declared.Spot.{Spot}
 use Rattle.basics.specs.declared.Spot.the-variants.{At, Nowhere}
 
@@ -222,3 +223,70 @@ times-rests f going steps still on (suc n) s = go (going s) refl (times-rests f 
     go true e (inl h) = inl h
     go true e (inr h) = inr (omega (arith, h, on s e))
     go false e ih = inl (ap (λ (x : _). going (times f n x)) (still s e) ∙ ap going (times-still f n s (still s e)) ∙ e)
+
+-- ---- the numbers a, a + 1, ..: the first, a part, the last
+
+pub up-cons : (k to : ℕ) → k < to → upFrom k (to - k) ≡ k ∷ upFrom (k + 1) (to - (k + 1))
+unfolding upFrom
+up-cons k to h = let e : to - k ≡ suc (to - (k + 1)) = omega arith in ap (λ (n : ℕ). upFrom k n) e ∙ ap (λ (i : ℕ). k ∷ upFrom i (to - (k + 1))) (sym (add-one k))
+
+pub up-append : (a n m : ℕ) → upFrom a (n + m) ≡ upFrom a n ++ upFrom (a + n) m
+unfolding upFrom
+up-append a zero m = ap₂ (λ (j k : ℕ). upFrom j k) (sym (add-zero a)) (zero-add m)
+up-append a (suc n) m =
+    let e : suc n + m ≡ suc (n + m) = omega arith in
+    let q : suc a + n ≡ a + suc n = omega arith in
+    ap (upFrom a) e ∙ ap (λ (l : List ℕ). a ∷ l) (up-append (suc a) n m ∙ ap (λ (k : ℕ). upFrom (suc a) n ++ upFrom k m) q)
+
+pub up-snoc : (a n : ℕ) → upFrom a (n + 1) ≡ snoc (upFrom a n) (a + n)
+unfolding upFrom
+up-snoc a n = up-append a n 1
+
+pub up-below : (a n m : ℕ) → a + n ≤ m → All (λ k. k < m) (upFrom a n)
+unfolding upFrom
+up-below a zero m h = tt
+up-below a (suc n) m h = (omega arith, up-below (suc a) n m (omega arith))
+
+module _ {S : Type 0} (f : ℕ → S → S) where
+  -- the last turn of a loop
+  pub run-suc : (a n : ℕ) (s : S) → run f (upFrom a (n + 1)) s ≡ f (a + n) (run f (upFrom a n) s)
+  unfolding run
+  run-suc a n s = ap (λ (l : List ℕ). run f l s) (up-snoc a n) ∙ run-append f (upFrom a n) ((a + n) ∷ []) s
+
+  -- a loop over what is left of a list: one turn, and the end
+  pub run-at : (xs : List ℕ) (i : ℕ) → i < length xs → (s : S) → run f (drop i xs) s ≡ run f (drop (i + 1) xs) (f (getD xs i 0) s)
+  unfolding run
+  run-at xs i h s = rw (add-one, drop-cons xs i 0 h)
+
+  pub run-stop : (xs : List ℕ) (i : ℕ) → length xs ≤ i → (s : S) → run f (drop i xs) s ≡ s
+  unfolding run
+  run-stop xs i h s = rw (drop-of-length-le xs h)
+
+  -- the same from the end of a list
+  pub run-back : (xs : List ℕ) (i j : ℕ) (s : S) → j + 1 ≡ i → j < length xs → run f (reverse (take i xs)) s ≡ run f (reverse (take j xs)) (f (getD xs j 0) s)
+  unfolding run
+  run-back xs i j s e h = rw (← e, add-one, take-suc xs j 0 h, aux-append (take j xs) (getD xs j 0 ∷ []) [])
+    where
+      aux-append : {A : Type 0} (xs ys r : List A) → reverseAux (xs ++ ys) r ≡ reverseAux ys (reverseAux xs r)
+      aux-append [] ys r = refl
+      aux-append (x ∷ xs) ys r = aux-append xs ys (x ∷ r)
+
+  pub run-back-end : (xs : List ℕ) (i : ℕ) (s : S) → i ≤ 0 → run f (reverse (take i xs)) s ≡ s
+  unfolding run
+  run-back-end xs i s h = let e : i ≡ 0 = omega arith in rw e
+
+-- a loop whose numbers are a less
+pub run-shift : {S : Type 0} (f g : ℕ → S → S) (a n : ℕ) → ((i : ℕ) → i < n → (s : S) → f i s ≡ g (a + i) s)
+    → (j m : ℕ) → j + m ≤ n → (s : S) → run f (upFrom j m) s ≡ run g (upFrom (a + j) m) s
+unfolding run upFrom
+run-shift f g a n h j zero l s = refl
+run-shift f g a n h j (suc m) l s =
+    run-shift f g a n h (suc j) m (omega arith) (f j s)
+    ∙ ap (λ (t : _). run g (upFrom (a + suc j) m) t) (h j (omega arith) s)
+    ∙ ap (λ (k : ℕ). run g (upFrom k m) (g (a + j) s)) (add-suc a j)
+
+-- turns that change nothing
+pub run-still : {A S : Type 0} (f : A → S → S) (xs : List A) (s : S) → All (λ x. f x s ≡ s) xs → run f xs s ≡ s
+unfolding run
+run-still f [] s h = refl
+run-still f (x ∷ xs) s h = ap (run f xs) (h .0) ∙ run-still f xs s (h .1)

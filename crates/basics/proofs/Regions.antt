@@ -7,6 +7,7 @@ use mathlib.Core.List.{List, [], _∷_, _++_, map, append-assoc, append-nil}
 use lib.ListN.{length, getD, take, drop, set, replicate, length-drop, length-replicate, take-append-drop, replicate-append-replicate}
 use lib.Seq.{take-set-lt, drop-set-lt, take-set-le, drop-set-add, getD-take, getD-drop, length-take-le, drop-drop, take-at, drop-at, take-add}
 use Rattle.basics.specs.Regions.{cut, region, base}
+use Rattle.basics.proofs.Parts.{drop-later}
 
 module _ {A : Type 0} where
   -- a store at index i of array k: that array has it, and every other is as it was
@@ -89,3 +90,7 @@ module _ {A : Type 0} where
       rw (e, split, take-at (take n w) (take m (drop n w) ++ t) n len, drop-at (take n w) (take m (drop n w) ++ t) n len)
       (ap (λ (r : List (List A)). take n w ∷ r)
       (rw e′ (cut-part sizes (drop n w) k ys m size (le-of-suc-le-suc hk) (rw (length-drop n w) (omega arith)) refl s l)))
+
+  -- areas that agree past the arrays agree from any later place on
+  pub later-same : (sizes : List ℕ) (m : ℕ) (w w′ : List A) → base sizes (length sizes) ≤ m → region sizes (length sizes) w′ ≡ region sizes (length sizes) w → drop m w′ ≡ drop m w
+  later-same sizes m w w′ h e = drop-later (base sizes (length sizes)) m w′ w h (sym (cut-rest sizes w′) ∙ e ∙ cut-rest sizes w)

@@ -3,13 +3,15 @@ use Prim.Native.Nat.{ℕ, zero, suc, _+_, _-_, _≤_, _<_}
 use native.Mathlib.Omega.{arith}
 use native.Mathlib.Numerals.{add-one}
 use native.Mathlib.Nat.{not-suc-le-zero, le-of-suc-le-suc}
-use mathlib.Core.Path.{_≡_, refl, ap, _∙_, sym}
+use mathlib.Core.Path.{_≡_, refl, ap, _∙_, sym, subst}
 use mathlib.Core.List.{List, [], _∷_}
 use mathlib.Core.Bool.{Bool, true, false, not, _&&_}
+use lib.Dec.{T}
 use lib.ListN.{length, getD, drop, drop-of-length-le}
 use lib.Seq.{drop-cons}
 use borrow.Author.Tests.{not-true, not-false}
 use Rattle.basics.specs.Loops.{every, allOf, upFrom, snoc}
+use Rattle.basics.proofs.Loops.{up-cons}
 
 pub differ : true ≡ false → ⊥
 differ e = let z : _≡_ {A = ℕ} 0 1 = cc in omega arith
@@ -17,6 +19,18 @@ differ e = let z : _≡_ {A = ℕ} 0 1 = cc in omega arith
 pub both : (a b : Bool) → (a && b) ≡ true → (a ≡ true) × (b ≡ true)
 both true b e = (refl, e)
 both false b e = absurd (differ (sym e))
+
+pub and-true : (t : Bool) → (t && true) ≡ t
+and-true true = refl
+and-true false = refl
+
+pub and-false : (t : Bool) → (t && false) ≡ false
+and-false true = refl
+and-false false = refl
+
+-- a test that failed, negated
+pub not-of : (t : Bool) → t ≡ false → T (not t)
+not-of t e = subst (λ (s : Bool). T (not s)) (sym e) tt
 
 module _ {A : Type 0} (test : A → Bool) (l : List A) (d : A) (i : ℕ) where
   module _ (h : i < length l) where
@@ -41,19 +55,13 @@ every-at test (x ∷ l) d (suc i) e h = every-at test l d i (both (test x) (ever
 -- over the numbers from i up to e
 module _ (test : ℕ → Bool) (i e : ℕ) where
   module _ (h : i < e) where
-    up : upFrom i (e - i) ≡ i ∷ upFrom (i + 1) (e - (i + 1))
-    unfolding upFrom
-    up =
-        let k : e - i ≡ suc (e - (i + 1)) = omega arith in
-        ap (λ (n : ℕ). upFrom i n) k ∙ ap (λ (j : ℕ). i ∷ upFrom j (e - (i + 1))) (sym (add-one i))
-
     pub every-up-next : test i ≡ true → every test (upFrom i (e - i)) ≡ every test (upFrom (i + 1) (e - (i + 1)))
     unfolding every
-    every-up-next t = ap (every test) up ∙ rw t
+    every-up-next t = ap (every test) (up-cons i e h) ∙ rw t
 
     pub every-up-fails : test i ≡ false → every test (upFrom i (e - i)) ≡ false
     unfolding every
-    every-up-fails t = ap (every test) up ∙ rw t
+    every-up-fails t = ap (every test) (up-cons i e h) ∙ rw t
 
   pub every-up-end : e ≤ i → every test (upFrom i (e - i)) ≡ true
   unfolding every upFrom
@@ -79,11 +87,7 @@ pub one-fails : (l : List Bool) (k : ℕ) → getD l k true ≡ false → allOf 
 unfolding allOf
 one-fails [] k e = e
 one-fails (t ∷ l) zero e = rw e
-one-fails (t ∷ l) (suc k) e = ap (λ (b : Bool). t && b) (one-fails l k e) ∙ none t
-  where
-    none : (t : Bool) → (t && false) ≡ false
-    none true = refl
-    none false = refl
+one-fails (t ∷ l) (suc k) e = ap (λ (b : Bool). t && b) (one-fails l k e) ∙ and-false t
 
 -- all but the last one hold
 pub last-is : (l : List Bool) (t : Bool) → allOf l ≡ true → allOf (snoc l t) ≡ t

@@ -2,8 +2,8 @@
 // arrays side by side. The loops of the definitions and their laws stand in specs/ and proofs/.
 ghost use mathlib.Core.Path.{_≡_};
 ghost use mathlib.Core.List.{_++_};
-ghost use Prim.Native.Nat.{_≤_};
-ghost use lib.ListN.{length, drop, replicate};
+ghost use Prim.Native.Nat.{_+_, _≤_};
+ghost use lib.ListN.{length, take, drop, replicate};
 ghost use Rattle.basics.specs.Floats.{0f};
 
 // What a search answers: definitions and code share it.
@@ -22,6 +22,15 @@ pub fn clear(words: &mut [u32], k: usize)
         words[i] = 0;
         i += 1;
     }
+}
+
+// Sets the n words from `at` on to zero and leaves the rest.
+pub fn clear_part(words: &mut [u32], at: usize, n: usize)
+    requires { ⌜ at + n ≤ length (now words) ⌝ }
+    ensures { λ _. ⌜ now (words .exit) ≡ take at (now (words .entry)) ++ (replicate n 0 ++ drop n (drop at (now (words .entry)))) ⌝ }
+{
+    let to = at + n;
+    clear(&mut words[at..to], n);
 }
 
 // Sets the first k floats to zero and leaves the rest.

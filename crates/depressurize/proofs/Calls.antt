@@ -2,22 +2,20 @@
 use Prim.Native.Nat.{ℕ, _+_, _*_, _≤_, _<_}
 use native.Mathlib.Omega.{arith}
 use mathlib.Core.Path.{_≡_, refl, ap, ap₂, _∙_, sym, subst}
-use mathlib.Core.Logic.{_≢_}
-use mathlib.Core.List.{List, [], _∷_, _++_, append-assoc, append-nil, reverse}
+use mathlib.Core.List.{List, [], _++_, append-assoc, append-nil, reverse}
 use mathlib.Core.Bool.{Bool, true, false, cond}
 use lib.Dec.{T, eqb}
 use lib.ListN.{length, getD, take, drop, replicate}
 use lib.Seq.{length-take-le, getD-take}
 use lib.Ieee.{Float}
 use borrow.Author.Tests.{eq-eqb, ne-eqb}
-use Rattle.basics.specs.Loops.{run, every, member}
+use Rattle.basics.specs.Loops.{run, every}
 use Rattle.basics.specs.Floats.{0f}
 use Rattle.basics.specs.Regions.{region, base}
 use Rattle.basics.specs.declared.Spot.{Spot}
 use Rattle.basics.specs.declared.Spot.the-variants.{At, Nowhere}
-use Rattle.basics.proofs.Loops.{All, Found}
-use Rattle.basics.proofs.Regions.{cut-length}
-use Rattle.basics.proofs.Lists as lists
+use Rattle.basics.proofs.Loops.{Found}
+use Rattle.basics.proofs.Regions.{cut-length, later-same}
 use Rattle.turfs.specs.Board.{Board, turfCount, linkCount, immutable, linksOf, rowOf}
 use Rattle.turfs.proofs.Accepted.{row-below}
 use Rattle.turfs.proofs.Line.{Line}
@@ -27,8 +25,7 @@ use Rattle.events.specs.Area.{Wrote}
 use Rattle.events.specs.declared.Event.{Event}
 use Rattle.events.proofs.Areas.{wrote-length}
 use Rattle.events.proofs.Sizes.{size}
-use Rattle.index_set.specs.Line.{Below, Apart}
-use Rattle.index_set.proofs.Queue.{Below-at}
+use Rattle.index_set.proofs.Queue.{Below-at, all-below, all-apart}
 use Rattle.lent.specs.Lent.{Lent, Extra, noExtra, wordsRoom, floatsRoom, refusal, after}
 use Rattle.lent.specs.Given.{counted, cleared, lent, Given}
 use Rattle.lent.proofs.Numbers.{given, no-links}
@@ -41,7 +38,7 @@ use Rattle.walks.specs.declared.Kind.the-variants.{Space}
 use Rattle.walks.specs.declared.Reach.{Reach}
 use Rattle.walks.proofs.Does.{none-wrote, both-wrote}
 use Rattle.walks.proofs.Links.{written-room}
-use Rattle.walks.proofs.Whole.{bare, ground-of, gasless, later-same}
+use Rattle.walks.proofs.Whole.{bare, ground-of, gasless}
 use Rattle.way_out.specs.Out.{Out, outTo, outLink, outRow, outNext, outward}
 use Rattle.way_out.specs.Outed.{at, sizes, outOf, coast, Coast, shore, Mixed, Outed}
 use Rattle.way_out.specs.declared.Front.{Front}
@@ -158,21 +155,6 @@ module _ (b : Board) (limit : ℕ) (s : Reach) (gas : List Float) (e w : List �
         }
 
 -- ---- from the id
-
-all-below : (n : ℕ) (xs : List ℕ) → All (λ x. x < n) xs → Below n xs
-unfolding Below
-all-below n [] a = tt
-all-below n (x ∷ xs) a = (a .0, all-below n xs (a .1))
-
-no-member : (x : ℕ) (xs : List ℕ) → All (λ y. y ≢ x) xs → member x xs ≡ false
-unfolding member
-no-member x [] a = refl
-no-member x (y ∷ ys) a = rw (ne-eqb x y (λ e. a .0 (sym e))) (no-member x ys (a .1))
-
-all-apart : (xs : List ℕ) → lists.Apart xs → Apart xs
-unfolding Apart
-all-apart [] a = tt
-all-apart (x ∷ xs) a = (no-member x xs (a .0), all-apart xs (a .1))
 
 module _ (b : Board) (limit id : ℕ) (l : Lent) (z : refusal b l (84 * turfCount b) noExtra ≡ 0) where
   abbrev m : ℕ

@@ -5,7 +5,7 @@ use mathlib.Core.Path.{_≡_, refl, sym, ap, _∙_, subst}
 use mathlib.Core.Logic.{_≢_, _⊎_, inl, inr}
 use mathlib.Core.List.{List, [], _∷_, _++_, append-assoc, append-nil, reverse}
 use mathlib.Core.Bool.{Bool, true, false, not, _||_, cond}
-use Prim.Native.Nat.{ℕ, zero, suc, _+_, _-_, _*_, _≤_, _<_}
+use Prim.Native.Nat.{ℕ, _+_, _-_, _*_, _≤_, _<_}
 use native.Mathlib.Nat.{le-refl, le-trans}
 use native.Mathlib.Omega.{arith}
 use lib.Dec.{eqb, ltb, leb}
@@ -18,7 +18,7 @@ use Rattle.basics.specs.Floats.{0f, _+f_}
 use Rattle.basics.specs.declared.Spot.{Spot}
 use Rattle.basics.specs.declared.Spot.the-variants.{At, Nowhere}
 use Rattle.basics.proofs.Loops.{All, All-any, All-imp, All-getD, run-keeps, times-keeps, times-rests, Found, cond-both}
-use Rattle.basics.proofs.Lists.{All-snoc, All-front, apart-snoc, apart-at, not-member, one, count, count-append, count-reverse, count-none, count-length}
+use Rattle.basics.proofs.Lists.{All-snoc, All-front, apart-snoc, apart-at, not-member, one, count, count-append, count-reverse, count-none, count-length, replicate-at}
 use Rattle.turfs.specs.Board.{Board, turfCount, idOf, mixOf, end, planetary, immutable, linksOf, rowOf}
 use Rattle.turfs.proofs.Accepted.{Accepted, row-below}
 use Rattle.turfs.proofs.Line.{Line, line-short, line-snoc}
@@ -178,17 +178,12 @@ module _ (b : Board) {n : ℕ} (h : Accepted b n) (limit : ℕ) where
       events = e₀;
     }
 
-    undirected : (m x : ℕ) → _≡_ {A = ℕ} (getD (replicate m 0) x 0) 0
-    undirected zero x = refl
-    undirected (suc m) zero = refl
-    undirected (suc m) (suc x) = undirected m x
-
     pub outward-outed : Line b space → Outed (outward b limit space e₀)
     unfolding outward
     outward-outed l = times-keeps Outed (outNext b limit) next-outed (turfCount b) startOut (record {
       line = l;
       rest = ([], sym (append-nil space));
-      none = All-any (λ x. getD (replicate (turfCount b) 0) x 0 ≡ 0) (undirected (turfCount b)) space;
+      none = All-any (λ x. getD (replicate (turfCount b) 0) x 0 ≡ 0) (λ x. replicate-at {A = ℕ} (turfCount b) x 0) space;
       bytes = le-refl (size e₀ + 12 * length space);
     })
 

@@ -1,29 +1,24 @@
 -- Every edge of a kept zone joins two nodes of that zone: a fill adds only such edges, and an ignored zone's are taken back. Assumes nothing.
-use mathlib.Core.Path.{_≡_, refl, sym, _∙_, subst}
+use mathlib.Core.Path.{_≡_, sym, _∙_, subst}
 use mathlib.Core.Logic.{_⊎_, inl, inr}
 use mathlib.Core.List.{List, [], _∷_}
 use mathlib.Core.Bool.{Bool, true, false, cond}
-use Prim.Native.Nat.{ℕ, zero, suc, _+_, _≤_, _<_}
+use Prim.Native.Nat.{ℕ, _+_, _≤_, _<_}
 use native.Mathlib.Decide.{decLt}
 use native.Mathlib.Omega.{arith}
 use lib.Dec.{T}
-use lib.ListN.{length, getD, replicate, List·getD-eq-default, List·getD-append}
+use lib.ListN.{length, getD, List·getD-eq-default, List·getD-append}
 use lib.Seq.{getD-append-seam}
 use lib.Ieee.{Float}
 use Rattle.basics.specs.Loops.{member, snoc}
 use Rattle.basics.specs.Floats.{0f}
+use Rattle.basics.proofs.Lists.{replicate-at}
 use Rattle.turfs.specs.Board.{Board, linkCount, end}
 use Rattle.flood_fill.specs.Fill.{Reach, Fill}
 use Rattle.flood_fill.proofs.Joins.{Has, Joins, fill-joins}
 use Rattle.finalize_eq.specs.Turns.{Zone, nodesAt}
 use Rattle.equalize.specs.Equalize.{Ask, Filled, afterFill, fillFrom, fillAll}
 use Rattle.equalize.proofs.Hot.{Starts, fill-all-keeps}
-
--- nothing is owned at the start
-pub unowned : (n k : ℕ) → _≡_ {A = ℕ} (getD (replicate n 0) k 0) 0
-unowned zero k = refl
-unowned (suc n) zero = refl
-unowned (suc n) (suc k) = unowned n k
 
 module _ (b : Board) where
   -- every edge of a kept zone joins two nodes of it
@@ -68,7 +63,7 @@ module _ (b : Board) where
         go false = joined (s .zones) (s .owner) (t .reach) (t .moles) g f
 
     pub fill-ends : Ends (fillAll b gas q .owner) (fillAll b gas q .zones)
-    fill-ends = fill-all-keeps b gas q Good from (λ z k e. absurd (omega (arith, e, unowned (linkCount b) k)))
+    fill-ends = fill-all-keeps b gas q Good from (λ z k e. absurd (omega (arith, e, replicate-at {A = ℕ} (linkCount b) k 0)))
       where
         from : (r : ℕ) (s : Filled) → Starts b gas q r s → Good s → Good (fillFrom b gas q r s)
         from r s _ g = unfold fillFrom in

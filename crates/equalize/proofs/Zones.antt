@@ -11,7 +11,7 @@ use lib.Ieee.{Float}
 use Rattle.basics.specs.Floats.{0f}
 use Rattle.basics.specs.Loops.{run, snoc}
 use Rattle.basics.proofs.Loops.{All, All-getD, run-append}
-use Rattle.basics.proofs.Lists.{All-snoc}
+use Rattle.basics.proofs.Lists.{All-snoc, replicate-at}
 use Rattle.turfs.specs.Board.{Board, turfCount, linkCount}
 use Rattle.turfs.proofs.Accepted.{Accepted, source}
 use Rattle.turfs.proofs.Line.{Line}
@@ -24,7 +24,6 @@ use Rattle.flood_fill.proofs.Rest.{Clocked, fill-tests, fill-line, fill-clocked
 use Rattle.finalize_eq.specs.Turns.{Zone, nodesAt, nodeCount}
 use Rattle.equalize.specs.Equalize.{Ask, Filled, afterFill, fillFrom, fillAll}
 use Rattle.equalize.proofs.Hot.{Starts, fill-all-keeps}
-use Rattle.equalize.proofs.Ends.{unowned}
 
 pub count-snoc : (zs : List Zone) (z : Zone) → nodeCount (snoc zs z) ≡ nodeCount zs + length (z .nodes)
 unfolding nodeCount run
@@ -97,7 +96,7 @@ module _ (b : Board) {n : ℕ} (h : Accepted b n) (gas : List Float) (q : Ask) w
   pub zoned : Zoned (fillAll b gas q)
   zoned = fill-all-keeps b gas q Zoned from-zoned (unfold nodeCount run in record {
     marks = length-replicate (turfCount b) 0;
-    kept = record { links = length-replicate (linkCount b) 0; free = λ k e. unowned (linkCount b) k; zones = omega arith; nodes = omega arith; some = tt };
+    kept = record { links = length-replicate (linkCount b) 0; free = λ k e. replicate-at {A = ℕ} (linkCount b) k 0; zones = omega arith; nodes = omega arith; some = tt };
     asked = omega arith;
     spoken = tt;
     popped = omega arith;

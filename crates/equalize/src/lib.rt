@@ -7,6 +7,7 @@ ghost use lib.ListN.{length};
 ghost use Rattle.basics.specs.Floats.{finiteSignClear};
 ghost use Rattle.turfs.specs.Refuse.{ascending};
 ghost use Rattle.lent.specs.Given.{extraOf};
+ghost use Rattle.equalize.specs.Equalize.{bit};
 
 // What the call answers.
 pub struct EqualizeAnswer {
@@ -17,6 +18,13 @@ pub struct EqualizeAnswer {
     pub zones: u32,
     pub apart: u32,
     pub bytes: u32,
+}
+
+// A mark as a number.
+pub fn bit(mark: bool) -> u32
+    ensures { λ r. ⌜ r ≡ bit mark ⌝ }
+{
+    if mark { 1 } else { 0 }
 }
 
 // Refusal 1 of so many hot ids and turns.

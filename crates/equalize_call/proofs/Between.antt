@@ -7,12 +7,13 @@ use mathlib.Core.Bool.{Bool, false}
 use mathlib.Core.List.{List, [], _∷_, map}
 use lib.Dec.{T}
 use lib.Ieee.{Float, nan}
-use lib.ListN.{length, getD, take, drop, length-drop}
-use lib.Seq.{ext-getD, getD-take, getD-drop, drop-drop, length-take-le}
+use lib.ListN.{length, getD, take, drop}
+use lib.Seq.{getD-take, getD-drop}
 use Rattle.basics.specs.Loops.{run, upFrom}
 use Rattle.basics.specs.Regions.{region, cut, base}
 use Rattle.basics.proofs.Loops.{All, All-getD}
-use Rattle.basics.proofs.Regions.{cut-rest}
+use Rattle.basics.proofs.Regions.{cut-rest, later-same}
+use Rattle.basics.proofs.Parts.{part-alike, drop-alike, drop-later}
 use Rattle.turfs.specs.Board.{Board, turfCount, linkCount, mixtureCount, mixOf}
 use Rattle.turfs.specs.Refuse.{linksFit}
 use Rattle.turfs.proofs.Accepted.{Accepted}
@@ -20,9 +21,7 @@ use Rattle.turfs.proofs.Line.{Line}
 use Rattle.events.proofs.Sizes.{size}
 use Rattle.events.proofs.Areas.{wrote-length}
 use Rattle.lent.specs.Lent.{Lent, wordsRoom, floatsRoom}
-use Rattle.walks.proofs.Whole.{later-same}
 use Rattle.flood_fill.specs.Held.{sizes, startsAt, nodesAt}
-use Rattle.fill_zone.proofs.Boards.{gas-holds}
 use Rattle.process_zone.specs.Plan.{Plan}
 use Rattle.reverse_links.specs.Reverse.{Linked, Reverses}
 use Rattle.reverse_links.specs.Words.{But, ButParts, Outside}
@@ -30,9 +29,11 @@ use Rattle.reverse_links.proofs.Accepted.{linked}
 use Rattle.plan_state.specs.Held.{area, view, top}
 use Rattle.plan_zone.specs.Zone.{Gassed}
 use Rattle.plan_zone.proofs.Whole.{tablesOf}
-use Rattle.plan_all.specs.Zones.{Room, Zoned, PlansAll}
-use Rattle.plan_all.proofs.Calls.{zoned-of, planned-filled}
-use Rattle.fill_all.specs.Held.{rsizes, View, FillsAll}
+use Rattle.plan_all.specs.Zones.{workAt, Zoned, PlansAll}
+use Rattle.plan_all.proofs.Asked as asked
+use Rattle.plan_all.proofs.Asked.{work-fits}
+use Rattle.plan_all.proofs.Calls.{planned-filled}
+use Rattle.fill_all.specs.Held.{floatSizes, View, FillsAll}
 use Rattle.fill_all.specs.Held as fill
 use Rattle.fill_all.specs.declared.Filling.{Filling}
 use Rattle.fill_all.proofs.Words.{at, rowsOf, starts-word, starts-rise, starts-below, nodes-few, zones-count, zones-are, rows-are, rows-length, rows-line, owners-are, tests-are}
@@ -48,35 +49,11 @@ use Rattle.finish_turns.specs.Turning.{cursorAt, Same, Planned, FinishesAll}
 use Rattle.finish_turns.proofs.Whole.{ready-lean, Ends, finished}
 use Rattle.equalize.specs.Equalize.{Ask, fillAll, planAll, planned, played, hasMix, apart, bit}
 use Rattle.equalize.specs.Result.{equalizeRoom}
-use Rattle.equalize.proofs.Zones.{zone-has, test-room}
+use Rattle.equalize.proofs.Zones.{test-room}
 use Rattle.equalize.proofs.Room.{requests-bytes}
 use Rattle.apart.specs.Marks.{mixed, Laid, Stands, Tells}
 use Rattle.equalize_call.specs.Parts.{Fills, Filled, Comes}
 use Rattle.equalize_call.specs.declared.Outcome.{Outcome}
-
--- ---- the words that a part leaves
-
--- a part of a list by its places
-part-like : (w w′ : List ℕ) (from k : ℕ) → length w′ ≡ length w → from + k ≤ length w → ((i : ℕ) → i < k → getD w′ (from + i) 0 ≡ getD w (from + i) 0) → take k (drop from w′) ≡ take k (drop from w)
-part-like w w′ from k l h same =
-    let a : length (take k (drop from w)) ≡ k = length-take-le k (drop from w) (omega (arith, h, length-drop from w)) in
-    let b : length (take k (drop from w′)) ≡ k = length-take-le k (drop from w′) (omega (arith, h, l, length-drop from w′)) in
-    ext-getD 0 (take k (drop from w′)) (take k (drop from w)) (b ∙ sym a)
-    (λ i q.
-    let p : i < k = omega (arith, q, b) in
-    getD-take k (drop from w′) i 0 p ∙ getD-drop from w′ i 0 ∙ same i p ∙ sym (getD-take k (drop from w) i 0 p ∙ getD-drop from w i 0))
-
--- all from a place on
-rest-like : (w w′ : List ℕ) (from : ℕ) → length w′ ≡ length w → ((i : ℕ) → from ≤ i → getD w′ i 0 ≡ getD w i 0) → drop from w′ ≡ drop from w
-rest-like w w′ from l same =
-    ext-getD 0 (drop from w′) (drop from w) (omega (arith, l, length-drop from w′, length-drop from w))
-    (λ i q. getD-drop from w′ i 0 ∙ same (from + i) (omega arith) ∙ sym (getD-drop from w i 0))
-
--- what is the same from a place on is so from any later one
-drop-past : {A : Type 0} (k m : ℕ) (l l′ : List A) → k ≤ m → drop k l ≡ drop k l′ → drop m l ≡ drop m l′
-drop-past k m l l′ h q =
-    let p : m ≡ k + (m - k) = omega arith in
-    ap (λ (x : ℕ). drop x l) p ∙ sym (drop-drop (m - k) k l) ∙ ap (drop (m - k)) q ∙ drop-drop (m - k) k l′ ∙ ap (λ (x : ℕ). drop x l′) (sym p)
 
 -- ---- how many nodes there are
 
@@ -99,7 +76,7 @@ module _ (b : Board) (q : Ask) (l₀ l : Lent) (s : Filling) (d : Fills b q s l�
   marks = nodesAt n e + n + e
 
   abbrev work : ℕ
-  work = marks + mixtureCount b
+  work = workAt b
 
   abbrev zones : List Zone
   zones = fillAll b (l₀ .gas) q .zones
@@ -108,29 +85,20 @@ module _ (b : Board) (q : Ask) (l₀ l : Lent) (s : Filling) (d : Fills b q s l�
   accepted = subst (λ (g : List Float). Accepted b (length g)) (d .gas) h
 
   words-long : work + e + n + n ≤ length (l .words)
-  unfolding wordsRoom
-  words-long = omega (arith, words-room)
+  words-long = work-fits b (l .words) words-room
 
   few-zones : s .zones ≤ n
   few-zones = d .fills .stored .zones
 
   -- ---- planning
 
-  gassed : Gassed n (b .mixtures) (b .gases) (l .gas)
-  gassed = record { mixtures-n = h .mixes; within = λ r p. gas-holds h (l .gas) refl r }
-
   links : Linked n (b .starts) (b .neighbours)
   links = linked b (h .starts) k
 
-  room : Room n e (l .words) (l .floats)
-  unfolding floatsRoom
-  room = record { sizes = d .fills .stored .sizes; words = omega (arith, words-long); reals = omega (arith, floats-room) }
-
-  zoned : Zoned n e (s .zones) (l .words) (l .floats)
-  zoned = zoned-of b zones room few-zones (zones-are (d .fills)) (λ z p. (d .fills .stored .rise z p, omega (arith, d .fills .stored .below (z + 1) (omega arith), nodes-few (d .fills)))) (zone-has b accepted (l₀ .gas) q)
-
   pub plan-asks : (Gassed n (b .mixtures) (b .gases) (l .gas) × (Linked n (b .starts) (b .neighbours) × (linkCount b ≡ e))) × (Zoned n e (s .zones) (l .words) (l .floats) × ((nodesAt n e + n + e ≤ work) × (work + e + n + n ≤ length (l .words))))
-  plan-asks = ((gassed, (links, refl)), (zoned, (omega arith, words-long)))
+  plan-asks =
+      subst (λ (g : List Float). (Gassed n (b .mixtures) (b .gases) g × (Linked n (b .starts) (b .neighbours) × (linkCount b ≡ e))) × (Zoned n e (s .zones) (l .words) (l .floats) × ((nodesAt n e + n + e ≤ work) × (work + e + n + n ≤ length (l .words)))))
+      (sym (d .gas)) (asked.plan-asks b q (l₀ .gas) s (d .fills) accepted k words-room floats-room work refl)
 
   -- ---- what filling left, by its places
 
@@ -222,12 +190,12 @@ module _ (b : Board) (q : Ask) (l₀ l : Lent) (s : Filling) (d : Fills b q s l�
 
       owner-same : ownerIn e w₂ ≡ fillAll b (l₀ .gas) q .owner
       owner-same =
-          part-like (l .words) w₂ 0 e long₂ (omega (arith, words-long)) (λ i a. t .same (0 + i) (inl (omega arith)) ∙ p .words .same (0 + i) (inl (omega arith)) (inl (omega arith)))
+          part-alike 0 e w₂ (l .words) long₂ (λ i a. t .same (0 + i) (inl (omega arith)) ∙ p .words .same (0 + i) (inl (omega arith)) (inl (omega arith)))
           ∙ owners-are D
 
       reverses : Reverses b n (reverseIn e w₂)
       reverses =
-          subst (Reverses b n) (sym (part-like w₁ w₂ e e (t .len) (omega (arith, words-long, p .words .len)) (λ i a. t .same (e + i) (inl (omega arith)))))
+          subst (Reverses b n) (sym (part-alike e e w₂ w₁ (t .len) (λ i a. t .same (e + i) (inl (omega arith)))))
           (p .reverses b refl refl)
 
       start₂ : (z : ℕ) → z ≤ s .zones → startOf n (cursorAt b) w₂ z ≡ at D z
@@ -241,7 +209,7 @@ module _ (b : Board) (q : Ask) (l₀ l : Lent) (s : Filling) (d : Fills b q s l�
           ap (λ (x : ℕ). take (startOf n (cursorAt b) w₂ (z + 1) - x) (drop (cursorAt b + n + n + n + 1 + x) w₂)) (start₂ z (omega arith))
           ∙ ap (λ (x : ℕ). take (x - at D z) (drop (cursorAt b + n + n + n + 1 + at D z) w₂)) (start₂ (z + 1) (omega arith))
           ∙ ap (λ (x : ℕ). take (at D (z + 1) - at D z) (drop x w₂)) i
-          ∙ part-like (l .words) w₂ (nodesAt n e + at D z) (at D (z + 1) - at D z) long₂ (omega (arith, ends-within z a, starts-rise D z a, words-long))
+          ∙ part-alike (nodesAt n e + at D z) (at D (z + 1) - at D z) w₂ (l .words) long₂
           (λ j c. kept₂ (nodesAt n e + at D z + j) (omega arith) (omega (arith, c, ends-within z a)))
 
       same-zones : Same n (cursorAt b) (s .zones) w₂ zones
@@ -288,9 +256,9 @@ module _ (b : Board) (q : Ask) (l₀ l : Lent) (s : Filling) (d : Fills b q s l�
         unfolding wordsRoom fill.view
         words-rest =
             let m : ℕ = 16 * n + 4 * e + 2 * mixtureCount b + 16 in
-            drop-past (cursorAt b + n + n) m w₃ w₂ (omega arith) (u .words .rest)
-            ∙ rest-like w₁ w₂ m (t .len) (λ i a. t .same i (inr (omega (arith, a))))
-            ∙ rest-like (l .words) w₁ m (p .words .len) (λ i a. p .words .same i (inr (omega (arith, a))) (inr (omega (arith, a))))
+            drop-later (cursorAt b + n + n) m w₃ w₂ (omega arith) (u .words .rest)
+            ∙ drop-alike m w₂ w₁ (t .len) (λ i a. t .same i (inr (omega (arith, a))))
+            ∙ drop-alike m w₁ (l .words) (p .words .len) (λ i a. p .words .same i (inr (omega (arith, a))) (inr (omega (arith, a))))
             ∙ later-same (sizes n e) m (l₀ .words) (l .words) (omega arith) (ap (λ (v : View). v .around .restW) (D .same))
 
         floats-rest : drop (floatsRoom b) f₃ ≡ drop (floatsRoom b) (l₀ .floats)
@@ -298,8 +266,8 @@ module _ (b : Board) (q : Ask) (l₀ l : Lent) (s : Filling) (d : Fills b q s l�
         floats-rest =
             let m : ℕ = 4 * n + 2 * e in
             later-same (fsizes n e) m f₁ f₃ (omega arith) (ap (λ (r : List (List Float)). getD r 2 []) (u .kept .rest))
-            ∙ drop-past (e + n + n) m f₁ (l .floats) (omega arith) (p .reals .1)
-            ∙ later-same (rsizes n e) m (l₀ .floats) (l .floats) (omega arith) (ap (λ (v : View). v .around .restR) (D .same))
+            ∙ drop-later (e + n + n) m f₁ (l .floats) (omega arith) (p .reals .1)
+            ∙ later-same (floatSizes n e) m (l₀ .floats) (l .floats) (omega arith) (ap (λ (v : View). v .around .restR) (D .same))
 
         pub comes-played : (r : Bool) → Tells (mixed (b .mixtures) (b .immutable)) (s .zones) (startsAt n e) (nodesAt n e) marks r w₁ w₂ → (mark : ℕ) → mark ≡ bit r
             → Comes b (played b (l₀ .gas) q turns (fillAll b (l₀ .gas) q)) (record { cancelled = 0; processed = s .nodes; tests = s .tests + 2; zones = s .zones; apart = mark; used = used }) l₀ (record { gas = g₃; area = a₃; words = w₃; floats = f₃ })

@@ -1,12 +1,13 @@
 // `equalize` as a whole call: refusals, filling, planning, finishing by turns, the answer. Its definition is `equalizeResult` of crate equalize.
 use equalize::EqualizeAnswer;
+use equalize::bit;
 use fill_all::Filling;
 ghost use mathlib.Core.Path.{_≡_};
 ghost use Rattle.turfs.specs.Tables.{board};
 ghost use Rattle.lent.specs.Lent.{Lent};
 ghost use Rattle.lent.specs.Given.{lent};
 ghost use Rattle.fill_all.specs.Held.{ask};
-ghost use Rattle.equalize.specs.Equalize.{Ask, bit, fillAll, played, equalize};
+ghost use Rattle.equalize.specs.Equalize.{Ask, fillAll, played, equalize};
 ghost use Rattle.equalize.specs.Result.{refusedEqualize, equalizeNumber, equalizeResult};
 ghost use Rattle.equalize_call.specs.Parts.{cancelledAt, Fills, Filled, Comes};
 
@@ -18,13 +19,6 @@ pub struct Outcome {
     pub zones: usize,
     pub apart: u32,
     pub used: usize,
-}
-
-// A mark as a number.
-fn bit(mark: bool) -> u32
-    ensures { λ r. ⌜ r ≡ bit mark ⌝ }
-{
-    if mark { 1 } else { 0 }
 }
 
 // A call that is cancelled: gas unchanged, requests written stay.

@@ -1,20 +1,20 @@
 -- What a fill leaves of what filling has come to: a kept zone stands after those before it, an ignored one gave back what it took. Assumes nothing.
-use Prim.Native.Nat.{ℕ, zero, suc, _+_, _-_, _≤_, _<_}
+use Prim.Native.Nat.{ℕ, _+_, _-_, _≤_, _<_}
 use native.Mathlib.Omega.{arith}
-use native.Mathlib.Numerals.{add-one}
 use native.Mathlib.Decide.{decLt}
 use mathlib.Core.Path.{_≡_, refl, ap, ap₂, _∙_, sym, subst}
 use mathlib.Core.List.{List, [], _∷_, _++_, map}
 use mathlib.Core.Bool.{Bool, true, false, cond}
 use lib.Ieee.{Float, nan}
-use lib.ListN.{length, getD, set, take, drop, length-set}
+use lib.ListN.{length, getD, set, take, drop, length-set, length-map}
 use lib.Seq.{getD-set-same, getD-set-other, length-take-le}
 use Rattle.basics.specs.Loops.{run, upFrom, snoc}
 use Rattle.basics.specs.Regions.{cut, region}
-use Rattle.basics.proofs.Loops.{All, All-imp, All-getD, map-like}
-use Rattle.basics.proofs.Lists.{upFrom-below, upFrom-length, map-append}
+use Rattle.basics.proofs.Loops.{All-imp, All-getD, map-like, up-below, up-snoc}
+use Rattle.basics.proofs.Lists.{upFrom-length, map-append}
 use Rattle.basics.proofs.Regions.{cut-set, cut-length}
 use Rattle.basics.specs.declared.Spot.the-variants.{At}
+use Rattle.basics.proofs.Parts.{take-in}
 use Rattle.turfs.specs.Board.{Board, turfCount, linkCount}
 use Rattle.turfs.proofs.Accepted.{Accepted}
 use Rattle.events.specs.declared.Event.{Event}
@@ -30,7 +30,7 @@ use Rattle.fill_zone.specs.declared.Flood.{Flood}
 use Rattle.fill_zone.proofs.Boards.{parts}
 use Rattle.finalize_eq.specs.Turns.{Zone}
 use Rattle.equalize.specs.Equalize.{Ask, Filled, afterFill, passedOver, fillFrom, hotRow}
-use Rattle.fill_all.specs.Held.{rsizes, molesAt, zoneIn, viewIn, view, onFilled, startsIn, Stored, Open, Fills, giveBack, pushed, Keeps, Drops}
+use Rattle.fill_all.specs.Held.{floatSizes, molesAt, zoneIn, viewIn, view, onFilled, startsIn, Stored, Open, Fills, giveBack, pushed, Keeps, Drops}
 use Rattle.fill_all.specs.declared.Filling.{Filling}
 use Rattle.fill_all.proofs.Back.{given-back}
 
@@ -45,25 +45,11 @@ fills-none {n} {e} g {s} {w} {f} h l q = record {
 
 -- ---- zones that stay
 
--- a part of the front
-pub take-in : {A : Type 0} (l : List A) (a m k : ℕ) → a + m ≤ k → take m (drop a (take k l)) ≡ take m (drop a l)
-take-in l zero zero k h = refl
-take-in [] zero (suc m) zero h = refl
-take-in (x ∷ l) zero (suc m) zero h = absurd (omega arith)
-take-in [] zero (suc m) (suc k) h = refl
-take-in (x ∷ l) zero (suc m) (suc k) h = ap (λ (r : List _). x ∷ r) (take-in l zero m k (omega arith))
-take-in l (suc a) m zero h = absurd (omega arith)
-take-in [] (suc a) m (suc k) h = refl
-take-in (x ∷ l) (suc a) m (suc k) h = take-in l a m k (omega arith)
-
-below-all : (z : ℕ) → All (λ i. i < z) (upFrom 0 z)
-below-all z = All-imp (λ i. i < 0 + z) (λ i. i < z) (upFrom 0 z) (λ i h. omega arith) (upFrom-below 0 z)
-
 -- other starts, nodes and totals that agree where a zone reads them
 zones-like : (z : ℕ) (ss ss′ ns ns′ : List ℕ) (ms ms′ : List Float) → ((i : ℕ) → i < z → (getD ss′ i 0 ≡ getD ss i 0) × ((getD ss′ (i + 1) 0 ≡ getD ss (i + 1) 0) × (getD ms′ i nan ≡ getD ms i nan)))
     → (k : ℕ) → take k ns′ ≡ take k ns → ((i : ℕ) → i < z → (getD ss i 0 ≤ getD ss (i + 1) 0) × (getD ss (i + 1) 0 ≤ k))
     → map (zoneIn ss′ ns′ ms′) (upFrom 0 z) ≡ map (zoneIn ss ns ms) (upFrom 0 z)
-zones-like z ss ss′ ns ns′ ms ms′ same k front rise = map-like (zoneIn ss′ ns′ ms′) (zoneIn ss ns ms) (upFrom 0 z) (All-imp (λ i. i < z) _ (upFrom 0 z) (λ i h. one i h) (below-all z))
+zones-like z ss ss′ ns ns′ ms ms′ same k front rise = map-like (zoneIn ss′ ns′ ms′) (zoneIn ss ns ms) (upFrom 0 z) (All-imp (λ i. i < z) _ (upFrom 0 z) (λ i h. one i h) (up-below 0 z z (omega arith)))
   where
     one : (i : ℕ) → i < z → zoneIn ss′ ns′ ms′ i ≡ zoneIn ss ns ms i
     one i h =
@@ -74,21 +60,9 @@ zones-like z ss ss′ ns ns′ ms ms′ same k front rise = map-like (zoneIn ss�
         sym (take-in ns′ (getD ss i 0) m k (omega arith)) ∙ ap (λ (l : List ℕ). take m (drop (getD ss i 0) l)) front ∙ take-in ns (getD ss i 0) m k (omega arith) in
         rw (q .0, q .1 .0, q .1 .1) (ap (λ (l : List ℕ). record { nodes = l; moles = getD ms i nan }) p)
 
-up-suc : (a z : ℕ) → upFrom a (suc z) ≡ snoc (upFrom a z) (a + z)
-unfolding upFrom
-up-suc a zero = ap (λ (k : ℕ). k ∷ []) (omega arith)
-up-suc a (suc z) = ap (λ (r : List ℕ). a ∷ r) (up-suc (suc a) z ∙ ap (λ (k : ℕ). snoc (upFrom (suc a) z) k) (omega arith))
-
-up-snoc : (a z : ℕ) → upFrom a (z + 1) ≡ snoc (upFrom a z) (a + z)
-up-snoc a z = ap (upFrom a) (add-one z) ∙ up-suc a z
-
 -- one zone more
 zones-more : (z : ℕ) (ss ns : List ℕ) (ms : List Float) → map (zoneIn ss ns ms) (upFrom 0 (z + 1)) ≡ snoc (map (zoneIn ss ns ms) (upFrom 0 z)) (zoneIn ss ns ms z)
 zones-more z ss ns ms = ap (map (zoneIn ss ns ms)) (up-snoc 0 z) ∙ map-append (zoneIn ss ns ms) (upFrom 0 z) ((0 + z) ∷ []) ∙ ap (λ (k : ℕ). snoc (map (zoneIn ss ns ms) (upFrom 0 z)) (zoneIn ss ns ms k)) (omega arith)
-
-pub map-length : {A B : Type 0} (g : A → B) (xs : List A) → length (map g xs) ≡ length xs
-map-length g [] = refl
-map-length g (x ∷ xs) = ap suc (map-length g xs)
 
 -- ---- a fill from the turf `row`
 
@@ -158,7 +132,7 @@ module _ {b : Board} {m : ℕ} (h : Accepted b m) (gas : List Float) (q : Ask) (
       step es =
           sym (ap (λ (c : Bool). cond c (view n e s w f es .filled) (fillFrom b gas q row (view n e s w f es .filled))) (pass es)
           ∙ ap (λ (z : ℕ). afterFill (fill b gas (q .limit) (q .allowance) z row found₀ owner₀ es (s .tests)) (view n e s w f es .filled))
-          (map-length (zoneIn (getD ws 11 []) (getD ws 12 []) (getD (cut (rsizes n e) f) 4 [])) (upFrom 0 (s .zones)) ∙ upFrom-length 0 (s .zones)))
+          (length-map (upFrom 0 (s .zones)) (zoneIn (getD ws 11 []) (getD ws 12 []) (getD (cut (floatSizes n e) f) 4 [])) ∙ upFrom-length 0 (s .zones)))
 
       -- an ignored zone
       module _ (ig : t .reach .ignored ≡ true) {r : Filling} {w′ : List ℕ} {f′ : List Float} (d : Drops n e (b .starts) s t r w₁ w′ f f′) where
@@ -188,7 +162,7 @@ module _ {b : Board} {m : ℕ} (h : Accepted b m) (gas : List Float) (q : Ask) (
               filled = record {
                 found = (array 7 ∙ ap (λ (v : FillView). v .fill .reach .found) X) i;
                 owner = (owners es ∙ sym (ap (λ (c : Bool). cond c owner₀ (T es .reach .owner)) ig′)) i;
-                zones = (zones-like (s .zones) (getD ws 11 []) (getD (cut (sizes n e) w′) 11 []) (getD ws 12 []) (getD (cut (sizes n e) w′) 12 []) (getD (cut (rsizes n e) f) 4 []) (getD (cut (rsizes n e) f) 4 [])
+                zones = (zones-like (s .zones) (getD ws 11 []) (getD (cut (sizes n e) w′) 11 []) (getD ws 12 []) (getD (cut (sizes n e) w′) 12 []) (getD (cut (floatSizes n e) f) 4 []) (getD (cut (floatSizes n e) f) 4 [])
                     (λ j l. let p : getD (cut (sizes n e) w′) 11 [] ≡ getD ws 11 [] = array 10 ∙ ap (λ (v : FillView). v .still .starts) X in
                     (ap (λ (x : List ℕ). getD x j 0) p, (ap (λ (x : List ℕ). getD x (j + 1) 0) p, refl)))
                     (s .nodes) (ap (take (s .nodes)) (array 11) ∙ ap (λ (v : FillView). v .still .before) X) (λ j l. (st .rise j l, st .below (j + 1) (omega arith)))
@@ -206,11 +180,11 @@ module _ {b : Board} {m : ℕ} (h : Accepted b m) (gas : List Float) (q : Ask) (
                 cursor = (array 8 ∙ ap (λ (v : FillView). v .still .cursor) X) i;
                 live = (array 9 ∙ ap (λ (v : FillView). v .still .live) X) i;
                 restW = (array 12 ∙ ap (λ (v : FillView). v .still .rest) X) i;
-                weight = getD (cut (rsizes n e) f) 0 [];
-                delta = getD (cut (rsizes n e) f) 1 [];
-                amount = getD (cut (rsizes n e) f) 2 [];
-                lifted = getD (cut (rsizes n e) f) 3 [];
-                restR = getD (cut (rsizes n e) f) 5 [];
+                weight = getD (cut (floatSizes n e) f) 0 [];
+                delta = getD (cut (floatSizes n e) f) 1 [];
+                amount = getD (cut (floatSizes n e) f) 2 [];
+                lifted = getD (cut (floatSizes n e) f) 3 [];
+                restR = getD (cut (floatSizes n e) f) 5 [];
               };
             }
 
@@ -264,13 +238,13 @@ module _ {b : Board} {m : ℕ} (h : Accepted b m) (gas : List Float) (q : Ask) (
         ss₂ = set ss₁ (s .zones + 1) v
 
         abbrev ms : List Float
-        ms = getD (cut (rsizes n e) f) 4 []
+        ms = getD (cut (floatSizes n e) f) 4 []
 
         words-cut : cut (sizes n e) w₂ ≡ set ws₁ 11 ss₂
         words-cut = cut-set (sizes n e) w₁ 11 (s .zones + 1) v (startsAt n e + s .zones + 1) (omega arith) (omega (arith, one-zone)) (omega arith)
 
-        floats-cut : cut (rsizes n e) f₂ ≡ set (cut (rsizes n e) f) 4 (set ms (s .zones) (t .moles))
-        floats-cut = cut-set (rsizes n e) f 4 (s .zones) (t .moles) (molesAt n e + s .zones) (omega arith) one-zone (omega arith)
+        floats-cut : cut (floatSizes n e) f₂ ≡ set (cut (floatSizes n e) f) 4 (set ms (s .zones) (t .moles))
+        floats-cut = cut-set (floatSizes n e) f 4 (s .zones) (t .moles) (molesAt n e + s .zones) (omega arith) one-zone (omega arith)
 
         starts-were : ss₁ ≡ getD ws 11 []
         unfolding link.view
@@ -280,7 +254,7 @@ module _ {b : Board} {m : ℕ} (h : Accepted b m) (gas : List Float) (q : Ask) (
         starts-long = cut-length (sizes n e) w₁ 11 (omega arith) (omega (arith, B .fit .words))
 
         moles-long : length ms ≡ n
-        moles-long = cut-length (rsizes n e) f 4 (omega arith) (omega (arith, st .floats))
+        moles-long = cut-length (floatSizes n e) f 4 (omega arith) (omega (arith, st .floats))
 
         start-new : getD ss₂ (s .zones + 1) 0 ≡ v
         start-new = getD-set-same ss₁ (s .zones + 1) v 0 (omega (arith, starts-long, one-zone))
@@ -308,7 +282,7 @@ module _ {b : Board} {m : ℕ} (h : Accepted b m) (gas : List Float) (q : Ask) (
             nodes-were : take (s .nodes) (getD ws₁ 12 []) ≡ take (s .nodes) (getD ws 12 [])
             nodes-were = unfold link.view in ap (λ (x : FillView). x .still .before) (came [])
 
-        kept-view : (es : List Event) → viewIn r₂ (es ++ B .does .more) (set ws₁ 11 ss₂) (set (cut (rsizes n e) f) 4 (set ms (s .zones) (t .moles)))
+        kept-view : (es : List Event) → viewIn r₂ (es ++ B .does .more) (set ws₁ 11 ss₂) (set (cut (floatSizes n e) f) 4 (set ms (s .zones) (t .moles)))
             ≡ record { filled = afterFill (T es) (view n e s w f es .filled); around = view n e s w f es .around }
         unfolding view link.view afterFill
         kept-view es =
@@ -332,11 +306,11 @@ module _ {b : Board} {m : ℕ} (h : Accepted b m) (gas : List Float) (q : Ask) (
                 cursor = ap (λ (x : FillView). x .still .cursor) X i;
                 live = ap (λ (x : FillView). x .still .live) X i;
                 restW = ap (λ (x : FillView). x .still .rest) X i;
-                weight = getD (cut (rsizes n e) f) 0 [];
-                delta = getD (cut (rsizes n e) f) 1 [];
-                amount = getD (cut (rsizes n e) f) 2 [];
-                lifted = getD (cut (rsizes n e) f) 3 [];
-                restR = getD (cut (rsizes n e) f) 5 [];
+                weight = getD (cut (floatSizes n e) f) 0 [];
+                delta = getD (cut (floatSizes n e) f) 1 [];
+                amount = getD (cut (floatSizes n e) f) 2 [];
+                lifted = getD (cut (floatSizes n e) f) 3 [];
+                restR = getD (cut (floatSizes n e) f) 5 [];
               };
             }
 
@@ -383,5 +357,5 @@ module _ {b : Board} {m : ℕ} (h : Accepted b m) (gas : List Float) (q : Ask) (
               };
             })))
           where
-            seen : (es : List Event) → view n e r₂ w₂ f₂ (es ++ B .does .more) ≡ viewIn r₂ (es ++ B .does .more) (set ws₁ 11 ss₂) (set (cut (rsizes n e) f) 4 (set ms (s .zones) (t .moles)))
+            seen : (es : List Event) → view n e r₂ w₂ f₂ (es ++ B .does .more) ≡ viewIn r₂ (es ++ B .does .more) (set ws₁ 11 ss₂) (set (cut (floatSizes n e) f) 4 (set ms (s .zones) (t .moles)))
             seen es = unfold view in ap₂ (viewIn r₂ (es ++ B .does .more)) words-cut floats-cut

@@ -11,6 +11,7 @@ use lib.Dec.{T, eqb, ltb, leb}
 use lib.Ieee.{Float}
 use lib.ListN.{length, getD, set, replicate, length-set, length-replicate}
 use lib.Seq.{sets, length-sets, getD-set-same, getD-set-other, ext-getD}
+use lib.Ieee.Bits.{is-true}
 use borrow.Author.Tests.{eqb-true, lt-ltb, le-ltb, le-leb, lt-leb, leb-true, ltb-true}
 use Rattle.basics.specs.Loops.{run, member, snoc}
 use Rattle.basics.proofs.Loops.{All, All-imp, and-left, and-right}
@@ -116,10 +117,6 @@ module _ (starts : List ℕ) where
       go (inl x) ih = a .0 x
       go (inr x) ih = ih x
 
-yes-of : (s : Bool) → T s → s ≡ true
-yes-of true i = refl
-yes-of false i = absurd i
-
 -- ---- a fill
 
 module _ {b : Board} {m : ℕ} (h : Accepted b m) (z : ℕ) (found₀ owner₀ : List ℕ) where
@@ -208,8 +205,8 @@ module _ {b : Board} {m : ℕ} (h : Accepted b m) (z : ℕ) (found₀ owner₀ :
         free k x =
             hit-has (b .starts) (getD owner₀ k 0 ≡ 0) (t .queue) k
             (All-imp (λ y. (getD found₀ y 0 ≡ 0) × (y < turfCount b)) (λ y. T (hit (b .starts) y k) → getD owner₀ k 0 ≡ 0) (t .queue) (λ y i j. unowned k (ap (λ (v : ℕ). getD found₀ v 0) (source-is h y (i .1) k
-            (leb-true (getD (b .starts) y 0) k (yes-of (leb (getD (b .starts) y 0) k) (and-left (leb (getD (b .starts) y 0) k) (ltb k (getD (b .starts) (y + 1) 0)) j)))
-            (ltb-true k (getD (b .starts) (y + 1) 0) (yes-of (ltb k (getD (b .starts) (y + 1) 0)) (and-right (leb (getD (b .starts) y 0) k) (ltb k (getD (b .starts) (y + 1) 0)) j)))) ∙ i .0)) (took .new)) x
+            (leb-true (getD (b .starts) y 0) k (is-true (leb (getD (b .starts) y 0) k) (and-left (leb (getD (b .starts) y 0) k) (ltb k (getD (b .starts) (y + 1) 0)) j)))
+            (ltb-true k (getD (b .starts) (y + 1) 0) (is-true (ltb k (getD (b .starts) (y + 1) 0)) (and-right (leb (getD (b .starts) y 0) k) (ltb k (getD (b .starts) (y + 1) 0)) j)))) ∙ i .0)) (took .new)) x
 
         each : (k : ℕ) (x : Bool) → anyHit (b .starts) (t .queue) k ≡ x → cond x 0 (getD (t .owner) k 0) ≡ getD owner₀ k 0
         each k true e = sym (free k (subst T (sym e) tt))

@@ -5,3 +5,4 @@ pub mod After
 pub mod Hot
 pub mod Loop
 pub mod Words
+pub mod Asked

@@ -7,7 +7,7 @@ use mathlib.Core.List.{List, [], _∷_, map}
 use mathlib.Core.Bool.{Bool, true, false, not}
 use lib.Dec.{eqb}
 use lib.Ieee.{Float}
-use lib.ListN.{length, getD, set, take, drop, take-append-drop, length-replicate}
+use lib.ListN.{length, getD, set, take, drop, take-append-drop, length-replicate, length-map}
 use lib.Seq.{take-suc, take-all, getD-set-same}
 use Rattle.basics.specs.Loops.{run, upFrom}
 use Rattle.basics.specs.Regions.{cut, region}
@@ -28,9 +28,8 @@ use Rattle.flood_fill.proofs.Counts.{marked}
 use Rattle.equalize.specs.Equalize.{Ask, Filled, near, passedOver, fillFrom, hotRow, hotId, fillAll}
 use Rattle.equalize.proofs.Hot.{startFilled}
 use Rattle.equalize.proofs.Zones.{Zoned, zoned}
-use Rattle.fill_all.specs.Held.{ask, rsizes, molesAt, zoneIn, View, view, aroundIn, onFilled, startsIn, Stored, Open, Fills, start, Begun, Cleared, FillsAll}
+use Rattle.fill_all.specs.Held.{ask, floatSizes, molesAt, zoneIn, View, view, aroundIn, onFilled, startsIn, Stored, Open, Fills, start, Begun, Cleared, FillsAll}
 use Rattle.fill_all.specs.declared.Filling.{Filling}
-use Rattle.fill_all.proofs.After.{map-length}
 
 -- every mark is set or isn't
 marks-all : (xs : List ℕ) → marked xs + zeros xs ≡ length xs
@@ -108,7 +107,7 @@ module _ {b : Board} {m : ℕ} (h : Accepted b m) (gas : List Float) (hot : List
           let k : length (encodeAll (d .does .more)) ≡ 8 * length (d .does .more) = requests-size (d .does .more) (law .spoken) in
           let l : length area′ ≡ length area = wrote-length (d .does .wrote) in
           let a : marked found + zeros found ≡ n = marks-all found ∙ law .marks in
-          let zl : length (map (zoneIn (region (sizes n e) 11 w′) (region (sizes n e) 12 w′) (region (rsizes n e) 4 f′)) (upFrom 0 (s′ .zones))) ≡ s′ .zones = map-length _ (upFrom 0 (s′ .zones)) ∙ upFrom-length 0 (s′ .zones) in
+          let zl : length (map (zoneIn (region (sizes n e) 11 w′) (region (sizes n e) 12 w′) (region (floatSizes n e) 4 f′)) (upFrom 0 (s′ .zones))) ≡ s′ .zones = length-map (upFrom 0 (s′ .zones)) _ ∙ upFrom-length 0 (s′ .zones) in
           record {
             unowned = law .kept .free;
             zones = omega (arith, law .kept .zones, zl, a);
@@ -185,11 +184,11 @@ module _ {b : Board} {m : ℕ} (h : Accepted b m) (w w₁ : List ℕ) (f : List 
     };
   }
     where
-      whole : view n₁ e₁ r w′ f′ (d .does .more) ≡ record { filled = fillAll b gas (ask hot threshold limit allowance); around = aroundIn (cut (sizes n₁ e₁) w) (cut (rsizes n₁ e₁) f) }
+      whole : view n₁ e₁ r w′ f′ (d .does .more) ≡ record { filled = fillAll b gas (ask hot threshold limit allowance); around = aroundIn (cut (sizes n₁ e₁) w) (cut (floatSizes n₁ e₁) f) }
       whole = d .does .same [] ∙ ap₂ (λ (x : Filled) y. record { filled = run (hotId b gas (ask hot threshold limit allowance)) hot x; around = y }) (begun-filled h gas hot threshold limit allowance f begun) around ∙ (unfold fillAll in refl)
         where
-          around : view n₁ e₁ s w₁ f [] .around ≡ aroundIn (cut (sizes n₁ e₁) w) (cut (rsizes n₁ e₁) f)
-          around = unfold view in ap (λ (x : List (List ℕ)). aroundIn x (cut (rsizes n₁ e₁) f)) c
+          around : view n₁ e₁ s w₁ f [] .around ≡ aroundIn (cut (sizes n₁ e₁) w) (cut (floatSizes n₁ e₁) f)
+          around = unfold view in ap (λ (x : List (List ℕ)). aroundIn x (cut (floatSizes n₁ e₁) f)) c
 
       events : d .does .more ≡ fillAll b gas (ask hot threshold limit allowance) .events
       events = unfold view in ap (λ (v : View). v .filled .events) whole

@@ -1,18 +1,19 @@
 -- What planning and finishing ask of the words that filling leaves: where a zone's nodes stand, that there is one, that they are different rows below N. The
 -- words are the definition's zones, whose laws say so. Assumes nothing.
-use Prim.Native.Nat.{ℕ, zero, suc, _+_, _-_, _≤_, _<_}
+use Prim.Native.Nat.{ℕ, _+_, _-_, _≤_, _<_}
 use native.Mathlib.Omega.{arith}
 use native.Mathlib.Nat.{zero-add}
-use mathlib.Core.Path.{_≡_, refl, ap, _∙_, sym, subst}
-use mathlib.Core.List.{List, [], _∷_, map}
+use mathlib.Core.Path.{_≡_, ap, _∙_, sym, subst}
+use mathlib.Core.List.{List, [], map}
 use lib.Ieee.{Float, nan}
-use lib.ListN.{length, getD, take, drop, List·getD-map, length-drop}
+use lib.ListN.{length, getD, take, drop, length-drop, length-map}
 use lib.Seq.{drop-drop, length-take-le}
 use Rattle.basics.specs.Loops.{upFrom}
 use Rattle.basics.specs.Regions.{region, base}
 use Rattle.basics.specs.Floats.{0f}
-use Rattle.basics.proofs.Lists.{upFrom-at, upFrom-length}
+use Rattle.basics.proofs.Lists.{upFrom-length, map-up}
 use Rattle.basics.proofs.Regions.{cut-get, region-part}
+use Rattle.basics.proofs.Parts.{take-in}
 use Rattle.turfs.specs.Board.{Board, turfCount, linkCount}
 use Rattle.turfs.proofs.Accepted.{Accepted}
 use Rattle.turfs.proofs.Line.{Line}
@@ -20,15 +21,8 @@ use Rattle.flood_fill.specs.Held.{sizes, startsAt, nodesAt}
 use Rattle.finalize_eq.specs.Turns.{Zone, zoneAt}
 use Rattle.equalize.specs.Equalize.{Ask, Filled, fillAll}
 use Rattle.equalize.proofs.Zones.{zone-has}
-use Rattle.fill_all.specs.Held.{rsizes, molesAt, zoneIn, View, view, startsIn, FillsAll}
+use Rattle.fill_all.specs.Held.{floatSizes, molesAt, zoneIn, View, view, startsIn, FillsAll}
 use Rattle.fill_all.specs.declared.Filling.{Filling}
-use Rattle.fill_all.proofs.After.{map-length, take-in}
-
--- another default, within a list
-getD-any : {A : Type 0} (l : List A) (i : ℕ) (x y : A) → i < length l → getD l i x ≡ getD l i y
-getD-any [] i x y h = absurd (omega arith)
-getD-any (a ∷ l) zero x y h = refl
-getD-any (a ∷ l) (suc i) x y h = getD-any l i x y (omega arith)
 
 module _ {n e : ℕ} {all : Filled} {r : Filling} {w w′ : List ℕ} {f f′ : List Float} {area area′ : List ℕ} (d : FillsAll n e all r w w′ f f′ area area′) where
   -- the word that says where zone i's nodes start
@@ -54,21 +48,18 @@ module _ {n e : ℕ} {all : Filled} {r : Filling} {w w′ : List ℕ} {f f′ : 
   nodes-few = omega (arith, d .stored .nodes, d .stored .zones)
 
   -- they are the zones that planning looks at
-  pub zones-are : all .zones ≡ map (zoneIn (startsIn n e w′) (region (sizes n e) 12 w′) (region (rsizes n e) 4 f′)) (upFrom 0 (r .zones))
+  pub zones-are : all .zones ≡ map (zoneIn (startsIn n e w′) (region (sizes n e) 12 w′) (region (floatSizes n e) 4 f′)) (upFrom 0 (r .zones))
   unfolding view
   zones-are = sym (ap (λ (v : View). v .filled .zones) (d .same))
 
   -- as many zones as the answer says
   pub zones-count : length (all .zones) ≡ r .zones
-  zones-count = ap length zones-are ∙ map-length _ (upFrom 0 (r .zones)) ∙ upFrom-length 0 (r .zones)
+  zones-count = ap length zones-are ∙ length-map (upFrom 0 (r .zones)) _ ∙ upFrom-length 0 (r .zones)
 
-  zone-is : (i : ℕ) → i < r .zones → zoneAt (all .zones) i ≡ zoneIn (startsIn n e w′) (region (sizes n e) 12 w′) (region (rsizes n e) 4 f′) i
+  zone-is : (i : ℕ) → i < r .zones → zoneAt (all .zones) i ≡ zoneIn (startsIn n e w′) (region (sizes n e) 12 w′) (region (floatSizes n e) 4 f′) i
   zone-is i l =
-      let g : ℕ → Zone = zoneIn (startsIn n e w′) (region (sizes n e) 12 w′) (region (rsizes n e) 4 f′) in
-      getD-any (all .zones) i (record { nodes = []; moles = 0f }) (g 0) (omega (arith, zones-count))
-      ∙ ap (λ (zs : List Zone). getD zs i (g 0)) zones-are
-      ∙ List·getD-map g (upFrom 0 (r .zones)) i 0
-      ∙ ap g (upFrom-at 0 (r .zones) i l ∙ zero-add i)
+      let g : ℕ → Zone = zoneIn (startsIn n e w′) (region (sizes n e) 12 w′) (region (floatSizes n e) 4 f′) in
+      ap (λ (zs : List Zone). zoneAt zs i) zones-are ∙ map-up g 0 (r .zones) i (record { nodes = []; moles = 0f }) l ∙ ap g (zero-add i)
 
   -- the words are the zone's nodes
   pub rows-are : (i : ℕ) → i < r .zones → zoneAt (all .zones) i .nodes ≡ rowsOf i
@@ -91,7 +82,7 @@ module _ {n e : ℕ} {all : Filled} {r : Filling} {w w′ : List ℕ} {f f′ : 
 
   -- the float is the zone's total
   pub moles-are : (i : ℕ) → i < r .zones → zoneAt (all .zones) i .moles ≡ getD f′ (molesAt n e + i) nan
-  moles-are i l = ap (λ (z : Zone). z .moles) (zone-is i l) ∙ sym (cut-get (rsizes n e) f′ nan 4 i (molesAt n e + i) (omega arith) (omega (arith, d .stored .zones)) (omega arith))
+  moles-are i l = ap (λ (z : Zone). z .moles) (zone-is i l) ∙ sym (cut-get (floatSizes n e) f′ nan 4 i (molesAt n e + i) (omega arith) (omega (arith, d .stored .zones)) (omega arith))
 
   pub tests-are : r .tests ≡ all .tests
   unfolding view

@@ -26,8 +26,8 @@ ask hot threshold limit allowance = record { hot = hot; threshold = threshold; l
 -- ---- the areas
 
 -- The floats of the whole call. By link: weight. By row: delta, amount. By link: lifted. By zone: its total as filled.
-abbrev pub rsizes : ℕ → ℕ → List ℕ
-rsizes n e = e ∷ n ∷ n ∷ e ∷ n ∷ []
+abbrev pub floatSizes : ℕ → ℕ → List ℕ
+floatSizes n e = e ∷ n ∷ n ∷ e ∷ n ∷ []
 
 -- where the totals start
 abbrev pub molesAt : ℕ → ℕ → ℕ
@@ -89,7 +89,7 @@ viewIn s es ws rs = record {
 }
 
 unfoldable pub view : ℕ → ℕ → Filling → List ℕ → List Float → List Event → View
-view n e s w f es = viewIn s es (cut (sizes n e) w) (cut (rsizes n e) f)
+view n e s w f es = viewIn s es (cut (sizes n e) w) (cut (floatSizes n e) f)
 
 -- a step of filling; all else stays
 abbrev pub onFilled : (Filled → Filled) → View → View
@@ -180,5 +180,5 @@ pub record Begun (b : Board) (s : Filling) (w area : List ℕ) : Type 0 where
 -- Filling from nothing: the view at the end is the definition's `fillAll`, all else is as it was, and of the event area all but the bytes written.
 pub record FillsAll (n e : ℕ) (all : Filled) (r : Filling) (w w′ : List ℕ) (f f′ : List Float) (area area′ : List ℕ) : Type 0 where
   pub stored : Stored n e r w′ f′
-  pub same : view n e r w′ f′ (all .events) ≡ record { filled = all; around = aroundIn (cut (Rattle.flood_fill.specs.Held.sizes n e) w) (cut (rsizes n e) f) }
+  pub same : view n e r w′ f′ (all .events) ≡ record { filled = all; around = aroundIn (cut (Rattle.flood_fill.specs.Held.sizes n e) w) (cut (floatSizes n e) f) }
   pub wrote : Holds (all .events) (r .used) area area′

@@ -121,7 +121,7 @@ fn ignore(queued: usize, n: usize, e: usize, starts: &[u32], words: &mut [u32])
     requires { ⌜ (length (now starts) ≡ n + 1) × (((r : ℕ) → r < n → getD (now starts) r 0 ≤ getD (now starts) (r + 1) 0) × ((r : ℕ) → r < n → getD (now starts) (r + 1) 0 ≤ e)) ⌝ }
     ensures { λ _. ⌜ GaveBack n e (now (starts .entry)) queued (now (words .entry)) (now (words .exit)) ⌝ }
 {
-    let queue = flood_fill::queue_at(n, e);
+    let queue = index_set::queue_at(n, e);
     let mut i = 0;
     while i < queued {
         give_back(words[queue + i] as usize, starts, words);

@@ -1,34 +1,24 @@
 -- What accepted tables give the functions that read them. Assumes nothing.
-use Prim.Native.Nat.{ℕ, _+_, _-_, _*_, _≤_, _<_}
+use Prim.Native.Nat.{ℕ, _+_, _-_, _≤_, _<_}
 use native.Mathlib.Omega.{arith}
-use mathlib.Core.Path.{_≡_, ap, _∙_, sym, subst}
+use mathlib.Core.Path.{_≡_, ap, _∙_, sym}
 use mathlib.Core.List.{List}
 use lib.Ieee.{Float}
 use lib.Ieee.Bits.{is-true}
-use lib.ListN.{length, getD, take, drop, length-drop}
-use lib.Seq.{getD-take, getD-drop, length-take-le}
+use lib.ListN.{length, getD}
 use Rattle.basics.specs.Loops.{upFrom}
 use Rattle.basics.proofs.Loops.{All-getD}
 use Rattle.basics.proofs.Lists.{upFrom-at, upFrom-length}
-use Rattle.turfs.specs.Board.{Board, turfCount, linkCount, mixOf, linksOf}
+use Rattle.basics.proofs.Parts.{part, part-length, part-at}
+use Rattle.turfs.specs.Board.{Board, turfCount, linkCount, mixOf, linksOf, mixtureCount}
 use Rattle.turfs.specs.Tables.{Parts}
 use Rattle.turfs.proofs.Accepted.{Accepted, source, sources}
 use Rattle.turfs.proofs.Tables.{parts-of}
 use Rattle.mixture.specs.Moves.{Holds}
-use Rattle.mixture.proofs.Moves.{before}
+use Rattle.mixture.proofs.Parts.{holds-of}
 use Rattle.flood_fill.specs.Steps.{Rows}
 use Rattle.flood_fill.specs.Held.{Part, Sizes}
 use Rattle.fill_zone.specs.Held.{Free}
-
--- the part of a list from one place to another
-abbrev pub part : List ℕ → ℕ → ℕ → List ℕ
-part l from to = take (to - from) (drop from l)
-
-pub part-length : (l : List ℕ) (from to : ℕ) → from ≤ to → to ≤ length l → length (part l from to) ≡ to - from
-part-length l from to h k = length-take-le (to - from) (drop from l) (simp length-drop (omega arith))
-
-pub part-at : (l : List ℕ) (from to i : ℕ) → i < to - from → getD (part l from to) i 0 ≡ getD l (from + i) 0
-part-at l from to i h = getD-take (to - from) (drop from l) i 0 h ∙ getD-drop from l i 0
 
 module _ {b : Board} {m : ℕ} (h : Accepted b m) where
   pub sizes-of : Sizes (turfCount b) (linkCount b)
@@ -41,7 +31,7 @@ module _ {b : Board} {m : ℕ} (h : Accepted b m) where
   rows-of = record { flags-n = h .flags; planetary-n = h .planets; mixtures-n = h .mixes; mixed = λ r _. h .mixed r; linkFlags-e = h .linkFlags }
 
   pub gas-holds : (gas : List Float) → m ≡ length gas → (r : ℕ) → Holds gas (b .gases) (mixOf b r)
-  gas-holds gas e r = subst (λ (k : ℕ). mixOf b r * b .gases + b .gases ≤ k) (sym (h .fits) ∙ e) (before (b .gases) (h .mixed r))
+  gas-holds gas e r = holds-of gas (mixtureCount b) (b .gases) (mixOf b r) (sym e ∙ h .fits) (h .mixed r)
 
   module _ (r : ℕ) (l : r < turfCount b) where
     -- a link of the row is of no other

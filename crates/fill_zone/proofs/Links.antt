@@ -1,7 +1,5 @@
 -- The links of a turf, as a part of the link list, are the definition's walk over them. Assumes nothing.
-use Prim.Native.Nat.{ℕ, zero, suc, _+_, _-_, _≤_, _<_}
-use native.Mathlib.Omega.{arith}
-use native.Mathlib.Nat.{add-zero}
+use Prim.Native.Nat.{ℕ, _+_, _-_, _≤_, _<_}
 use mathlib.Core.Path.{_≡_, refl, ap, _∙_, sym}
 use mathlib.Core.List.{List, [], _∷_, _++_, append-nil, append-assoc}
 use mathlib.Core.Bool.{Bool, true, false, not, _&&_, _||_, cond}
@@ -10,12 +8,13 @@ use lib.ListN.{length, getD, set}
 use Rattle.basics.specs.Loops.{run, upFrom, snoc}
 use Rattle.basics.proofs.Loops.{All-imp, run-both}
 use Rattle.basics.proofs.Lists.{upFrom-below}
+use Rattle.basics.proofs.Parts.{part, part-at}
+use Rattle.basics.proofs.Parts as lists
 use Rattle.turfs.specs.Board.{Board, linkCount, idOf, end, enabled, planetary, immutable, firelock, linksOf}
 use Rattle.events.specs.declared.Event.{Event}
 use Rattle.events.specs.declared.Event.the-variants.{DepressurizeWanted, PlanetWanted}
 use Rattle.flood_fill.specs.Fill.{Reach, insert, reachLink}
 use Rattle.flood_fill.specs.Steps.{metAt, edgeTo, mark, push, askSpace, askPlanet, discover, reachMet, reachPart}
-use Rattle.fill_zone.proofs.Boards.{part, part-length, part-at}
 
 module _ (b : Board) (z r k : ℕ) where
   abbrev a : ℕ
@@ -49,21 +48,11 @@ module _ (b : Board) (z r k : ℕ) where
       go false true = ap (same (s .queue) true) (sym (append-nil (s .events)))
       go false false = ap (same (s .queue) false) (sym (append-nil (s .events)))
 
-run-shift : {S : Type 0} (f : ℕ → S → S) (from j m : ℕ) (s : S) → run (λ i t. f (from + i) t) (upFrom j m) s ≡ run f (upFrom (from + j) m) s
-unfolding run upFrom
-run-shift f from j zero s = refl
-run-shift f from j (suc m) s = run-shift f from (suc j) m (f (from + j) s) ∙ ap (λ (k : ℕ). run f (upFrom k m) (f (from + j) s)) (omega arith)
-
 -- a walk over a part by its places is a walk over the list by its own
 pub part-run : {S : Type 0} (f : ℕ → ℕ → S → S) (l : List ℕ) (from to : ℕ) → from ≤ to → to ≤ length l → (s : S)
     → run (λ i t. f (from + i) (getD (part l from to) i 0) t) (upFrom 0 (length (part l from to))) s ≡ run (λ k t. f k (getD l k 0) t) (upFrom from (to - from)) s
-part-run {S} f l from to h k s =
-    rw (part-length l from to h k)
-    (run-both (λ i. i < to - from) (λ u v. u ≡ v) (λ i t. f (from + i) (getD (part l from to) i 0) t) (λ i t. f (from + i) (getD l (from + i) 0) t)
-    (λ i u v q e. rw (part-at l from to i q) (ap (f (from + i) (getD l (from + i) 0)) e)) (upFrom 0 (to - from)) s s
-    (All-imp (λ i. i < 0 + (to - from)) (λ i. i < to - from) (upFrom 0 (to - from)) (λ i q. omega arith) (upFrom-below 0 (to - from))) refl
-    ∙ run-shift (λ j t. f j (getD l j 0) t) from 0 (to - from) s
-    ∙ ap (λ (j : ℕ). run (λ i t. f i (getD l i 0) t) (upFrom j (to - from)) s) (add-zero from))
+part-run f l from to h k s =
+    lists.part-run (λ i t. f (from + i) (getD (part l from to) i 0) t) (λ j t. f j (getD l j 0) t) l from to h k (λ i q t. ap (λ (x : ℕ). f (from + i) x t) (part-at l from to i q)) s
 
 -- the links of the turf r
 pub links-run : (b : Board) (z r from to : ℕ) → from ≡ getD (b .starts) r 0 → to ≡ getD (b .starts) (r + 1) 0 → from ≤ to → to ≤ linkCount b → (s : Reach)

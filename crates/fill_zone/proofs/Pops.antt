@@ -13,6 +13,7 @@ use Rattle.basics.specs.Loops.{run, upFrom}
 use Rattle.basics.specs.Floats.{_+f_}
 use Rattle.basics.specs.Regions.{region}
 use Rattle.basics.proofs.Loops.{All-getD}
+use Rattle.basics.proofs.Parts.{part}
 use Rattle.turfs.specs.Board.{Board, turfCount, linkCount, idOf, planetary}
 use Rattle.turfs.proofs.Accepted.{Accepted}
 use Rattle.mixture.specs.Mixture.{total}
@@ -28,7 +29,7 @@ use Rattle.flood_fill.proofs.Stores.{queue-at}
 use Rattle.flood_fill.proofs.Links.{queue-length, nodes-length}
 use Rattle.fill_zone.specs.Held.{FillView, fillIn, fillView, onFill, Floods}
 use Rattle.fill_zone.specs.declared.Flood.{Flood}
-use Rattle.fill_zone.proofs.Boards.{part, parts}
+use Rattle.fill_zone.proofs.Boards.{parts}
 use Rattle.fill_zone.proofs.Links.{links-run}
 
 -- ---- the definition's pop

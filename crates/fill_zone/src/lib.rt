@@ -145,7 +145,7 @@ fn pop(
     ensures { λ r. ⌜ (r .popped ≡ t .popped + 1) × (r .state ≡ On → r .tests ≤ allowance) ⌝ }
 {
     let popped = t.popped;
-    let row = words[flood_fill::queue_at(ids.len(), neighbours.len()) + popped];
+    let row = words[index_set::queue_at(ids.len(), neighbours.len()) + popped];
     if (allowance as usize) < t.tests + 1 {
         return ended(Going::Over, t.planet, t);
     }
@@ -203,9 +203,9 @@ fn start(
     ensures { λ r. ⌜ (r .popped ≡ 0) × ((r .tests ≡ tests) × ((r .state ≡ On) × (r .reach .used ≡ used))) ⌝ }
 {
     words[flood_fill::found_at(n, e) + row as usize] = 1;
-    words[flood_fill::queue_at(n, e)] = row;
+    words[index_set::queue_at(n, e)] = row;
     let first = flood_fill::nodes_at(n, e) + kept;
-    let places = flood_fill::places_at(n, e);
+    let places = index_set::places_at(n, e);
     index_set::insert(row, 0, first, places, words);
     let reach = Reached {
         queued: 1,

@@ -14,27 +14,23 @@ use borrow.Author.Tests.{eqb-false}
 use Rattle.basics.specs.Loops.{keep, upFrom}
 use Rattle.basics.specs.Floats.{0f}
 use Rattle.basics.proofs.Loops.{All, All-imp, All-getD, All-map, keep-all, keep-append}
-use Rattle.basics.proofs.Lists.{All-append, All-drop, map-append, upFrom-below}
-use Rattle.finalize_eq.specs.Turns.{Zone, nodesAt, Job, unfinished, jobsLeft, inOrder, pick, nextJob, order, turnOrder}
+use Rattle.basics.proofs.Lists.{All-append, All-drop, map-append, upFrom-below, replicate-at}
+use Rattle.finalize_eq.specs.Turns.{Zone, nodesAt, Job, unfinished, jobsLeft, inOrder, pick, nextJob, order, turnOrder, jobsOn}
 use Rattle.finalize_eq.proofs.Jobs.{rowsOf, rows-mine, rows-other}
 
 rows-append : (z : ℕ) (js ks : List Job) → rowsOf z (js ++ ks) ≡ rowsOf z js ++ rowsOf z ks
 unfolding rowsOf
 rows-append z js ks = ap (map (λ j. j .row)) (keep-append (λ j. eqb (j .zone) z) js ks) ∙ map-append (λ j. j .row) (keep (λ j. eqb (j .zone) z) js) (keep (λ j. eqb (j .zone) z) ks)
 
--- the jobs that one zone makes
-abbrev jobsOf : ℕ → List ℕ → List Job
-jobsOf y rs = map (λ r. record { zone = y; row = r }) rs
-
-mine : (z y : ℕ) (rs : List ℕ) → y ≡ z → rowsOf z (jobsOf y rs) ≡ rs
+mine : (z y : ℕ) (rs : List ℕ) → y ≡ z → rowsOf z (jobsOn y rs) ≡ rs
 unfolding rowsOf keep
 mine z y [] e = refl
-mine z y (r ∷ rs) e = rows-mine z (record { zone = y; row = r }) (jobsOf y rs) e ∙ ap (λ (x : List ℕ). r ∷ x) (mine z y rs e)
+mine z y (r ∷ rs) e = rows-mine z (record { zone = y; row = r }) (jobsOn y rs) e ∙ ap (λ (x : List ℕ). r ∷ x) (mine z y rs e)
 
-others : (z y : ℕ) (rs : List ℕ) → y ≢ z → rowsOf z (jobsOf y rs) ≡ []
+others : (z y : ℕ) (rs : List ℕ) → y ≢ z → rowsOf z (jobsOn y rs) ≡ []
 unfolding rowsOf keep
 others z y [] e = refl
-others z y (r ∷ rs) e = rows-other z (record { zone = y; row = r }) (jobsOf y rs) e ∙ others z y rs e
+others z y (r ∷ rs) e = rows-other z (record { zone = y; row = r }) (jobsOn y rs) e ∙ others z y rs e
 
 module _ (zones : List Zone) where
   abbrev left : List ℕ → ℕ → List ℕ
@@ -157,12 +153,7 @@ module _ (zones : List Zone) where
         go ih false e = (All-getD (P y) (nodesAt zones y) (getD next y 0) 0 (nodes-in y) (picked next c e .0), ih (bumped next y))
 
   start-next : (z : ℕ) → _≡_ {A = ℕ} (getD (replicate (length zones) 0) z 0) 0
-  start-next z = go (length zones) z
-    where
-      go : (n z : ℕ) → _≡_ {A = ℕ} (getD (replicate n 0) z 0) 0
-      go zero z = refl
-      go (suc n) zero = refl
-      go (suc n) (suc z) = go n z
+  start-next z = replicate-at (length zones) z 0
 
   pub turn-rows : (turns : List ℕ) (z : ℕ) → rowsOf z (turnOrder zones turns) ≡ nodesAt zones z
   unfolding turnOrder

@@ -13,8 +13,9 @@ use lib.Seq.{getD-set-same, getD-set-other, set-out}
 use lib.Ieee.{Float, nan, lt}
 use Rattle.basics.specs.Loops.{run, keep, every, member}
 use Rattle.basics.specs.Floats.{0f}
-use Rattle.basics.proofs.Loops.{All, All-any, All-imp, All-map, run-keeps, run-both, run-keep, run-map, every-all}
+use Rattle.basics.proofs.Loops.{All, All-any, All-imp, All-map, run-keeps, run-both, run-keep, run-map, every-all, cond-both}
 use Rattle.basics.proofs.Lists.{All-keep, members, member-has, or-left, or-right, or-cases, all-every, keep-none}
+use Rattle.basics.proofs.Tests.{not-of}
 use Rattle.turfs.specs.Board.{Board, end, linksOf}
 use Rattle.turfs.proofs.Accepted.{Accepted, source, sources}
 use Rattle.mixture.specs.Mixture.{total}
@@ -100,6 +101,21 @@ save-here (j ∷ ks) w l k e m = go (or-cases (eqb k j) (member k ks) m) (λ n. 
             List·getD-eq-default (set l j (getD w j nan)) nan {n = k} (omega (arith, q, length-set l j (getD w j nan)))
             ∙ sym (List·getD-eq-default w nan {n = k} (omega (arith, q, e)))
 
+-- what a send keeps, the givers and an edge keep where what finishes a giver does
+module _ (b : Board) (owner : List ℕ) (z : ℕ) (Q : Held → Type 0) (sends : (r k : ℕ) (x : Float) (g : Held) → Q g → Q (sendHeld b owner z r k x g)) (f : ℕ → Held → Held) (i : (a : ℕ) (h : Held) → Q h → Q (f a h)) where
+  pub givers-keep : (r : ℕ) (h : Held) → Q h → Q (giversHeld b owner z f r h)
+  unfolding giversHeld
+  givers-keep r h q = run-keeps (λ j. Unit {0}) Q _ (λ j g u e. cond-both Q (lt (getD (g .lifted) j nan) 0f) (f (end b j) g) g (i (end b j) g e) e)
+      (edgesOf b owner z r) h (All-any _ (λ j. tt) (edgesOf b owner z r)) q
+
+  pub pair-keeps : (r k : ℕ) (h : Held) → Q h → Q (pairHeld b owner z f r k h)
+  unfolding pairHeld
+  pair-keeps r k h q =
+      let x = getD (h .lifted) k nan in
+      let t = lt (total b (h .done .gas) r) x in
+      let g = cond t (giversHeld b owner z f r h) h in
+      cond-both Q (above x) (sendHeld b owner z r k x g) h (sends r k x g (cond-both Q t (giversHeld b owner z f r h) h (givers-keep r h q) q)) q
+
 -- ---- the theorem
 
 -- a link leaves one turf
@@ -117,10 +133,6 @@ module _ (b : Board) (owner : List ℕ) (z : ℕ) (src : ℕ → ℕ) (srcs : (r
   no-false true h = absurd h
   no-false false h = refl
 
-  false-no : (t : Bool) → t ≡ false → T (not t)
-  false-no true h = absurd (subst (λ (c : Bool). T (not c)) (sym h) tt)
-  false-no false h = tt
-
   pub quiet-is : (r : ℕ) (w : List Float) → T (quiet b owner z r w) → Quiet r w
   unfolding quiet
   quiet-is r w t k m = no-false (above (getD w k nan))
@@ -129,7 +141,7 @@ module _ (b : Board) (owner : List ℕ) (z : ℕ) (src : ℕ → ℕ) (srcs : (r
   pub is-quiet : (r : ℕ) (w : List Float) → Quiet r w → T (quiet b owner z r w)
   unfolding quiet
   is-quiet r w h = all-every (λ j. not (above (getD w j nan))) (edgesOf b owner z r)
-      (All-imp (λ j. Mine r j) (λ j. T (not (above (getD w j nan)))) (edgesOf b owner z r) (λ j m. false-no (above (getD w j nan)) (h j m)) (members (edgesOf b owner z r)))
+      (All-imp (λ j. Mine r j) (λ j. T (not (above (getD w j nan)))) (edgesOf b owner z r) (λ j m. not-of (above (getD w j nan)) (h j m)) (members (edgesOf b owner z r)))
 
   -- the weights went down from w₀, and the link K has the lifted weight c
   pub record Holds (K : ℕ) (w₀ : List Float) (c : Float) (h : Held) : Type 0 where
@@ -141,23 +153,9 @@ module _ (b : Board) (owner : List ℕ) (z : ℕ) (src : ℕ → ℕ) (srcs : (r
     abbrev H : Held → Type 0
     H h = Holds K w₀ c h
 
-    cond-holds : (t : Bool) (g h : Held) → H g → H h → H (cond t g h)
-    cond-holds true g h a d = a
-    cond-holds false g h a d = d
-
-    givers-hold : (f : ℕ → Held → Held) → ((a : ℕ) (h : Held) → H h → H (f a h)) → (r : ℕ) (h : Held) → H h → H (giversHeld b owner z f r h)
-    unfolding giversHeld
-    givers-hold f i r h q = run-keeps (λ j. Unit {0}) H _ (λ j g u e. cond-holds (lt (getD (g .lifted) j nan) 0f) (f (end b j) g) g (i (end b j) g e) e)
-        (edgesOf b owner z r) h (All-any _ (λ j. tt) (edgesOf b owner z r)) q
-
-    pair-holds : (f : ℕ → Held → Held) → ((a : ℕ) (h : Held) → H h → H (f a h)) → (r k : ℕ) (h : Held) → H h → H (pairHeld b owner z f r k h)
-    unfolding pairHeld send
-    pair-holds f i r k h q =
-        let x = getD (h .lifted) k nan in
-        let g = cond (lt (total b (h .done .gas) r) x) (giversHeld b owner z f r h) h in
-        let e : H g = cond-holds (lt (total b (h .done .gas) r) x) (giversHeld b owner z f r h) h (givers-hold f i r h q) q in
-        cond-holds (above x) (sendHeld b owner z r k x g) h
-        (record { below = alter-below (edge b owner z (end b k) r) (g .done .weight) w₀ (e .below); kept = e .kept }) q
+    send-holds : (r k : ℕ) (x : Float) (g : Held) → H g → H (sendHeld b owner z r k x g)
+    unfolding send
+    send-holds r k x g e = record { below = alter-below (edge b owner z (end b k) r) (g .done .weight) w₀ (e .below); kept = e .kept }
 
     pub finish-holds : (n r : ℕ) (h : Held) → H h → H (finishHeld b owner z n r h)
     unfolding finishHeld
@@ -174,7 +172,7 @@ module _ (b : Board) (owner : List ℕ) (z : ℕ) (src : ℕ → ℕ) (srcs : (r
             → H (cond t (record { done = cleared b owner z r (h .done); lifted = h .lifted })
             (run (pairHeld b owner z (λ a g. finishHeld b owner z n a g) r) es (record { done = cleared b owner z r (h .done); lifted = save es (h .done .weight) (h .lifted) })))
         go true e ih = record { below = lift-below es (h .done .weight) w₀ (q .below); kept = q .kept }
-        go false e ih = run-keeps (λ k. Unit {0}) H (pairHeld b owner z (λ a g. finishHeld b owner z n a g) r) (λ k g u i. pair-holds (λ a g′. finishHeld b owner z n a g′) ih r k g i) es _
+        go false e ih = run-keeps (λ k. Unit {0}) H (pairHeld b owner z (λ a g. finishHeld b owner z n a g) r) (λ k g u i. pair-keeps b owner z H send-holds (λ a g′. finishHeld b owner z n a g′) ih r k g i) es _
             (All-any _ (λ k. tt) es) (record { below = lift-below es (h .done .weight) w₀ (q .below); kept = save-other es (h .done .weight) (h .lifted) K (loud e) ∙ q .kept })
 
   -- ---- sizes
@@ -182,24 +180,13 @@ module _ (b : Board) (owner : List ℕ) (z : ℕ) (src : ℕ → ℕ) (srcs : (r
   abbrev Sized : ℕ → Held → Type 0
   Sized e h = (length (h .lifted) ≡ e) × (length (h .done .weight) ≡ e)
 
-  cond-sized : (e : ℕ) (t : Bool) (g h : Held) → Sized e g → Sized e h → Sized e (cond t g h)
-  cond-sized e true g h a d = a
-  cond-sized e false g h a d = d
-
   save-size : (ks : List ℕ) (w l : List Float) (e : ℕ) → length l ≡ e → length (save ks w l) ≡ e
   unfolding save
   save-size ks w l e h = run-keeps (λ k. Unit {0}) (λ v. length v ≡ e) (λ k v. set v k (getD w k nan)) (λ k v u i. length-set v k (getD w k nan) ∙ i) ks l (All-any _ (λ k. tt) ks) h
 
-  pair-sized : (e : ℕ) (f : ℕ → Held → Held) → ((a : ℕ) (h : Held) → Sized e h → Sized e (f a h)) → (r k : ℕ) (h : Held) → Sized e h → Sized e (pairHeld b owner z f r k h)
-  unfolding pairHeld send giversHeld
-  pair-sized e f i r k h q =
-      let x = getD (h .lifted) k nan in
-      let gs = run (λ j g. cond (lt (getD (g .lifted) j nan) 0f) (f (end b j) g) g) (edgesOf b owner z r) h in
-      let g = cond (lt (total b (h .done .gas) r) x) gs h in
-      let s : Sized e g = cond-sized e (lt (total b (h .done .gas) r) x) gs h
-      (run-keeps (λ j. Unit {0}) (Sized e) (λ j u. cond (lt (getD (u .lifted) j nan) 0f) (f (end b j) u) u)
-      (λ j u v w. cond-sized e (lt (getD (u .lifted) j nan) 0f) (f (end b j) u) u (i (end b j) u w) w) (edgesOf b owner z r) h (All-any _ (λ j. tt) (edgesOf b owner z r)) q) q in
-      cond-sized e (above x) (sendHeld b owner z r k x g) h (s .0, alter-size (edge b owner z (end b k) r) (λ x. 0f) (g .done .weight) ∙ s .1) q
+  send-sized : (e r k : ℕ) (x : Float) (g : Held) → Sized e g → Sized e (sendHeld b owner z r k x g)
+  unfolding send
+  send-sized e r k x g s = (s .0, alter-size (edge b owner z (end b k) r) (λ y. 0f) (g .done .weight) ∙ s .1)
 
   finish-sized : (e n r : ℕ) (h : Held) → Sized e h → Sized e (finishHeld b owner z n r h)
   unfolding finishHeld
@@ -207,9 +194,9 @@ module _ (b : Board) (owner : List ℕ) (z : ℕ) (src : ℕ → ℕ) (srcs : (r
   finish-sized e (suc n) r h q =
       let es = edgesOf b owner z r in
       let up : Held = record { done = cleared b owner z r (h .done); lifted = save es (h .done .weight) (h .lifted) } in
-      cond-sized e (quiet b owner z r (h .done .weight)) (record { done = cleared b owner z r (h .done); lifted = h .lifted }) (run (pairHeld b owner z (λ a g. finishHeld b owner z n a g) r) es up)
+      cond-both (Sized e) (quiet b owner z r (h .done .weight)) (record { done = cleared b owner z r (h .done); lifted = h .lifted }) (run (pairHeld b owner z (λ a g. finishHeld b owner z n a g) r) es up)
       (q .0, lift-size es (h .done .weight) ∙ q .1)
-      (run-keeps (λ k. Unit {0}) (Sized e) (pairHeld b owner z (λ a g. finishHeld b owner z n a g) r) (λ k g u i. pair-sized e (λ a g′. finishHeld b owner z n a g′) (λ a g′ j. finish-sized e n a g′ j) r k g i)
+      (run-keeps (λ k. Unit {0}) (Sized e) (pairHeld b owner z (λ a g. finishHeld b owner z n a g) r) (λ k g u i. pair-keeps b owner z (Sized e) (send-sized e) (λ a g′. finishHeld b owner z n a g′) (λ a g′ j. finish-sized e n a g′ j) r k g i)
       es up (All-any _ (λ k. tt) es) (save-size es (h .done .weight) (h .lifted) e (q .0), lift-size es (h .done .weight) ∙ q .1))
 
   -- ---- the two agree

@@ -32,6 +32,10 @@ pub record Job : Type 0 where
   pub zone : ℕ
   pub row : ℕ
 
+-- the jobs of zone z on these rows
+abbrev pub jobsOn : ℕ → List ℕ → List Job
+jobsOn z rs = map (λ r. record { zone = z; row = r }) rs
+
 -- Which jobs a list of turns makes turns on the zones and the turns alone. `next` has by zone how many of its nodes had their turn.
 module _ (zones : List Zone) where
   -- the unfinished zones, ascending
@@ -40,7 +44,7 @@ module _ (zones : List Zone) where
 
   -- the jobs of zone z that are left
   unfoldable pub jobsLeft : List ℕ → ℕ → List Job
-  jobsLeft next z = map (λ r. record { zone = z; row = r }) (drop (getD next z 0) (nodesAt zones z))
+  jobsLeft next z = jobsOn z (drop (getD next z 0) (nodesAt zones z))
 
   -- a used-up list: the lowest unfinished zone, until none is left
   unfoldable pub inOrder : List ℕ → List ℕ → List Job

@@ -2,7 +2,7 @@
 use mathlib.Core.Path.{_≡_, refl, ap, ap₂, _∙_, sym, subst}
 use mathlib.Core.List.{List}
 use mathlib.Core.Bool.{Bool, true, false, not, cond}
-use Prim.Native.Nat.{ℕ, _+_, _-_, _*_, _≤_, _<_}
+use Prim.Native.Nat.{ℕ, _+_, _-_, _≤_, _<_}
 use native.Mathlib.Omega.{arith}
 use native.Mathlib.Decide.{ℕ-discrete}
 use lib.Dec.{T, eqb}
@@ -16,8 +16,6 @@ use Rattle.basics.specs.declared.Spot.the-variants.{At, Nowhere}
 use Rattle.basics.proofs.Loops.{Found}
 use Rattle.turfs.specs.Board.{Board, mixOf}
 use Rattle.mixture.specs.Mixture.{moveAir}
-use Rattle.mixture.specs.Moves.{Holds}
-use Rattle.mixture.proofs.Moves.{before}
 use Rattle.events.specs.Events.{kindOf, encode, sizeOf}
 use Rattle.events.specs.declared.Event.the-variants.{Pressure}
 use Rattle.events.proofs.Sizes.{encode-size}
@@ -25,10 +23,6 @@ use Rattle.plan_state.specs.Steps.{ownedBy, backLink}
 use Rattle.plan_state.proofs.Weights.{found-more}
 use Rattle.finalize_eq.proofs.Weights.{above}
 use Rattle.finish_send.specs.Sending.{Next, saveAt, zeroAt, shared}
-
--- a mixture of the list
-pub holds-mix : (gas : List Float) (m g i : ℕ) → length gas ≡ m * g → i < m → Holds gas g i
-holds-mix gas m g i e h = subst (λ (k : ℕ). i * g + g ≤ k) (sym e) (before g h)
 
 -- the reverse of a link is one of the links
 pub back-below : (e k z : ℕ) (w : List ℕ) → k < e → getD w (e + k) 0 ≤ e → Found (λ j. j < e) (backLink (take e (drop e w)) (take e w) z k)

@@ -12,21 +12,22 @@ use Rattle.basics.specs.Loops.{run, upFrom}
 use Rattle.basics.specs.Floats.{0f}
 use Rattle.basics.proofs.Lists.{one, count}
 use Rattle.basics.proofs.Tests.{both, differ}
+use Rattle.basics.proofs.Loops.{up-cons}
 use Rattle.turfs.specs.Board.{Board, turfCount, linkCount, mixtureCount, mixOf, end}
 use Rattle.turfs.proofs.Accepted.{Accepted}
 use Rattle.mixture.specs.Mixture.{total}
 use Rattle.mixture.specs.Moves.{Holds}
+use Rattle.mixture.proofs.Parts.{holds-of}
 use Rattle.reverse_links.specs.Reverse.{InRow}
 use Rattle.process_zone.specs.Edges.{owned}
+use Rattle.process_zone.proofs.Sizes.{alter-size}
 use Rattle.plan_state.specs.Steps.{backLink}
-use Rattle.plan_state.proofs.Weights.{alter-length}
 use Rattle.plan_state.proofs.Links.{reverse-within}
 use Rattle.finalize_eq.proofs.Weights.{above, pending, alter-less}
 use Rattle.finalize_eq.proofs.Slices.{Held, sendHeld, giversHeld}
 use Rattle.finish_send.specs.Areas.{Areas, ownerIn, reverseIn, liftedAt, weightIn, liftedIn, Shows, Ready, Kept}
 use Rattle.finish_send.specs.Sending.{marks, Next, SendFits, Sends, pairAs, toSend, Going, Progress, SentTo}
-use Rattle.finish_send.proofs.Edge.{holds-mix}
-use Rattle.finish_send.proofs.Ranges.{up-cons, run-parts, run-last, run-none, run-idle}
+use Rattle.finish_send.proofs.Ranges.{run-parts, run-last, run-none, run-idle}
 use Rattle.finish_send.proofs.Shown.{owner-at, reverse-at, lifted-at, kept-none, kept-then, sent-kept, sent-lifted, sent-weight, sent-used, sent-shows}
 
 -- ---- how many pass
@@ -171,7 +172,7 @@ module _ (b : Board) (words : List ℕ) (stop : Bool) (z r : ℕ) where
 
 pub sent-size : {r k to z used used′ : ℕ} {x : Float} {ids mixtures immutable words : List ℕ} {gases e : ℕ} {gas gas′ floats floats′ : List Float} {bytes bytes′ : List ℕ}
     → Sends r k to z used used′ x ids mixtures immutable words gases e gas gas′ floats floats′ bytes bytes′ → length floats′ ≡ length floats
-sent-size {k = k} {z = z} {words = words} {e = e} {floats = floats} s = ap length (s .weights) ∙ alter-length (backLink (reverseIn e words) (ownerIn e words) z k) (λ y. 0f) floats
+sent-size {k = k} {z = z} {words = words} {e = e} {floats = floats} s = ap length (s .weights) ∙ alter-size (backLink (reverseIn e words) (ownerIn e words) z k) (λ y. 0f) floats
 
 -- ---- the loop, whose lifted weights start at `up`
 
@@ -195,7 +196,7 @@ module _ (b : Board) (words : List ℕ) (stop : Bool) (z r up from to : ℕ) (a 
   edge-room k f q l = let e = within in (g .zone, (l, (omega (arith, g .ready .words), omega (arith, u, g .ready .floats, q))))
 
   pub short-room : (a′ : Areas) → Kept b a a′ → (r < length (b .mixtures)) × Holds (a′ .gas) (b .gases) (mixOf b r)
-  short-room a′ q = (omega (arith, g .ready .board .mixes, g .row), holds-mix (a′ .gas) (mixtureCount b) (b .gases) (mixOf b r) (q .gas ∙ g .ready .board .fits) (g .ready .board .mixed r))
+  short-room a′ q = (omega (arith, g .ready .board .mixes, g .row), holds-of (a′ .gas) (mixtureCount b) (b .gases) (mixOf b r) (q .gas ∙ g .ready .board .fits) (g .ready .board .mixed r))
 
   found : (i k : ℕ) (a′ : Areas) → Progress b words stop z r from to i a a′ → Next (marks words (a′ .floats) z up true) i to k → Here k a′
   found i k a′ m n = record {

@@ -24,9 +24,9 @@ use Rattle.events.specs.declared.Event.the-variants.{Pressure}
 use Rattle.events.specs.declared.Event.{Event}
 use Rattle.events.proofs.Areas.{wrote-length, wrote-rest, adds-one, adds-adds}
 use Rattle.process_zone.specs.Edges.{alter}
+use Rattle.process_zone.proofs.Sizes.{alter-size}
 use Rattle.reverse_links.specs.Reverse.{InRow}
 use Rattle.plan_state.specs.Steps.{backLink}
-use Rattle.plan_state.proofs.Weights.{alter-length}
 use Rattle.plan_state.proofs.Links.{edge-back, reverse-within}
 use Rattle.finalize_eq.specs.Finish.{send}
 use Rattle.finalize_eq.proofs.Slices.{Held, sendHeld}
@@ -129,7 +129,7 @@ module _ (b : Board) (words : List ℕ) (z r k : ℕ) (a a′ : Areas) (ready : 
   pub sent-kept : Kept b a a′
   sent-kept = record {
     gas = ap length (s .air b refl refl refl) ∙ shared-fits b r (end b k) x (a .gas) (ready .board .fits) (ready .board .mixed r) (ready .board .mixed (end b k));
-    floats = ap length (s .weights) ∙ alter-length back (λ y. 0f) (a .floats);
+    floats = ap length (s .weights) ∙ alter-size back (λ y. 0f) (a .floats);
     bytes = wrote-length (s .event);
     rest = altered-others b back (a .floats) (a′ .floats) back-in (s .weights);
     grown = omega (arith, s .event .end);

@@ -5,6 +5,7 @@ use Prim.Native.Nat.{ℕ, _+_, _≤_}
 use native.Mathlib.Omega.{arith}
 use lib.ListN.{length, drop}
 use lib.Ieee.{Float}
+use Rattle.basics.proofs.Parts.{drop-later}
 use Rattle.turfs.specs.Board.{Board, turfCount, linkCount}
 use Rattle.turfs.proofs.Accepted.{Accepted}
 use Rattle.events.specs.Events.{encodeAll}
@@ -18,7 +19,6 @@ use Rattle.finish_send.specs.Areas.{Areas, Written, Ready, ownerIn, reverseIn, 
 use Rattle.finish_send.proofs.Shown.{holds-written}
 use Rattle.finish_turf.proofs.Lean.{lean, accepted-lean, reverses-lean, finish-all-lean}
 use Rattle.finish_turns.specs.Turning.{cursorAt, Same, FinishesAll}
-use Rattle.finish_turns.proofs.Alike.{drop-later}
 
 -- events held past those that were held, over the same lent area
 pub holds-later : {es es′ : List Event} {used used′ : ℕ} {lent area area′ : List ℕ} → Holds es used lent area → used ≤ used′ → length area′ ≡ length area → drop used′ area′ ≡ drop used′ area

@@ -1,7 +1,6 @@
 -- One link of a turf, then its links one after the other. A link that the turf has not taken yet has no owner. Assumes nothing.
-use Prim.Native.Nat.{ℕ, zero, suc, _+_, _*_, _≤_, _<_}
+use Prim.Native.Nat.{ℕ, _+_, _*_, _≤_, _<_}
 use native.Mathlib.Omega.{arith}
-use native.Mathlib.Numerals.{add-one}
 use native.Mathlib.Nat.{zero-add}
 use mathlib.Core.Path.{_≡_, refl, ap, ap₂, _∙_, sym, subst}
 use mathlib.Core.Logic.{_≢_}
@@ -14,6 +13,7 @@ use borrow.Author.Tests.{eq-eqb, ne-eqb}
 use Rattle.basics.specs.Loops.{run, upFrom}
 use Rattle.basics.specs.Regions.{cut, region}
 use Rattle.basics.proofs.Lists.{one}
+use Rattle.basics.proofs.Loops.{run-suc}
 use Rattle.events.specs.declared.Event.{Event}
 use Rattle.events.proofs.Areas.{wrote-length}
 use Rattle.flood_fill.specs.Fill.{Reach}
@@ -142,14 +142,9 @@ part-step flags planetary mixtures linkFlags immutable near from z id i m e r = 
 
 -- ---- one link after the other
 
--- the last of the numbers a, a + 1, ..
-run-suc : {S : Type 0} (f : ℕ → S → S) (a n : ℕ) (s : S) → run f (upFrom a (suc n)) s ≡ f (a + n) (run f (upFrom a n) s)
-unfolding run upFrom
-run-suc f a zero s = ap (λ (k : ℕ). f k s) (omega arith)
-run-suc f a (suc n) s = run-suc f (suc a) n (f a s) ∙ ap (λ (k : ℕ). f k (run f (upFrom (suc a) n) (f a s))) (omega arith)
-
+-- the last of the numbers 0, 1, ..
 pub run-last : {S : Type 0} (f : ℕ → S → S) (n : ℕ) (s : S) → run f (upFrom 0 (n + 1)) s ≡ f n (run f (upFrom 0 n) s)
-run-last f n s = ap (λ (k : ℕ). run f (upFrom 0 k) s) (add-one n) ∙ run-suc f 0 n s ∙ ap (λ (k : ℕ). f k (run f (upFrom 0 n) s)) (zero-add n)
+run-last f n s = run-suc f 0 n s ∙ ap (λ (k : ℕ). f k (run f (upFrom 0 n) s)) (zero-add n)
 
 -- i of `count` links are walked: those that are left have no owner
 pub record Walked (n e z kept : ℕ) (f : ℕ → Reach → Reach) (from count i : ℕ) (s s′ : Reached) (w w′ area area′ : List ℕ) : Type 0 where

@@ -12,6 +12,7 @@ use lib.Ieee.{Float}
 use borrow.Author.Tests.{ltb-true, ltb-false, le-ltb}
 use Rattle.basics.specs.Loops.{run, snoc}
 use Rattle.basics.proofs.Loops.{All, All-any, run-keeps, times-keeps, times-rests}
+use Rattle.basics.proofs.Tests.{and-false}
 use Rattle.turfs.specs.Board.{Board, turfCount, end, enabled, planetary, linksOf}
 use Rattle.events.specs.declared.Event.{Event}
 use Rattle.events.proofs.Compared.{isRequest}
@@ -160,12 +161,8 @@ module _ (b : Board) (gas : List Float) (limit allowance z : ℕ) where
     unfolding fill
     fill-rests ends l i h = go (times-rests next going (λ s. s .popped) still (λ s e. ap (λ (t : Fill). t .popped) (next-pops s e) ∙ pop-one (row s) s .0) (turfCount b) (startFill r found owner events tests))
       where
-        and-no : (t u : Bool) → u ≡ false → t && u ≡ false
-        and-no true u e = e
-        and-no false u e = refl
-
         go : (going filled ≡ false) ⊎ (filled .popped ≡ 0 + turfCount b) → going filled ≡ false
         go (inl e) = e
         go (inr e) =
             let q : length (filled .reach .queue) ≤ turfCount b = queue-short b ends gas limit allowance z r found owner events tests l i h in
-            and-no (isOn (filled .state)) (ltb (filled .popped) (length (filled .reach .queue))) (le-ltb (filled .popped) (length (filled .reach .queue)) (omega (arith, e, q)))
+            ap (λ (t : Bool). isOn (filled .state) && t) (le-ltb (filled .popped) (length (filled .reach .queue)) (omega (arith, e, q))) ∙ and-false (isOn (filled .state))

@@ -1,7 +1,7 @@
 -- A fill is steps over links: what every link of a turf that stands in the queue keeps, a fill keeps. Assumes nothing.
 use mathlib.Core.Path.{_≡_, refl, sym, subst}
 use mathlib.Core.List.{List, [], _∷_}
-use mathlib.Core.Bool.{Bool, true, false, _&&_, _||_, cond}
+use mathlib.Core.Bool.{Bool, true, false, not, _&&_, _||_, cond}
 use Prim.Native.Nat.{ℕ, _+_}
 use lib.Dec.{T, eqb, ltb, ltb→lt}
 use lib.ListN.{length, getD, set}
@@ -10,7 +10,7 @@ use Rattle.basics.specs.Loops.{run, member, snoc}
 use Rattle.basics.specs.Floats.{0f}
 use Rattle.basics.proofs.Loops.{All-getD, run-keeps, times-keeps, cond-both, and-right}
 use Rattle.basics.proofs.Lists.{members, member-front}
-use Rattle.turfs.specs.Board.{Board, turfCount, end, enabled, planetary, linksOf}
+use Rattle.turfs.specs.Board.{Board, turfCount, end, enabled, planetary, immutable, linksOf}
 use Rattle.events.specs.declared.Event.{Event}
 use Rattle.flood_fill.specs.Fill.{Reach, Fill, isOn, reachLink, expand, endFill, pop, popNext, fill}
 use Rattle.flood_fill.specs.declared.Going.the-variants.{On, Broken, Over}
@@ -67,3 +67,8 @@ module _ (b : Board) (z : ℕ) where
       pub fill-keeps : (r : ℕ) (found owner : List ℕ) (events : List Event) (tests : ℕ) → Q (startReach r found owner events) → Q (fill b gas limit allowance z r found owner events tests .reach)
       unfolding fill
       fill-keeps r found owner events tests q = times-keeps (λ s. Q (s .reach)) (popNext b gas limit allowance z) pop-keeps (turfCount b) (startFill r found owner events tests) q
+
+-- the mark of a turf's mixture, read off the tables
+pub marked-immutable : (mixtures marks : List ℕ) (row : ℕ) {r : Bool} → ((b : Board) → b .mixtures ≡ mixtures → b .immutable ≡ marks → r ≡ immutable b row) → r ≡ not (eqb (getD marks (getD mixtures row 0) 0) 0)
+unfolding immutable
+marked-immutable mixtures marks row h = h (record { ids = []; flags = []; planetary = []; mixtures = mixtures; starts = []; neighbours = []; linkFlags = []; immutable = marks; gases = 0 }) refl refl

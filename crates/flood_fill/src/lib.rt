@@ -11,7 +11,7 @@ ghost use lib.ListN.{length, getD};
 ghost use Rattle.basics.specs.Loops.{run, upFrom};
 ghost use Rattle.turfs.specs.Board.{lockBit};
 ghost use Rattle.flood_fill.specs.Steps.{metAt, Rows, edgeTo, push, askSpace, askPlanet, discover, reachMet, reachPart};
-ghost use Rattle.flood_fill.specs.Held.{queueAt, placesAt, foundAt, startsAt, nodesAt, Sizes, view, Fit, Bounded, Part, Moves, Asks, Discovers, Reaches};
+ghost use Rattle.flood_fill.specs.Held.{foundAt, startsAt, nodesAt, Sizes, view, Fit, Bounded, Part, Moves, Asks, Discovers, Reaches};
 
 // How a fill stands: it goes on, it broke off at the planet limit, or the clock ran out.
 pub enum Going {
@@ -37,20 +37,6 @@ pub struct Met {
 }
 
 // Where the arrays start that a fill works with, of n turfs and e links.
-pub fn queue_at(n: usize, e: usize) -> usize
-    requires { ⌜ Sizes n e ⌝ }
-    ensures { λ r. ⌜ r ≡ queueAt n e ⌝ }
-{
-    e + e + n + n + n
-}
-
-pub fn places_at(n: usize, e: usize) -> usize
-    requires { ⌜ Sizes n e ⌝ }
-    ensures { λ r. ⌜ r ≡ placesAt n e ⌝ }
-{
-    e + e + n + n + n + n
-}
-
 pub fn found_at(n: usize, e: usize) -> usize
     requires { ⌜ Sizes n e ⌝ }
     ensures { λ r. ⌜ r ≡ foundAt n e ⌝ }
@@ -70,13 +56,6 @@ pub fn nodes_at(n: usize, e: usize) -> usize
     ensures { λ r. ⌜ r ≡ nodesAt n e ⌝ }
 {
     starts_at(n, e) + n + 1
-}
-
-fn is_immutable(mixtures: &[u32], immutable: &[u8], row: usize) -> bool
-    requires { ⌜ (row < length (now mixtures)) × (getD (now mixtures) row 0 < length (now immutable)) ⌝ }
-    ensures { λ r. ⌜ r ≡ not (eqb (getD (now (immutable .entry)) (getD (now (mixtures .entry)) row 0) 0) 0) ⌝ }
-{
-    immutable[mixtures[row] as usize] != 0
 }
 
 // Whether the link k to a planetary turf is across a firelock.
@@ -108,7 +87,7 @@ fn meet(
     Met {
         row,
         on: SimulationFlags(flags[a]).enabled(),
-        space: is_immutable(mixtures, immutable, a),
+        space: turfs::is_immutable(mixtures, immutable, a),
         planet: across_firelock(planetary, link_flags, a, k),
     }
 }
@@ -132,7 +111,7 @@ fn edge_to(
     }
     words[k] = z + 1;
     let nodes = s.nodes;
-    let places = places_at(n, e);
+    let places = index_set::places_at(n, e);
     let first = nodes_at(n, e) + kept;
     if index_set::contains(m.row, nodes, n, first, places, words) {
         return s;
@@ -155,7 +134,7 @@ fn push(m: Met, s: Reached, kept: usize, n: usize, e: usize, words: &mut [u32]) 
         return s;
     }
     let queued = s.queued;
-    words[queue_at(n, e) + queued] = m.row;
+    words[index_set::queue_at(n, e) + queued] = m.row;
     Reached {
         queued: queued + 1,
         nodes: s.nodes,

@@ -7,12 +7,15 @@ use native.Mathlib.Decide.{ℕ-discrete}
 use mathlib.Core.Path.{_≡_, refl, ap, ap₂, _∙_, sym, subst}
 use mathlib.Core.Logic.{_≢_, _⊎_, inl, inr}
 use mathlib.Core.List.{List, [], _∷_, _++_}
-use mathlib.Core.Bool.{Bool, true, false, not, _||_, cond}
-use lib.Dec.{T, eqb, eqb→eq, eqb-refl}
+use mathlib.Core.Bool.{Bool, true, false, cond}
+use lib.Dec.{T, eqb, eqb→eq}
 use lib.ListN.{length, getD, set, take, drop, length-set, length-append}
 use lib.Seq.{getD-take, getD-drop, getD-set-same, getD-set-other, take-suc-set, length-take-le}
-use borrow.Author.Tests.{eq-eqb, ne-eqb, eqb-false}
-use Rattle.basics.specs.Loops.{member, keep, consIf, snoc}
+use borrow.Author.Tests.{eq-eqb}
+use Rattle.basics.specs.Loops.{member, snoc}
+use Rattle.basics.proofs.Loops.{All}
+use Rattle.basics.proofs.Lists.{or-cases, at-member}
+use Rattle.basics.proofs.Lists as lists
 use Rattle.index_set.specs.Line.{Below, Apart, Line, array, Holds}
 
 -- ---- rows below a bound
@@ -35,6 +38,22 @@ Below-drop n zero l b = b
 Below-drop n (suc k) [] b = tt
 Below-drop n (suc k) (x ∷ l) b = Below-drop n k l (b .1)
 
+-- by the place, and by the list's laws
+pub Below-of : (n : ℕ) (l : List ℕ) → ((i : ℕ) → i < length l → getD l i 0 < n) → Below n l
+unfolding Below
+Below-of n [] h = tt
+Below-of n (x ∷ l) h = (h 0 (omega arith), Below-of n l (λ i k. h (suc i) (omega arith)))
+
+pub all-below : (n : ℕ) (l : List ℕ) → All (λ x. x < n) l → Below n l
+unfolding Below
+all-below n [] h = tt
+all-below n (x ∷ l) h = (h .0, all-below n l (h .1))
+
+below-all : (n : ℕ) (l : List ℕ) → Below n l → All (λ x. x < n) l
+unfolding Below
+below-all n [] b = tt
+below-all n (x ∷ l) b = (b .0, below-all n l (b .1))
+
 -- ---- members
 
 pub agree : (s t : Bool) → (T s → T t) → (T t → T s) → s ≡ t
@@ -43,25 +62,7 @@ agree true false f g = absurd (f tt)
 agree false true f g = absurd (g tt)
 agree false false f g = refl
 
-or-right : (s t : Bool) → T t → T (s || t)
-or-right true t h = tt
-or-right false t h = h
-
-or-left : (s t : Bool) → T s → T (s || t)
-or-left true t h = tt
-or-left false t h = absurd h
-
-or-cases : (s t : Bool) → T (s || t) → T s ⊎ T t
-or-cases true t h = inl tt
-or-cases false t h = inr h
-
--- an element is a member, and a member is an element
-pub at-member : (xs : List ℕ) (i : ℕ) → i < length xs → T (member (getD xs i 0) xs)
-unfolding member
-at-member [] i h = absurd (not-suc-le-zero h)
-at-member (x ∷ xs) zero h = or-left (eqb x x) (member x xs) (eqb-refl x)
-at-member (x ∷ xs) (suc i) h = or-right (eqb (getD xs i 0) x) (member (getD xs i 0) xs) (at-member xs i (le-of-suc-le-suc h))
-
+-- a member is an element
 pub member-at : {P : Type 0} (x : ℕ) (xs : List ℕ) → T (member x xs) → ((i : ℕ) → i < length xs → getD xs i 0 ≡ x → P) → P
 unfolding member
 member-at x [] m f = absurd m
@@ -76,96 +77,26 @@ not-member x xs m i h e = subst T (ap (λ (y : ℕ). member y xs) e ∙ m) (at-m
 
 -- ---- no more different rows than rows
 
-keep-same : (n : ℕ) (xs : List ℕ) → member n xs ≡ false → keep (λ x. not (eqb x n)) xs ≡ xs
-unfolding keep member
-keep-same n [] m = refl
-keep-same n (x ∷ xs) m = go (eqb n x) refl m (keep-same n xs)
-  where
-    go : (t : Bool) → eqb n x ≡ t → t || member n xs ≡ false → (member n xs ≡ false → keep (λ y. not (eqb y n)) xs ≡ xs)
-        → consIf (not (eqb x n)) x (keep (λ y. not (eqb y n)) xs) ≡ x ∷ xs
-    go true e k r = absurd (subst T k tt)
-    go false e k r = rw (ne-eqb x n (λ i. eqb-false n x e (sym i))) (ap (λ (ys : List ℕ). x ∷ ys) (r k))
-
-one-less : (n : ℕ) (xs : List ℕ) → Apart xs → length xs ≤ length (keep (λ x. not (eqb x n)) xs) + 1
-unfolding keep Apart
-one-less n [] a = omega arith
-one-less n (x ∷ xs) a = go (ℕ-discrete x n) (one-less n xs (a .1))
-  where
-    go : Dec (x ≡ n) → length xs ≤ length (keep (λ y. not (eqb y n)) xs) + 1
-        → suc (length xs) ≤ length (consIf (not (eqb x n)) x (keep (λ y. not (eqb y n)) xs)) + 1
-    go (yes e) r = rw (eq-eqb x n e, keep-same n xs (ap (λ (y : ℕ). member y xs) (sym e) ∙ a .0)) (omega arith)
-    go (no e) r = rw (ne-eqb x n e) (omega arith)
-
-consIf-below : (n x : ℕ) (t : Bool) (ys : List ℕ) → (T t → x < n) → Below n ys → Below n (consIf t x ys)
-unfolding Below
-consIf-below n x true ys h b = (h tt, b)
-consIf-below n x false ys h b = b
-
-keep-below : (n : ℕ) (xs : List ℕ) → Below (suc n) xs → Below n (keep (λ x. not (eqb x n)) xs)
-unfolding keep Below
-keep-below n [] b = tt
-keep-below n (x ∷ xs) b = consIf-below n x (not (eqb x n)) _ (less (ℕ-discrete x n)) (keep-below n xs (b .1))
-  where
-    less : Dec (x ≡ n) → T (not (eqb x n)) → x < n
-    less (yes e) t = absurd (subst T (ap not (eq-eqb x n e)) t)
-    less (no e) t = omega (arith, b .0, e)
-
-consIf-member : (x y : ℕ) (t : Bool) (ys : List ℕ) → member x (y ∷ ys) ≡ false → member x (consIf t y ys) ≡ false
-unfolding member
-consIf-member x y true ys m = m
-consIf-member x y false ys m = go (eqb x y) m
-  where
-    go : (s : Bool) → s || member x ys ≡ false → member x ys ≡ false
-    go true k = absurd (subst T k tt)
-    go false k = k
-
-keep-member : (p : ℕ → Bool) (x : ℕ) (xs : List ℕ) → member x xs ≡ false → member x (keep p xs) ≡ false
-unfolding keep member
-keep-member p x [] m = m
-keep-member p x (y ∷ ys) m = consIf-member x y (p y) (keep p ys) (go (eqb x y) m (keep-member p x ys))
-  where
-    go : (s : Bool) → s || member x ys ≡ false → (member x ys ≡ false → member x (keep p ys) ≡ false) → s || member x (keep p ys) ≡ false
-    go true k r = absurd (subst T k tt)
-    go false k r = r k
-
-consIf-apart : (x : ℕ) (t : Bool) (ys : List ℕ) → member x ys ≡ false → Apart ys → Apart (consIf t x ys)
+-- none twice, by the list's laws
+pub apart-all : (xs : List ℕ) → Apart xs → lists.Apart xs
 unfolding Apart
-consIf-apart x true ys m a = (m, a)
-consIf-apart x false ys m a = a
+apart-all [] a = tt
+apart-all (x ∷ xs) a = (lists.not-member x xs (a .0), apart-all xs (a .1))
 
-keep-apart : (p : ℕ → Bool) (xs : List ℕ) → Apart xs → Apart (keep p xs)
-unfolding keep Apart
-keep-apart p [] a = tt
-keep-apart p (x ∷ xs) a = consIf-apart x (p x) (keep p xs) (keep-member p x xs (a .0)) (keep-apart p xs (a .1))
+pub all-apart : (xs : List ℕ) → lists.Apart xs → Apart xs
+unfolding Apart
+all-apart [] a = tt
+all-apart (x ∷ xs) a = (lists.no-member x xs (a .0), all-apart xs (a .1))
 
-pub short : (n : ℕ) (xs : List ℕ) → Below n xs → Apart xs → length xs ≤ n
-unfolding Below
-short zero [] b a = omega arith
-short zero (x ∷ xs) b a = absurd (not-suc-le-zero (b .0))
-short (suc n) xs b a =
-    omega (arith, one-less n xs a, short n (keep (λ x. not (eqb x n)) xs) (keep-below n xs b) (keep-apart (λ x. not (eqb x n)) xs a))
+short : (n : ℕ) (xs : List ℕ) → Below n xs → Apart xs → length xs ≤ n
+short n xs b a = lists.pigeonhole n xs (apart-all xs a) (below-all n xs b)
 
 -- ---- one more
 
-member-snoc : (x : ℕ) (xs : List ℕ) (y : ℕ) → member x xs ≡ false → x ≢ y → member x (snoc xs y) ≡ false
-unfolding member
-member-snoc x [] y m e = rw (ne-eqb x y e)
-member-snoc x (z ∷ zs) y m e = go (eqb x z) m (λ k. member-snoc x zs y k e)
-  where
-    go : (s : Bool) → s || member x zs ≡ false → (member x zs ≡ false → member x (snoc zs y) ≡ false) → s || member x (snoc zs y) ≡ false
-    go true k r = k
-    go false k r = r k
-
 Apart-snoc : (xs : List ℕ) (y : ℕ) → Apart xs → member y xs ≡ false → Apart (snoc xs y)
-unfolding Apart member
-Apart-snoc [] y a m = (refl, tt)
-Apart-snoc (x ∷ xs) y a m = go (eqb y x) refl m (Apart-snoc xs y (a .1))
-  where
-    go : (s : Bool) → eqb y x ≡ s → s || member y xs ≡ false → (member y xs ≡ false → Apart (snoc xs y)) → (member x (snoc xs y) ≡ false) × Apart (snoc xs y)
-    go true e k r = absurd (subst T k tt)
-    go false e k r = (member-snoc x xs y (a .0) (λ i. eqb-false y x e (sym i)), r k)
+Apart-snoc xs y a m = all-apart (snoc xs y) (lists.apart-snoc xs y (apart-all xs a) (lists.not-member y xs m))
 
-Below-snoc : (n : ℕ) (l : List ℕ) (x : ℕ) → Below n l → x < n → Below n (snoc l x)
+pub Below-snoc : (n : ℕ) (l : List ℕ) (x : ℕ) → Below n l → x < n → Below n (snoc l x)
 unfolding Below
 Below-snoc n [] x b h = (h, tt)
 Below-snoc n (y ∷ l) x b h = (b .0, Below-snoc n l x (b .1) h)

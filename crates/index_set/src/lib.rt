@@ -1,9 +1,25 @@
 // An `IndexSet` of rows in a work area: a row's place among them tells whether it is in the set.
 ghost use mathlib.Core.Path.{_≡_};
-ghost use Prim.Native.Nat.{_+_, _<_};
+ghost use Prim.Native.Nat.{_+_, _≤_, _<_};
 ghost use lib.ListN.{length, take, set};
 ghost use Rattle.basics.specs.Loops.{member};
 ghost use Rattle.index_set.specs.Line.{array, Holds};
+
+// Where the rows of the set start in the words of a whole call, of n turfs and e links.
+pub fn queue_at(n: usize, e: usize) -> usize
+    requires { ⌜ (e ≤ 24576) × (n ≤ 4096) ⌝ }
+    ensures { λ r. ⌜ r ≡ e + e + n + n + n ⌝ }
+{
+    e + e + n + n + n
+}
+
+// Where their places start.
+pub fn places_at(n: usize, e: usize) -> usize
+    requires { ⌜ (e ≤ 24576) × (n ≤ 4096) ⌝ }
+    ensures { λ r. ⌜ r ≡ e + e + n + n + n + n ⌝ }
+{
+    e + e + n + n + n + n
+}
 
 // Whether the row a is one of the `count` rows of the set.
 pub fn contains(a: u32, count: usize, n: usize, queue: usize, places: usize, words: &[u32]) -> bool

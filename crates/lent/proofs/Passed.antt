@@ -10,6 +10,7 @@ use lib.Ieee.{Float}
 use Rattle.basics.specs.Loops.{every}
 use Rattle.basics.proofs.Loops.{All, all-of}
 use Rattle.turfs.specs.Board.{Board}
+use Rattle.turfs.specs.Refuse.{linksFit}
 use Rattle.turfs.proofs.Accepted.{Accepted, accepted}
 use Rattle.mixture.specs.Mixture.{amountFits}
 use Rattle.events.specs.Events.{encodeAll}
@@ -56,6 +57,11 @@ module _ (b : Board) (l : Lent) where
         words = leb→le (wordsRoom b) (length (l .words)) (seven .1 .0);
         floats = leb→le (floatsRoom b) (length (l .floats)) (seven .1 .1 .0);
       }
+
+  -- refusal 4 is passed
+  pub links-pass : (room : ℕ) (x : Extra) → refusal b l room x ≡ 0 → T (linksFit b)
+  unfolding refusal
+  links-pass room x e = none-failed _ (omega arith) e .1 .1 .1 .0
 
   -- events that fit leave the area as long as it was
   pub area-kept : (gas : List Float) (es : List Event) → length (encodeAll es) ≤ length (l .area) → length (after b l gas es .area) ≡ length (l .area)

@@ -1,7 +1,7 @@
 -- A move of air gas by gas: the first i gases are moved and the others stand, so that a turn moves one more and the last one all. Assumes nothing.
 use Prim.Native.Nat.{ℕ, zero, suc, _+_, _-_, _*_, _≤_, _<_}
 use native.Mathlib.Omega.{arith}
-use native.Mathlib.Nat.{suc-mul, mul-le-mul-right, not-suc-le-zero, le-of-suc-le-suc}
+use native.Mathlib.Nat.{not-suc-le-zero, le-of-suc-le-suc}
 use native.Mathlib.Decide.{decLt}
 use mathlib.Core.Path.{_≡_, refl, ap, ap₂, sym, _∙_, subst}
 use mathlib.Core.Logic.{inl, inr}
@@ -16,6 +16,7 @@ use Rattle.basics.proofs.Stores.{Far, paste-far, paste-set, paste-next, paste-a
 use Rattle.turfs.specs.Board.{Board, immutableMix}
 use Rattle.mixture.specs.Mixture.{sum, scale, plus, ratio, remove, part, putPart, amounts, change, totalMix, moveAir, clearAir}
 use Rattle.mixture.specs.Moves.{Holds, setIf, moveGas}
+use Rattle.mixture.proofs.Parts.{before, plus-length}
 
 scale-at : (q : Float) (xs : List Float) (i : ℕ) → i < length xs → getD (scale q xs) i nan ≡ getD xs i nan *f q
 unfolding scale
@@ -34,22 +35,12 @@ plus-at (x ∷ xs) [] i h k = absurd (not-suc-le-zero k)
 plus-at (x ∷ xs) (y ∷ ys) zero h k = refl
 plus-at (x ∷ xs) (y ∷ ys) (suc i) h k = plus-at xs ys i (le-of-suc-le-suc h) (le-of-suc-le-suc k)
 
-plus-length : (xs ys : List Float) → length (plus xs ys) ≡ length xs
-unfolding plus
-plus-length [] ys = refl
-plus-length (x ∷ xs) [] = refl
-plus-length (x ∷ xs) (y ∷ ys) = ap suc (plus-length xs ys)
-
 module _ (w : List Float) (g m : ℕ) (h : Holds w g m) where
   held-length : length (part g m w) ≡ g
   held-length = length-take-le g (drop (m * g) w) (subst (λ (k : ℕ). g ≤ k) (sym (length-drop (m * g) w)) (omega arith))
 
   held-at : (i : ℕ) → i < g → getD (part g m w) i nan ≡ getD w (m * g + i) nan
   held-at i k = getD-take g (drop (m * g) w) i nan k ∙ getD-drop (m * g) w i nan
-
--- two mixtures are apart
-pub before : (g : ℕ) {m n : ℕ} → m < n → m * g + g ≤ n * g
-before g {m} {n} h = subst (λ (k : ℕ). k ≤ n * g) (suc-mul m g) (mul-le-mul-right g h)
 
 far : (g m n i k : ℕ) → (m ≡ n → ⊥) → i < g → k ≤ g → Far (n * g) k (m * g + i)
 far g m n i k ne hi hk = go (decLt m n) (decLt n m)

@@ -14,10 +14,15 @@ use lib.Ieee.{Float}
 use Rattle.turfs.specs.Board.{Board, mixtureCount, immutableMix}
 use Rattle.mixture.specs.Mixture.{part, putPart, scale, plus, remove, amounts, change, moveAir}
 use Rattle.mixture.specs.Worked as worked  -- checked before the laws
+use Rattle.mixture.specs.Moves.{Holds}
 
 -- the end of a mixture that comes before another
-before : (g : ℕ) {m n : ℕ} → m < n → m * g + g ≤ n * g
+pub before : (g : ℕ) {m n : ℕ} → m < n → m * g + g ≤ n * g
 before g {m} {n} h = subst (λ (k : ℕ). k ≤ n * g) (suc-mul m g) (mul-le-mul-right g h)
+
+-- a list of so many mixtures holds each of them
+pub holds-of : (gas : List Float) (count g m : ℕ) → length gas ≡ count * g → m < count → Holds gas g m
+holds-of gas count g m e h = subst (λ (k : ℕ). m * g + g ≤ k) (sym e) (before g h)
 
 module _ (g M : ℕ) (gas : List Float) (fits : length gas ≡ M * g) (m : ℕ) (new : List Float) (h : m < M) (l : length new ≡ g) where
   room : m * g + g ≤ length gas
@@ -78,7 +83,7 @@ part-length g M gas fits m h =
     let k : m * g + g ≤ M * g = before g h in
     length-take-le g (drop (m * g) gas) (subst (λ (x : ℕ). g ≤ x) (sym (length-drop (m * g) gas)) (omega arith))
 
-plus-length : (xs ys : List Float) → length (plus xs ys) ≡ length xs
+pub plus-length : (xs ys : List Float) → length (plus xs ys) ≡ length xs
 unfolding plus
 plus-length [] ys = refl
 plus-length (x ∷ xs) [] = refl

@@ -4,34 +4,30 @@ use Prim.Native.Nat.{ℕ, _+_, _-_, _≤_, _<_}
 use native.Mathlib.Omega.{arith}
 use mathlib.Core.Path.{_≡_, ap, ap₂, _∙_, sym, subst}
 use mathlib.Core.Logic.{inl, inr}
-use mathlib.Core.List.{List, [], _∷_, map}
+use mathlib.Core.List.{List, map}
 use lib.ListN.{length, take, drop, length-drop, length-map}
 use lib.Seq.{length-take-le}
 use lib.Ieee.{Float}
 use Rattle.basics.specs.Loops.{run, upFrom}
 use Rattle.basics.specs.Regions.{region}
-use Rattle.basics.proofs.Loops.{All}
 use Rattle.basics.proofs.Lists.{upFrom-length}
 use Rattle.basics.proofs.Regions.{cut-length}
 use Rattle.turfs.specs.Board.{Board, turfCount, linkCount}
 use Rattle.turfs.proofs.Line.{Line, line-short}
 use Rattle.index_set.specs.Line.{Below}
+use Rattle.index_set.proofs.Queue.{all-below}
 use Rattle.flood_fill.specs.Held.{sizes, nodesAt}
 use Rattle.process_zone.specs.Plan.{planZone}
 use Rattle.finalize_eq.specs.Turns.{Zone, zoneAt}
 use Rattle.equalize.specs.Equalize.{Filled, planAll}
 use Rattle.plan_state.specs.Held.{area, view}
 use Rattle.plan_zone.proofs.Whole.{tablesOf}
-use Rattle.plan_all.specs.Zones.{floatSizes, zoneOf, startOf, filledOf, Room, Zoned, blank, PlansAll}
+use Rattle.fill_all.specs.Held.{floatSizes}
+use Rattle.plan_all.specs.Zones.{zoneOf, startOf, filledOf, Room, Zoned, blank, PlansAll}
 use Rattle.plan_all.proofs.Zones.{part-same, region-same}
 use Rattle.plan_all.proofs.Plans.{reals-rest, zone-is, plan-all-board}
 
 -- ---- before
-
-below-all : (n : ℕ) (xs : List ℕ) → All (λ x. x < n) xs → Below n xs
-unfolding Below
-below-all n [] h = tt
-below-all n (x ∷ xs) h = (h .0, below-all n xs (h .1))
 
 -- zones whose nodes stand one after the other, each with a node, none twice
 pub zoned-of : (b : Board) {e zones : ℕ} {w : List ℕ} {f : List Float} (zs : List Zone) → Room (turfCount b) e w f → zones ≤ turfCount b
@@ -58,7 +54,7 @@ zoned-of b {e} {zones} {w} {f} zs r few same rise has =
             some = omega (arith, h .0, size z l);
             few = omega (arith, size z l, line-short b (zoneAt zs z .nodes) (h .1));
             within = rise z l .1;
-            rows = subst (λ (v : Zone). Below n (v .nodes)) (node z l) (below-all n (zoneAt zs z .nodes) (h .1 .rows));
+            rows = subst (λ (v : Zone). Below n (v .nodes)) (node z l) (all-below n (zoneAt zs z .nodes) (h .1 .rows));
           };
     }
 

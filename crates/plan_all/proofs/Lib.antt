@@ -1,3 +1,4 @@
 pub mod Zones
 pub mod Plans
 pub mod Calls
+pub mod Asked

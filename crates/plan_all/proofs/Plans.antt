@@ -1,17 +1,18 @@
 -- Zone after zone is the run of the definition, over zones that stay what they are; and the plan looks at the tables alone. Assumes nothing.
-use Prim.Native.Nat.{ℕ, zero, suc, _+_, _-_, _≤_, _<_}
+use Prim.Native.Nat.{ℕ, _+_, _-_, _≤_, _<_}
 use native.Mathlib.Omega.{arith}
+use native.Mathlib.Nat.{zero-add}
 use mathlib.Core.Path.{_≡_, refl, ap, ap₂, _∙_, sym, subst}
 use mathlib.Core.Logic.{inl, inr, ⊎-elim}
-use mathlib.Core.List.{List, [], _∷_, _++_, map, append-nil}
-use lib.ListN.{length, getD, set, take, drop, replicate, length-drop, length-map, length-replicate, drop-of-length-le}
-use lib.Seq.{getD-drop, length-take-le}
+use mathlib.Core.List.{List, [], _∷_, _++_, map}
+use lib.ListN.{length, getD, set, take, drop, replicate, length-map, length-replicate}
+use lib.Seq.{getD-drop}
 use lib.Ieee.{Float, nan}
 use Rattle.basics.specs.Floats.{0f}
 use Rattle.basics.specs.Loops.{run, upFrom}
 use Rattle.basics.specs.Regions.{cut, region, base}
 use Rattle.basics.proofs.Loops.{run-both, run-up, run-up-end}
-use Rattle.basics.proofs.Lists.{upFrom-at, upFrom-length, upFrom-below}
+use Rattle.basics.proofs.Lists.{upFrom-length, upFrom-below, map-up}
 use Rattle.basics.proofs.Regions.{cut-part, cut-clear, cut-rest}
 use Rattle.turfs.specs.Board.{Board, turfCount, linkCount}
 use Rattle.process_zone.specs.Plan.{Plan, planZone}
@@ -25,21 +26,11 @@ use Rattle.plan_state.proofs.Stores.{frame-none, frame-then, owner-at}
 use Rattle.plan_state.proofs.Nodes.{rest-is}
 use Rattle.plan_zone.specs.Zone.{Plans}
 use Rattle.plan_zone.proofs.Whole.{tablesOf, run-like, plan-board}
-use Rattle.plan_all.specs.Zones.{molesAt, zoneOf, filledOf, Ready, Zoned, blank, Blanks, planZones, PlansAll}
+use Rattle.fill_all.specs.Held.{molesAt}
+use Rattle.plan_all.specs.Zones.{zoneOf, filledOf, Ready, Zoned, blank, Blanks, planZones, PlansAll}
 use Rattle.plan_all.proofs.Zones.{Alike, zone-alike, zoned-alike, alike-then, frame-alike, region-same, moles-at, nodes-handed}
 
 -- ---- a blank plan
-
--- a part that was lent and came back with its first n words cleared, all of them
-pub rows-cleared : (at n k : ℕ) (w ys : List ℕ) → at + n ≤ length w → k ≡ n → ys ≡ replicate n 0 ++ drop n (take k (drop at w))
-    → take at w ++ (ys ++ drop k (drop at w)) ≡ take at w ++ (replicate n 0 ++ drop n (drop at w))
-rows-cleared at n k w ys h q y =
-    let l : length (take n (drop at w)) ≡ n = length-take-le n (drop at w) (omega (arith, h, length-drop at w)) in
-    let new : ys ≡ replicate n 0 =
-    y ∙ ap (λ (m : ℕ). replicate n 0 ++ drop n (take m (drop at w))) q
-    ∙ ap (λ (r : List ℕ). replicate n 0 ++ r) (drop-of-length-le (take n (drop at w)) {i = n} (omega (arith, l)))
-    ∙ append-nil (replicate n 0) in
-    rw (q, new)
 
 -- the floats past the plan's
 pub reals-rest : (n e : ℕ) (a : Area) → view n e a .restR ≡ drop (e + n + n) (a .reals)
@@ -135,12 +126,7 @@ going-end {n} {e} {zones} {z} {b} {gas} {a} {a′} g l = record {
 
 -- a zone of the list is the zone itself
 pub zone-is : (zone : ℕ → Zone) (zones z : ℕ) → z < zones → zoneAt (map zone (upFrom 0 zones)) z ≡ zone z
-zone-is zone zones z l = go (upFrom 0 zones) z (omega (arith, l, upFrom-length 0 zones)) ∙ ap zone (upFrom-at 0 zones z l ∙ omega arith)
-  where
-    go : (xs : List ℕ) (i : ℕ) → i < length xs → zoneAt (map zone xs) i ≡ zone (getD xs i 0)
-    go [] i k = absurd (omega (arith, k))
-    go (x ∷ xs) zero k = refl
-    go (x ∷ xs) (suc i) k = go xs i (omega (arith, k))
+zone-is zone zones z l = map-up zone 0 zones z _ l ∙ ap zone (zero-add z)
 
 pub all-planned : (n e zones : ℕ) (b : Board) (gas : List Float) (w : List ℕ) (f : List Float) → turfCount b ≡ n → linkCount b ≡ e
     → planZones b gas (zoneOf n e w f) (upFrom 0 zones) (region (sizes n e) 0 w) (blank n e) ≡ planAll b gas (filledOf n e zones w f)

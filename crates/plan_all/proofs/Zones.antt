@@ -1,19 +1,21 @@
 -- A zone is read off three arrays past those that planning changes, so it stays what it was. Assumes nothing.
-use Prim.Native.Nat.{ℕ, zero, suc, _+_, _-_, _≤_, _<_}
+use Prim.Native.Nat.{ℕ, _+_, _-_, _≤_, _<_}
 use native.Mathlib.Omega.{arith}
-use mathlib.Core.Path.{_≡_, refl, ap, ap₂, _∙_, sym, subst}
-use mathlib.Core.List.{List, [], _∷_}
-use lib.ListN.{length, getD, take, drop, length-drop}
-use lib.Seq.{ext-getD, getD-take, getD-drop, length-take-le, drop-drop, take-take}
+use mathlib.Core.Path.{_≡_, ap, ap₂, _∙_, sym, subst}
+use mathlib.Core.List.{List}
+use lib.ListN.{length, getD, take, drop}
+use lib.Seq.{drop-drop}
 use lib.Ieee.{Float, nan}
 use Rattle.basics.specs.Regions.{region, base}
 use Rattle.basics.proofs.Regions.{cut-get, region-part}
+use Rattle.basics.proofs.Parts.{part-alike, take-in}
 use Rattle.index_set.specs.Line.{Below}
 use Rattle.flood_fill.specs.Held.{sizes, startsAt, nodesAt}
 use Rattle.finalize_eq.specs.Turns.{Zone}
 use Rattle.reverse_links.specs.Words.{Outside, ButParts}
 use Rattle.plan_state.specs.Held.{Area, area, view, Fit, Frame, top, Nodes, nodesOf}
-use Rattle.plan_all.specs.Zones.{floatSizes, molesAt, zoneIn, zoneOf, startOf, Room, Ready, Zoned}
+use Rattle.fill_all.specs.Held.{floatSizes, molesAt, zoneIn}
+use Rattle.plan_all.specs.Zones.{zoneOf, startOf, Room, Ready, Zoned}
 
 -- ---- the same zones
 
@@ -61,14 +63,7 @@ frame-alike {n} {e} fr = record {
 pub part-same : {lo hi lo′ hi′ : ℕ} {w w′ : List ℕ} → ButParts lo hi lo′ hi′ w w′ → (at size : ℕ) → at + size ≤ length w
     → ((i : ℕ) → at ≤ i → i < at + size → Outside lo hi i × Outside lo′ hi′ i) → take size (drop at w′) ≡ take size (drop at w)
 part-same {w = w} {w′ = w′} b at size h out =
-    let l : length (take size (drop at w)) ≡ size = length-take-le size (drop at w) (omega (arith, h, length-drop at w)) in
-    let l′ : length (take size (drop at w′)) ≡ size = length-take-le size (drop at w′) (omega (arith, h, length-drop at w′, b .len)) in
-    ext-getD 0 (take size (drop at w′)) (take size (drop at w)) (l′ ∙ sym l)
-    (λ i k.
-    let k′ : i < size = omega (arith, k, l′) in
-    let o = out (at + i) (omega arith) (omega (arith, k′)) in
-    getD-take size (drop at w′) i 0 k′ ∙ getD-drop at w′ i 0 ∙ b .same (at + i) (o .0) (o .1)
-    ∙ sym (getD-take size (drop at w) i 0 k′ ∙ getD-drop at w i 0))
+    part-alike at size w′ w (b .len) (λ i k. let o = out (at + i) (omega arith) (omega (arith, k)) in b .same (at + i) (o .0) (o .1))
 
 -- an array of the whole call, likewise
 pub region-same : {lo hi lo′ hi′ : ℕ} {w w′ : List ℕ} (n e k : ℕ) → ButParts lo hi lo′ hi′ w w′ → k < length (sizes n e)
@@ -79,13 +74,6 @@ region-same {w = w} {w′ = w′} n e k b h l out =
     region-part (sizes n e) w′ k h ∙ part-same b (base (sizes n e) k) (getD (sizes n e) k 0) l out ∙ sym (region-part (sizes n e) w k h)
 
 -- ---- what the code reads of zone z
-
--- a part of a front
-front-part : {A : Type 0} (s m c : ℕ) (xs : List A) → s + c ≤ m → take c (drop s xs) ≡ take c (drop s (take m xs))
-front-part zero m c xs l = sym (take-take c m xs (omega (arith, l)))
-front-part (suc s) zero c xs l = absurd (omega (arith, l))
-front-part (suc s) (suc m) c [] l = refl
-front-part (suc s) (suc m) c (x ∷ xs) l = front-part s m c xs (omega (arith, l))
 
 module _ (n e z : ℕ) (w : List ℕ) (f : List Float) (h : z < n) where
   pub start-at : getD w (startsAt n e + z) 0 ≡ startOf n e w z
@@ -113,7 +101,7 @@ module _ (n e z : ℕ) (w : List ℕ) (f : List Float) (h : z < n) where
           ∙ ap (λ (x : List ℕ). take c (drop s x)) (sym (drop-drop (n + 1) (n + n + n) r))
           ∙ ap (λ (x : List ℕ). take c (drop s (drop (n + 1) x))) (sym (drop-drop n (n + n) r))
           ∙ ap (λ (x : List ℕ). take c (drop s (drop (n + 1) (drop n x)))) (sym (drop-drop n n r))
-          ∙ front-part s (n + e) c (drop (n + 1) (drop n (drop n (drop n r)))) l
+          ∙ sym (take-in (drop (n + 1) (drop n (drop n (drop n r)))) s c (n + e) l)
 
 pub room-fit : {n e : ℕ} {w : List ℕ} {f : List Float} → Room n e w f → Fit n e (area w f)
 room-fit r = record { words = omega (arith, r .words); reals = omega (arith, r .reals); turfs = r .sizes .turfs; links = r .sizes .links }

@@ -1,37 +1,31 @@
 -- The zones as filling leaves them in the work areas, and what planning them all promises.
-use Prim.Native.Nat.{ℕ, _+_, _-_, _≤_, _<_}
+use Prim.Native.Nat.{ℕ, _+_, _≤_, _<_}
 use mathlib.Core.Path.{_≡_}
-use mathlib.Core.List.{List, [], _∷_, map}
+use mathlib.Core.List.{List, [], map}
 use mathlib.Core.Bool.{false}
 use lib.ListN.{length, getD, take, drop, replicate}
-use lib.Ieee.{Float, nan}
+use lib.Ieee.{Float}
 use Rattle.basics.specs.Floats.{0f}
 use Rattle.basics.specs.Loops.{run, upFrom}
 use Rattle.basics.specs.Regions.{region}
-use Rattle.turfs.specs.Board.{Board}
+use Rattle.turfs.specs.Board.{Board, turfCount, linkCount, mixtureCount}
 use Rattle.index_set.specs.Line.{Below}
 use Rattle.flood_fill.specs.Held.{sizes, nodesAt, Sizes}
 use Rattle.process_zone.specs.Plan.{Plan, planZone}
 use Rattle.finalize_eq.specs.Turns.{Zone}
 use Rattle.equalize.specs.Equalize.{Filled, planAll}
+use Rattle.fill_all.specs.Held.{floatSizes, molesAt, zoneIn}
 use Rattle.reverse_links.specs.Reverse.{Reverses}
 use Rattle.reverse_links.specs.Words.{ButParts}
 use Rattle.plan_state.specs.Held.{Area, area, view, Fit, Frame, top}
 
--- The floats of the whole call. By link: weight. By row: delta, amount. By link: lifted. By zone: its total as filled.
-abbrev pub floatSizes : ℕ → ℕ → List ℕ
-floatSizes n e = e ∷ n ∷ n ∷ e ∷ n ∷ []
-
--- where the totals start
-abbrev pub molesAt : ℕ → ℕ → ℕ
-molesAt n e = e + n + n + e
+-- where the search for the reverses works: behind the nodes and a word for each mixture
+abbrev pub workAt : Board → ℕ
+workAt b = nodesAt (turfCount b) (linkCount b) + turfCount b + linkCount b + mixtureCount b
 
 -- ---- the zones
 
--- zone z: `starts` says where its nodes and those of the next one start
-abbrev pub zoneIn : List ℕ → List ℕ → List Float → ℕ → Zone
-zoneIn starts nodes moles z = record { nodes = take (getD starts (z + 1) 0 - getD starts z 0) (drop (getD starts z 0) nodes); moles = getD moles z nan }
-
+-- zone z: the starts say where its nodes and those of the next one start
 abbrev pub zoneOf : ℕ → ℕ → List ℕ → List Float → ℕ → Zone
 zoneOf n e w f = zoneIn (region (sizes n e) 11 w) (region (sizes n e) 12 w) (region (floatSizes n e) 4 f)
 

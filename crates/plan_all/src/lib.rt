@@ -11,23 +11,14 @@ ghost use Rattle.plan_state.specs.Held.{grid, ground, area, view, Fit};
 ghost use Rattle.plan_zone.specs.Zone.{Gassed, Plans};
 ghost use Rattle.plan_all.specs.Zones.{zoneOf, Room, Ready, Zoned, Blanks, planZones, PlansAll};
 
-// Sets the n words from `at` on to zero.
-fn clear_rows(at: usize, n: usize, words: &mut [u32])
-    requires { ⌜ at + n ≤ length (now words) ⌝ }
-    ensures { λ _. ⌜ now (words .exit) ≡ take at (now (words .entry)) ++ (replicate n 0 ++ drop n (drop at (now (words .entry)))) ⌝ }
-{
-    let to = at + n;
-    basics::clear(&mut words[at..to], n);
-}
-
 // Nothing is planned yet: no weights, no planning state.
 fn clear_plan(n: usize, e: usize, words: &mut [u32], reals: &mut [f32])
     requires { ⌜ Fit n e (area (now words) (now reals)) ⌝ }
     ensures { λ _. ⌜ Blanks n e (area (now (words .entry)) (now (reals .entry))) (area (now (words .exit)) (now (reals .exit))) ⌝ }
 {
     let direction = e + e;
-    clear_rows(direction, n, words);
-    clear_rows(direction + n + n, n, words);
+    basics::clear_part(words, direction, n);
+    basics::clear_part(words, direction + n + n, n);
     basics::clear_floats(reals, e + n + n);
 }
 

@@ -16,6 +16,7 @@ use Rattle.basics.specs.declared.Spot.{Spot}
 use Rattle.basics.specs.declared.Spot.the-variants.{At}
 use Rattle.basics.proofs.Loops.{All, All-any, run-both, run-keep}
 use Rattle.basics.proofs.Regions.{region-part}
+use Rattle.basics.proofs.Parts.{part}
 use Rattle.turfs.specs.Board.{Board, end, linksOf}
 use Rattle.process_zone.specs.Edges.{edgesOf, edge, adjust}
 use Rattle.process_zone.specs.Plan.{Plan, load, store, reweigh, withDelta, countOf, eligible, fastMove, fastTurf}
@@ -25,7 +26,7 @@ use Rattle.plan_state.specs.Held.{grid, Area, area, wsizes, View, view, Fit, on
 use Rattle.plan_state.specs.Steps.{backLink, adjustAt}
 use Rattle.plan_state.proofs.Stores.{setDelta, does-as, does-then, does-frame, store-delta}
 use Rattle.plan_state.proofs.Links.{edge-there, edge-back, reverse-within}
-use Rattle.plan_state.proofs.Parts.{part, part-length, part-run}
+use Rattle.plan_state.proofs.Parts.{part-length, part-run}
 use Rattle.plan_fast.specs.Steps.{tallyStep, moveAt, fastVia}
 
 -- ---- one move

@@ -1,21 +1,20 @@
 -- The way back: what the code adds and clears is what the definition stores, but for numbers that stay. Assumes nothing.
 use Prim.Native.Nat.{ℕ, zero, suc, _+_, _-_, _≤_, _<_}
 use native.Mathlib.Omega.{arith}
-use native.Mathlib.Numerals.{add-one}
-use mathlib.Core.Path.{_≡_, refl, ap, _∙_, sym, subst}
+use mathlib.Core.Path.{_≡_, ap, _∙_, sym, subst}
 use mathlib.Core.Logic.{_≢_}
-use mathlib.Core.List.{List, [], _∷_, _++_, reverse, reverseAux}
+use mathlib.Core.List.{List, reverse}
 use mathlib.Core.Bool.{Bool, true, false, not, _&&_, cond}
 use lib.Dec.{eqb}
-use lib.ListN.{length, getD, set, take, drop}
-use lib.Seq.{take-suc, getD-take, getD-drop, length-take-le}
+use lib.ListN.{getD, set, take, drop}
+use lib.Seq.{getD-take, getD-drop, length-take-le}
 use lib.Ieee.{Float, nan, ne}
 use borrow.Author.Tests.{eq-eqb, ne-eqb}
 use Rattle.basics.specs.Floats.{0f, _+f_}
 use Rattle.basics.specs.Loops.{run}
 use Rattle.basics.specs.declared.Spot.{Spot}
 use Rattle.basics.specs.declared.Spot.the-variants.{At}
-use Rattle.basics.proofs.Loops.{Found}
+use Rattle.basics.proofs.Loops.{Found, run-back}
 use Rattle.process_zone.specs.Plan.{Plan, load, reweigh}
 use Rattle.process_zone.specs.declared.MonstermosInfo.{MonstermosInfo}
 use Rattle.index_set.proofs.Queue.{Below-at}
@@ -88,21 +87,6 @@ module _ (n e z r : ℕ) (i : MonstermosInfo) (w : List ℕ) (f : List Float) (e
       drained t q = drained-by (getD w (e + e + n + r) 0) there via-is et t some q
 
 -- ---- the loop
-
--- a list from its end
-aux-append : {A : Type 0} (xs ys r : List A) → reverseAux (xs ++ ys) r ≡ reverseAux ys (reverseAux xs r)
-aux-append [] ys r = refl
-aux-append (x ∷ xs) ys r = aux-append xs ys (x ∷ r)
-
-run-back : {S : Type 0} (f : ℕ → S → S) (q : List ℕ) (i j : ℕ) (s : S) → j + 1 ≡ i → j < length q
-    → run f (reverse (take i q)) s ≡ run f (reverse (take j q)) (f (getD q j 0) s)
-unfolding run
-run-back f q i j s e h =
-    rw (← e, add-one, take-suc q j 0 h, aux-append (take j q) (getD q j 0 ∷ []) [])
-
-pub back-end : {S : Type 0} (f : ℕ → S → S) (q : List ℕ) (i : ℕ) (s : S) → i ≤ 0 → run f (reverse (take i q)) s ≡ s
-unfolding run
-back-end f q i s h = let e : i ≡ 0 = omega arith in rw e
 
 -- in the loop the words stay, and so does all that is read of them
 module _ (n e count j : ℕ) (w : List ℕ) (f₀ : List Float) (h : Seeking n e count (area w f₀)) (l : j < count) (at : ℕ) (ea : at ≡ e + e + n + n + n) where

@@ -9,7 +9,8 @@ use lib.Dec.{eqb}
 use lib.ListN.{length, getD, take, drop}
 use lib.Ieee.{Float, nan}
 use Rattle.basics.specs.Loops.{run, upFrom}
-use Rattle.basics.proofs.Loops.{run-keep}
+use Rattle.basics.proofs.Loops.{run-keep, run-still, All-any}
+use Rattle.basics.proofs.Parts.{part, part-at}
 use Rattle.turfs.specs.Board.{linksOf}
 use Rattle.process_zone.specs.Edges.{edgesOf}
 use Rattle.process_zone.specs.Plan.{Plan, Seek, settled, seekTo, seekLink}
@@ -17,7 +18,7 @@ use Rattle.process_zone.specs.declared.Side.{Side}
 use Rattle.reverse_links.specs.Reverse.{InRow, Linked}
 use Rattle.plan_state.specs.Held.{grid, Area, area, View, view}
 use Rattle.plan_state.proofs.Stores.{frame-then, delta-at}
-use Rattle.plan_state.proofs.Parts.{part, part-run, part-get, part-length}
+use Rattle.plan_state.proofs.Parts.{part-run, part-length}
 use Rattle.plan_search.specs.Search.{Seeking, seekOf, Leaves, Sought, Leads, AllMet, KeepsMet}
 use Rattle.plan_search.specs.Steps.{alongPart}
 use Rattle.plan_search.proofs.Seeks.{leaves-none, to-settled}
@@ -65,16 +66,11 @@ keeps-next {n} {r = r} {from} {part} i h k l = record {
 
 -- ---- a settled turf
 
-run-still : {A S : Type 0} (f : A → S → S) (s : S) → ((x : A) → f x s ≡ s) → (xs : List A) → run f xs s ≡ s
-unfolding run
-run-still f s h [] = refl
-run-still f s h (x ∷ xs) = ap (run f xs) (h x) ∙ run-still f s h xs
-
 pub along-settled : (side : Side) (g r : ℕ) (part : List ℕ) (from z n e count : ℕ) (w : List ℕ) (f : List Float) → g < n → settled side (getD f (e + g) nan) ≡ true
     → (xs o : List ℕ) (looked : ℕ) → run (alongPart side g r part from z o) xs (seekOf (view n e (area w f)) count looked) ≡ seekOf (view n e (area w f)) count looked
 unfolding alongPart
 along-settled side g r part from z n e count w f hg t xs o looked =
-    run-still (alongPart side g r part from z o) s (λ i. pick (eqb (getD o (from + i) 0) (z + 1)) (getD part i 0)) xs
+    run-still (alongPart side g r part from z o) xs s (All-any _ (λ i. pick (eqb (getD o (from + i) 0) (z + 1)) (getD part i 0)) xs)
   where
     s : Seek
     s = seekOf (view n e (area w f)) count looked
@@ -101,5 +97,5 @@ part-leads n starts neighbours r t h i l =
     record {
       row = h;
       link = record { from = omega arith; to = omega (arith, t .rise r h) };
-      ends = sym (part-get neighbours (getD starts r 0) (getD starts (r + 1) 0) i m);
+      ends = sym (part-at neighbours (getD starts r 0) (getD starts (r + 1) 0) i m);
     }

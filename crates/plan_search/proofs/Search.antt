@@ -6,7 +6,7 @@ use mathlib.Core.Path.{_≡_, refl, ap, _∙_, sym, subst}
 use mathlib.Core.List.{List}
 use mathlib.Core.Bool.{Bool, true, false, not, _&&_, cond}
 use lib.Dec.{ltb}
-use lib.ListN.{length, getD, take}
+use lib.ListN.{length, getD}
 use lib.Seq.{getD-take, length-take-le}
 use lib.Ieee.{Float, nan}
 use borrow.Author.Tests.{lt-ltb, le-ltb}
@@ -16,7 +16,6 @@ use Rattle.turfs.specs.Board.{Board}
 use Rattle.process_zone.specs.Edges.{edgesOf}
 use Rattle.process_zone.specs.Plan.{Plan, Seek, settled, seekLink, seekRow, seekNext}
 use Rattle.process_zone.specs.declared.Side.{Side}
-use Rattle.index_set.proofs.Queue.{Below-at}
 use Rattle.plan_state.specs.Held.{Area, area, View, view}
 use Rattle.plan_state.proofs.Stores.{queue-at, delta-at}
 use Rattle.plan_search.specs.Search.{Seeking, seekOf, Leaves, Sought, Searched}
@@ -86,9 +85,6 @@ module _ (n e count looked : ℕ) (w : List ℕ) (f : List Float) (h : Seeking n
   module _ (l : looked < count) (at : ℕ) (ea : at ≡ e + e + n + n + n) where
     row-at : getD w (at + looked) 0 ≡ getD (seekOf (view n e (area w f)) count looked .queue) looked 0
     row-at = ap (λ (m : ℕ). getD w (m + looked) 0) ea ∙ queue-at n e looked w f (omega (arith, h .line .few)) ∙ sym (getD-take count (view n e (area w f) .queue) looked 0 l)
-
-    pub seen-below : getD w (at + looked) 0 < n
-    seen-below = rw row-at (Below-at n (take count (view n e (area w f) .queue)) looked (h .line .rows) (rw queue-length l))
 
     module _ (b : Board) (z : ℕ) (side : Side) (g : ℕ) (hg : g < n) where
       pub turn-on : settled side (getD f (e + g) nan) ≡ false → (o : List ℕ)

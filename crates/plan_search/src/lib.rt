@@ -22,8 +22,6 @@ use index_set::insert;
 use plan_state::adjust_eq_movement;
 use plan_state::back_link;
 use plan_state::load;
-use plan_state::places_at;
-use plan_state::queue_at;
 use plan_state::store;
 use process_zone::MonstermosInfo;
 use process_zone::Side;
@@ -166,8 +164,8 @@ fn seek_link(
     if words[k] != z + 1 {
         return count;
     }
-    let queue = queue_at(n, e);
-    let places = places_at(n, e);
+    let queue = index_set::queue_at(n, e);
+    let places = index_set::places_at(n, e);
     if contains(a, count, n, queue, places, words) {
         return count;
     }
@@ -263,7 +261,7 @@ fn seek(
     ensures { λ c. ⌜ Searched n e (λ o s. times (seekNext (grid n (now (starts .entry)) (now (neighbours .entry))) o z side g) n s) 1 c (area (now (words .entry)) (now (reals .entry))) (area (now (words .exit)) (now (reals .exit))) ⌝ }
     ensures { λ c. ⌜ AllMet n z (now (starts .entry)) (now (neighbours .entry)) (view n e (area (now (words .exit)) (now (reals .exit)))) c ⌝ }
 {
-    let queue = queue_at(n, e);
+    let queue = index_set::queue_at(n, e);
     let mut count = 1;
     let mut looked = 0;
     while looked < count {
@@ -333,7 +331,7 @@ fn drain(count: usize, z: u32, n: usize, e: usize, words: &[u32], reals: &mut [f
     requires { ⌜ ((i : ℕ) → i < count → Within n e (view n e (area (now words) (now reals))) (getD (view n e (area (now words) (now reals)) .queue) i 0)) ⌝ }
     ensures { λ _. ⌜ Does n e (λ o p. run (drainVia (view n e (area (now (words .entry)) (now (reals .entry))) .reverse) (view n e (area (now (words .entry)) (now (reals .entry))) .via) z o) (reverse (take count (view n e (area (now (words .entry)) (now (reals .entry))) .queue))) p) (area (now (words .entry)) (now (reals .entry))) (area (now (words .exit)) (now (reals .exit))) ⌝ }
 {
-    let queue = queue_at(n, e);
+    let queue = index_set::queue_at(n, e);
     let mut i = count;
     while i > 0 {
         i -= 1;
@@ -366,8 +364,8 @@ pub fn serve(
         fast: i.fast,
     };
     store(row, first, n, e, words, reals);
-    let queue = queue_at(n, e);
-    let places = places_at(n, e);
+    let queue = index_set::queue_at(n, e);
+    let places = index_set::places_at(n, e);
     insert(g, 0, queue, places, words);
     let count = seek(side, row, starts, neighbours, z, n, e, words, reals);
     drain(count, z, n, e, words, reals);

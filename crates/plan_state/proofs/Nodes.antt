@@ -1,14 +1,14 @@
 -- Loops over the nodes of a zone, which stand past the words that planning changes. Assumes nothing.
 use Prim.Native.Nat.{ℕ, zero, suc, _+_, _-_, _≤_, _<_}
 use native.Mathlib.Omega.{arith}
-use native.Mathlib.Numerals.{add-one}
 use mathlib.Core.Path.{_≡_, refl, ap, _∙_, sym, subst}
 use mathlib.Core.List.{List}
-use lib.ListN.{length, getD, take, drop, length-drop, drop-of-length-le}
-use lib.Seq.{getD-take, getD-drop, length-take-le, drop-cons}
+use lib.ListN.{length, getD, take, drop, length-drop}
+use lib.Seq.{getD-take, getD-drop, length-take-le}
 use lib.Ieee.{Float}
 use Rattle.basics.specs.Loops.{run}
 use Rattle.basics.proofs.Regions.{cut-rest}
+use Rattle.basics.proofs.Loops.{run-at, run-stop}
 use Rattle.turfs.specs.Board.{Board}
 use Rattle.process_zone.specs.Plan.{Plan}
 use Rattle.index_set.specs.Line.{Below}
@@ -50,16 +50,6 @@ onto-frame b = record {
 -- the reverses stand as they stood
 pub reverses-kept : {n e m : ℕ} {b : Board} {a a′ : Area} → Reverses b m (view n e a .reverse) → Frame n e a a′ → Reverses b m (view n e a′ .reverse)
 reverses-kept {m = m} {b = b} v f = subst (Reverses b m) (sym (f .reverse)) v
-
--- a loop over a list, by its index
-module _ {S : Type 0} (f : ℕ → S → S) (xs : List ℕ) (i : ℕ) where
-  pub run-at : i < length xs → (s : S) → run f (drop i xs) s ≡ run f (drop (i + 1) xs) (f (getD xs i 0) s)
-  unfolding run
-  run-at h s = rw (add-one, drop-cons xs i 0 h)
-
-  pub run-stop : length xs ≤ i → (s : S) → run f (drop i xs) s ≡ s
-  unfolding run
-  run-stop h s = rw (drop-of-length-le xs h)
 
 -- ---- the nodes
 

@@ -7,7 +7,7 @@ use mathlib.Core.Logic.{_≢_}
 use mathlib.Core.Bool.{Bool, true, false, cond}
 use native.Mathlib.Decide.{ℕ-discrete}
 use lib.Dec.{eqb}
-use lib.ListN.{length, getD, set, take, drop, length-set}
+use lib.ListN.{length, getD, set, take, drop}
 use lib.Seq.{getD-take, getD-drop}
 use borrow.Author.Tests.{eq-eqb, ne-eqb}
 use lib.Ieee.{Float, nan}
@@ -19,6 +19,7 @@ use Rattle.basics.proofs.Loops.{Found}
 use Rattle.basics.proofs.Regions.{cut-set, cut-get}
 use Rattle.process_zone.specs.Edges.{alter}
 use Rattle.process_zone.specs.Plan.{Plan, reweigh}
+use Rattle.process_zone.proofs.Sizes.{alter-size}
 use Rattle.plan_state.specs.Held.{Area, area, wsizes, rsizes, View, viewIn, view, Fit, onPlan, Does}
 use Rattle.plan_state.specs.Steps.{ownedBy, backLink, adjustAt}
 
@@ -29,13 +30,9 @@ found-at P e f = subst (Found P) e f
 pub altered : {s : Spot} {k : ℕ} (f : Float → Float) (w : List Float) → s ≡ At k → set w k (f (getD w k nan)) ≡ alter s f w
 altered f w e = ap (λ (s : Spot). alter s f w) (sym e)
 
-pub alter-length : (s : Spot) (f : Float → Float) (w : List Float) → length (alter s f w) ≡ length w
-alter-length (At k) f w = length-set w k (f (getD w k nan))
-alter-length Nowhere f w = refl
-
 pub adjust-length : (there back : Spot) (x : Float) (w : List Float) → length (adjustAt there back x w) ≡ length w
 unfolding adjustAt
-adjust-length there back x w = alter-length back (λ y. y -f x) (alter there (λ y. y +f x) w) ∙ alter-length there (λ y. y +f x) w
+adjust-length there back x w = alter-size back (λ y. y -f x) (alter there (λ y. y +f x) w) ∙ alter-size there (λ y. y +f x) w
 
 pub found-as : (m m′ : ℕ) (s : Spot) → m ≡ m′ → Found (λ k. k < m) s → Found (λ k. k < m′) s
 found-as m m′ s q f = subst (λ (j : ℕ). Found (λ k. k < j) s) q f

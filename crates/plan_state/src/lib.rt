@@ -13,22 +13,6 @@ ghost use Rattle.plan_state.specs.Steps.{backLink, adjustAt};
 use basics::Spot;
 use process_zone::MonstermosInfo;
 
-// Where the queue starts.
-pub fn queue_at(n: usize, e: usize) -> usize
-    requires { ⌜ (e ≤ 24576) × (n ≤ 4096) ⌝ }
-    ensures { λ r. ⌜ r ≡ e + e + n + n + n ⌝ }
-{
-    e + e + n + n + n
-}
-
-// Where the places in the queue start.
-pub fn places_at(n: usize, e: usize) -> usize
-    requires { ⌜ (e ≤ 24576) × (n ≤ 4096) ⌝ }
-    ensures { λ r. ⌜ r ≡ e + e + n + n + n + n ⌝ }
-{
-    e + e + n + n + n + n
-}
-
 // Where the list of givers or takers starts.
 pub fn list_at(n: usize, e: usize) -> usize
     requires { ⌜ (e ≤ 24576) × (n ≤ 4096) ⌝ }

@@ -13,6 +13,7 @@ use borrow.Author.Tests.{lt-ltb, le-ltb}
 use Rattle.basics.specs.Loops.{run, keep, consIf}
 use Rattle.basics.specs.Regions.{cut}
 use Rattle.basics.proofs.Regions.{cut-set, cut-length}
+use Rattle.basics.proofs.Loops.{run-at, run-stop}
 use Rattle.turfs.specs.Board.{Board}
 use Rattle.process_zone.specs.Plan.{Plan, picks, chosen, serve, fastTurf, log2, fastPass, shareOut}
 use Rattle.process_zone.specs.declared.Side.{Side}
@@ -21,7 +22,7 @@ use Rattle.index_set.specs.Line.{Below}
 use Rattle.index_set.proofs.Queue.{Below-at}
 use Rattle.plan_state.specs.Held.{Area, area, wsizes, rsizes, View, viewIn, view, Fit, Does, Frame, Serves, top, Nodes, nodesOf}
 use Rattle.plan_state.proofs.Stores.{frame-none, frame-then, does-none, does-as, does-frame, delta-at, list-at}
-use Rattle.plan_state.proofs.Nodes.{nodes-length, node-at, node-below, nodes-same, nodes-kept, run-at, run-stop}
+use Rattle.plan_state.proofs.Nodes.{nodes-length, node-at, node-below, nodes-same, nodes-kept}
 use Rattle.plan_zone.specs.Zone.{sideOf, Picked, Plans}
 use Rattle.plan_zone.proofs.Counts.{chosen-all}
 

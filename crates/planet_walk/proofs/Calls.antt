@@ -12,6 +12,7 @@ use Rattle.basics.specs.Regions.{region, base}
 use Rattle.basics.specs.declared.Spot.{Spot}
 use Rattle.basics.specs.declared.Spot.the-variants.{At, Nowhere}
 use Rattle.basics.proofs.Loops.{Found}
+use Rattle.basics.proofs.Regions.{later-same}
 use Rattle.turfs.specs.Board.{Board, turfCount, linkCount, rowOf}
 use Rattle.turfs.specs.Refuse.{ascending}
 use Rattle.turfs.proofs.Accepted.{row-below}
@@ -29,7 +30,7 @@ use Rattle.walks.specs.Reached.{at, sizes, walkOf, Ground, Walked}
 use Rattle.walks.specs.declared.Kind.the-variants.{Planet}
 use Rattle.walks.specs.declared.Reach.{Reach}
 use Rattle.walks.proofs.Does.{none-wrote}
-use Rattle.walks.proofs.Whole.{bare, ground-of, gasless, later-same}
+use Rattle.walks.proofs.Whole.{bare, ground-of, gasless}
 use Rattle.planet_walk.specs.Planet.{planetFrom, planetWalk, planetRoom, planetNumber, planetDone, planetResult}
 use Rattle.planet_walk.specs.declared.PlanetAnswer.{PlanetAnswer}
 use Rattle.planet_walk.proofs.Room.{planet-room}

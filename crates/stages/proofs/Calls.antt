@@ -1,63 +1,39 @@
 -- A part on its own: refused as equalize's number says, when nothing is changed; else its own promise, on tables that the refusals let pass. Assumes nothing.
-use Prim.Native.Nat.{ℕ, _+_, _*_, _≤_}
+use Prim.Native.Nat.{ℕ, _+_, _≤_}
 use native.Mathlib.Omega.{arith}
 use native.Mathlib.Decide.{ℕ-discrete}
-use mathlib.Core.Path.{_≡_, refl, ap, _∙_, sym}
+use mathlib.Core.Path.{_≡_, refl, _∙_, sym}
 use mathlib.Core.List.{List, []}
-use mathlib.Core.Bool.{true, false, true≢false, _&&_}
-use lib.Dec.{leb}
+use mathlib.Core.Bool.{true, false, true≢false}
 use lib.Ieee.{Float}
-use lib.Ieee.Bits.{is-true}
 use lib.ListN.{length}
-use Rattle.basics.specs.Floats.{finiteSignClear}
 use Rattle.turfs.specs.Board.{Board, turfCount, linkCount, mixtureCount}
-use Rattle.turfs.specs.Refuse.{ascending}
 use Rattle.turfs.proofs.Accepted.{Accepted}
-use Rattle.lent.specs.Lent.{Lent, Extra, wordsRoom, floatsRoom, refusal}
-use Rattle.lent.proofs.Passed.{Passed, passed}
+use Rattle.lent.specs.Lent.{Lent, refusal}
 use Rattle.lent.specs.Given.{lent}
 use Rattle.flood_fill.specs.Held.{nodesAt, Sizes}
 use Rattle.reverse_links.specs.Reverse.{Linked}
 use Rattle.plan_zone.specs.Zone.{Gassed}
 use Rattle.plan_zone.proofs.Whole.{tablesOf}
-use Rattle.plan_all.specs.Zones.{Zoned, PlansAll}
+use Rattle.plan_all.specs.Zones.{workAt, Zoned, PlansAll}
+use Rattle.plan_all.proofs.Asked.{plan-asks}
 use Rattle.equalize.specs.Equalize.{Ask, fillAll}
-use Rattle.equalize.specs.Result.{equalizeRoom, equalizeNumber}
+use Rattle.equalize.specs.Result.{equalizeNumber}
 use Rattle.equalize.proofs.Zones.{test-room}
 use Rattle.equalize.proofs.Room.{requests-bytes}
-use Rattle.fill_all.specs.Held.{molesAt, start, FillsAll}
+use Rattle.fill_all.specs.Held.{start, FillsAll}
 use Rattle.fill_all.specs.declared.Filling.{Filling}
+use Rattle.fill_all.proofs.Asked.{let-pass, let-links}
 use Rattle.fill_all.proofs.Words.{nodes-few, tests-are}
-use Rattle.stages.specs.Stages.{Fills, Few, workAt, Plans}
-use Rattle.stages.proofs.Planning.{links-pass, plan-asks, plan-comes}
+use Rattle.stages.specs.Stages.{Fills, Few, Plans}
+use Rattle.stages.proofs.Planning.{plan-comes}
 
 module _ (b : Board) (q : Ask) (l : Lent) where
-  -- what only equalize is lent
-  abbrev extra : Extra
-  extra = record { sizes = leb (length (q .hot)) 4096 && leb 0 65536; threshold = finiteSignClear (q .threshold); hot = ascending (q .hot) }
-
-  pub number-is : {number : ℕ} (x : Extra) → x ≡ extra → number ≡ refusal b l (equalizeRoom b) x → number ≡ equalizeNumber b q [] l
-  unfolding equalizeNumber
-  number-is x e r = r ∙ ap (refusal b l (equalizeRoom b)) e
-
   module _ {number : ℕ} (r : number ≡ equalizeNumber b q [] l) where
     pub refused-fills : (number ≡ 0 → ⊥) → Fills b q l l number start
     refused-fills z = record { refusal = r; refused = λ _. (refl, refl); done = λ e. absurd (z e) }
 
     module _ (z : number ≡ 0) where
-      pub let-pass : Passed b l (equalizeRoom b) extra
-      unfolding equalizeNumber
-      let-pass = passed b l (equalizeRoom b) extra (sym r ∙ z)
-
-      -- what filling asks
-      pub fill-asks : (Accepted b (length (l .gas)) × (finiteSignClear (q .threshold) ≡ true))
-          × ((nodesAt (turfCount b) (linkCount b) + turfCount b + linkCount b + turfCount b ≤ length (l .words))
-          × ((molesAt (turfCount b) (linkCount b) + turfCount b ≤ length (l .floats)) × (16 * turfCount b ≤ length (l .area))))
-      unfolding wordsRoom floatsRoom
-      fill-asks =
-          let p = let-pass in
-          ((p .board, is-true _ (p .threshold)), (omega (arith, p .words), (omega (arith, p .floats), omega (arith, p .area))))
-
       pub done-fills : {l′ : Lent} {s : Filling} → FillsAll (turfCount b) (linkCount b) (fillAll b (l .gas) q) s (l .words) (l′ .words) (l .floats) (l′ .floats) (l .area) (l′ .area) → Fills b q l l′ 0 s
       done-fills d = record { refusal = sym z ∙ r; refused = λ n. absurd (n refl); done = λ _. d }
 
@@ -69,7 +45,7 @@ module _ (b : Board) (q : Ask) (l : Lent) where
       go (no z) = let e = f .refused z .0 in rw e (record { zones = omega arith; nodes = omega arith; tests = omega arith; used = omega arith })
       go (yes z) =
           let d = f .done z in
-          let a = let-pass (f .refusal) z .board in
+          let a = let-pass b q [] l (sym (f .refusal) ∙ z) .board in
           record {
             zones = omega (arith, d .stored .zones, a .turfs .1);
             nodes = omega (arith, nodes-few d, a .turfs .1, a .links);
@@ -86,8 +62,11 @@ module _ (b : Board) (q : Ask) (l : Lent) where
 
   -- filling is done: the tables are such as planning asks for, and then planned
   module _ {left : Lent} {number : ℕ} {s : Filling} (f : Fills b q l left number s) (z : number ≡ 0) where
+    passes : equalizeNumber b q [] l ≡ 0
+    passes = sym (f .refusal) ∙ z
+
     done-board : Accepted b (length (l .gas))
-    done-board = let-pass (f .refusal) z .board
+    done-board = let-pass b q [] l passes .board
 
     pub work-asks : Sizes (turfCount b) (linkCount b) × (mixtureCount b ≤ 4096)
     work-asks = (record { turfs = done-board .turfs .1; links = done-board .links }, done-board .mixtures .1)
@@ -96,10 +75,9 @@ module _ (b : Board) (q : Ask) (l : Lent) where
         → (Gassed (turfCount b) (b .mixtures) (b .gases) (l .gas) × (Linked (turfCount b) (b .starts) (b .neighbours) × (linkCount b ≡ linkCount b)))
         × (Zoned (turfCount b) (linkCount b) (s .zones) (left .words) (left .floats)
         × ((nodesAt (turfCount b) (linkCount b) + turfCount b + linkCount b ≤ work) × (work + linkCount b + turfCount b + turfCount b ≤ length (left .words))))
-    unfolding equalizeNumber
     plan-ready lw lf =
-        let p = let-pass (f .refusal) z in
-        plan-asks b q l left s (f .done z) (p .board) (links-pass b l (equalizeRoom b) extra (sym (f .refusal) ∙ z)) (omega (arith, lw, p .words)) (omega (arith, lf, p .floats))
+        let p = let-pass b q [] l passes in
+        plan-asks b q (l .gas) s (f .done z) (p .board) (let-links b q [] l passes) (omega (arith, lw, p .words)) (omega (arith, lf, p .floats))
 
     pub planned-plans : s .cancelled ≡ false → {w : List ℕ} {r : List Float} (work : ℕ) → work ≡ workAt b
         → PlansAll (turfCount b) (linkCount b) (s .zones) work (tablesOf b) (l .gas) (left .words) w (left .floats) r → Plans b q l (lent (l .gas) (left .area) w r) number s

@@ -5,9 +5,8 @@ use mathlib.Core.Bool.{true, false}
 use Prim.Native.Nat.{ℕ, _+_, _≤_}
 use lib.ListN.{length, take, drop}
 use lib.Ieee.{Float}
-use Rattle.turfs.specs.Board.{Board, turfCount, linkCount, mixtureCount}
+use Rattle.turfs.specs.Board.{Board, turfCount, linkCount}
 use Rattle.lent.specs.Lent.{Lent}
-use Rattle.flood_fill.specs.Held.{nodesAt}
 use Rattle.reverse_links.specs.Reverse.{Reverses}
 use Rattle.reverse_links.specs.Words.{ButParts}
 use Rattle.plan_state.specs.Held.{area, view, top}
@@ -15,6 +14,7 @@ use Rattle.equalize.specs.Equalize.{Ask, fillAll, planAll, bit}
 use Rattle.equalize.specs.Result.{equalizeNumber}
 use Rattle.fill_all.specs.Held.{start, FillsAll}
 use Rattle.fill_all.specs.declared.Filling.{Filling}
+use Rattle.plan_all.specs.Zones.{workAt}
 
 -- filling alone, with equalize's refusals for no turns
 pub record Fills (b : Board) (q : Ask) (l l′ : Lent) (number : ℕ) (s : Filling) : Type 0 where
@@ -40,10 +40,6 @@ pub record FillAnswers (b : Board) (q : Ask) (l l′ : Lent) (number : ℕ) (ans
   pub written : answer ≡ fillNumbers number filling
 
 -- ---- planning
-
--- where the search for the reverses works: behind the nodes and a word for each mixture
-abbrev pub workAt : Board → ℕ
-workAt b = nodesAt (turfCount b) (linkCount b) + turfCount b + linkCount b + mixtureCount b
 
 -- What filling left in m is planned: weights and planning state are the definition's, the reverses stand beside the owners, and all else is as filling left it
 -- but the words that planning works with.

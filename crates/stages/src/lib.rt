@@ -1,4 +1,5 @@
 // The parts of equalize on their own, for tests that look at what each part leaves: the scratch isn't cleared.
+use equalize::bit;
 use fill_all::Filling;
 ghost use mathlib.Core.Path.{_≡_};
 ghost use mathlib.Core.List.{[]};
@@ -6,7 +7,6 @@ ghost use Prim.Native.Nat.{ℕ, _+_, _≤_};
 ghost use Rattle.turfs.specs.Tables.{board};
 ghost use Rattle.lent.specs.Given.{lent};
 ghost use Rattle.flood_fill.specs.Held.{nodesAt, Sizes};
-ghost use Rattle.equalize.specs.Equalize.{bit};
 ghost use Rattle.equalize.specs.Result.{equalizeNumber};
 ghost use Rattle.fill_all.specs.Held.{ask};
 ghost use Rattle.stages.specs.Stages.{Fills, Few, fillNumbers, FillAnswers, Plans, PlanAnswers};
@@ -15,13 +15,6 @@ ghost use Rattle.stages.specs.Stages.{Fills, Few, fillNumbers, FillAnswe
 pub struct FillAnswer {
     pub number: u32,
     pub filling: Filling,
-}
-
-// A mark as a number.
-fn bit(mark: bool) -> u32
-    ensures { λ r. ⌜ r ≡ bit mark ⌝ }
-{
-    if mark { 1 } else { 0 }
 }
 
 // Writes number, cancelled, zones, nodes, tests, bytes.

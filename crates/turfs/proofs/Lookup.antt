@@ -13,7 +13,7 @@ use borrow.Author.Tests.{eq-eqb, ne-eqb}
 use Rattle.basics.specs.Loops.{first, upFrom}
 use Rattle.basics.specs.declared.Spot.{Spot}
 use Rattle.basics.specs.declared.Spot.the-variants.{At, Nowhere}
-use Rattle.basics.proofs.Loops.{first-here, first-on, first-end, All, Found, first-found, first-passes}
+use Rattle.basics.proofs.Loops.{first-here, first-on, first-end, Found, first-found, first-passes, up-below}
 use Rattle.turfs.specs.Board.{Board, turfCount, idOf, rowOf}
 use Rattle.turfs.specs.Refuse.{ascending, idsFit}
 use Rattle.turfs.specs.Tables.{Bracket}
@@ -94,11 +94,6 @@ module _ (ids : List ℕ) (id : ℕ) where
 
 -- ---- ids in order: the first match is the match
 
-upFrom-under : (a n e : ℕ) → a + n ≤ e → All (λ r. r < e) (upFrom a n)
-unfolding upFrom
-upFrom-under a zero e h = tt
-upFrom-under a (suc n) e h = (omega arith, upFrom-under (suc a) n e (omega arith))
-
 found-both : (P Q : ℕ → Type 0) (o : Spot) → Found P o → Found Q o → Found (λ r. P r × Q r) o
 found-both P Q (At r) p q = (p, q)
 found-both P Q Nowhere p q = tt
@@ -112,7 +107,7 @@ module _ (b : Board) (i : ℕ) where
   pub row-found : Found (λ r. (r < turfCount b) × (idOf b r ≡ i)) (rowOf b i)
   unfolding rowOf
   row-found =
-      found-both (λ r. r < turfCount b) (λ r. idOf b r ≡ i) (rowOf b i) (first-found (λ r. r < turfCount b) _ (upFrom 0 (turfCount b)) (upFrom-under 0 (turfCount b) (turfCount b) (omega arith)))
+      found-both (λ r. r < turfCount b) (λ r. idOf b r ≡ i) (rowOf b i) (first-found (λ r. r < turfCount b) _ (upFrom 0 (turfCount b)) (up-below 0 (turfCount b) (turfCount b) (omega arith)))
       (first-passes (λ r. idOf b r ≡ i) _ (upFrom 0 (turfCount b)) (λ r t. eqb→eq (idOf b r) i t))
 
   -- a search of the ids alone

@@ -9,6 +9,7 @@ use lib.ListN.{length, getD, take, drop, drop-of-length-le, length-drop}
 use lib.Seq.{drop-cons, take-all}
 use borrow.Author.Tests.{eq-eqb, ne-eqb}
 use Rattle.basics.specs.Loops.{member}
+use Rattle.basics.proofs.Tests.{and-true, and-false}
 use Rattle.turfs.specs.Board.{Board}
 use Rattle.turfs.specs.Refuse.{pairwise, distinct, rowFits}
 
@@ -35,14 +36,6 @@ module _ (test : ℕ → ℕ → Bool) (l : List ℕ) (i : ℕ) where
       short [] k = refl
       short (x ∷ []) k = refl
       short (x ∷ y ∷ s) k = absurd (omega arith)
-
-and-false : (b : Bool) → (b && false) ≡ false
-and-false true = refl
-and-false false = refl
-
-and-true : (b : Bool) → (b && true) ≡ b
-and-true true = refl
-and-true false = refl
 
 module _ (l : List ℕ) (x i : ℕ) where
   module _ (h : i < length l) where

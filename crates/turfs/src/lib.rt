@@ -7,6 +7,7 @@ ghost use mathlib.Core.Path.{_≡_};
 ghost use mathlib.Core.Bool.{true};
 ghost use Prim.Native.Nat.{_+_, _<_};
 ghost use lib.ListN.{length, getD};
+ghost use Rattle.turfs.specs.Board as tables;
 ghost use Rattle.turfs.specs.Board.{Board, anyBit, lockBit, rowOf};
 ghost use Rattle.turfs.specs.Refuse.{ascending};
 ghost use Rattle.turfs.specs.Tables.{Bracket};
@@ -84,4 +85,13 @@ pub fn links_of(starts: &[u32], row: usize) -> Links
         from: starts[row] as usize,
         to: starts[row + 1] as usize,
     }
+}
+
+// Whether the turf's mixture is immutable.
+pub fn is_immutable(mixtures: &[u32], immutable: &[u8], row: usize) -> bool
+    requires { ⌜ (row < length (now mixtures)) × (getD (now mixtures) row 0 < length (now immutable)) ⌝ }
+    ensures { λ r. ⌜ ((b : Board) → b .mixtures ≡ now (mixtures .entry) → b .immutable ≡ now (immutable .entry) → r ≡ tables.immutable b row) ⌝ }
+{
+    let mix = mixtures[row] as usize;
+    immutable[mix] != 0
 }

@@ -1,41 +1,25 @@
 -- The links of a turf as a part of the link list: link number i of the part is link number `from + i` of the list. Assumes nothing.
-use Prim.Native.Nat.{ℕ, zero, suc, _+_, _-_, _≤_, _<_}
-use native.Mathlib.Omega.{arith}
-use native.Mathlib.Nat.{add-suc, add-zero, sub-zero}
+use Prim.Native.Nat.{ℕ, _+_, _-_, _≤_, _<_}
+use native.Mathlib.Nat.{sub-zero}
 use mathlib.Core.Path.{_≡_, refl, ap, _∙_, sym, subst}
-use mathlib.Core.List.{List, [], _∷_}
+use mathlib.Core.List.{List}
 use mathlib.Core.Bool.{Bool, true, false, cond}
 use lib.Dec.{leb}
-use lib.ListN.{length, getD, take, drop, length-drop}
-use lib.Seq.{length-take-le, getD-take, getD-drop}
+use lib.ListN.{length, getD, take, drop}
 use borrow.Author.Tests.{le-leb, lt-leb}
 use Rattle.basics.specs.Loops.{run, upFrom}
+use Rattle.basics.proofs.Parts as lists
 use Rattle.turfs.specs.Tables.{Parts}
 use Rattle.turfs.specs.Board.{Board, anyBit, enabled, firelock, linksOf}
 use Rattle.events.specs.declared.Event.{Event}
 use Rattle.index_set.specs.Line.{Below}
-use Rattle.index_set.proofs.Queue.{Below-take, Below-drop}
+use Rattle.index_set.proofs.Queue.{Below-take, Below-drop, Below-of}
 use Rattle.walks.specs.Walk.{Walk, walkLink, spread}
 use Rattle.walks.specs.Reached.{State, walkOf, links, Near, grid, Linked}
 
 -- a loop from the start
 pub run-start : {S : Type 0} (f : ℕ → S → S) (e : ℕ) (s : S) → run f (upFrom 0 (e - 0)) s ≡ run f (upFrom 0 e) s
 run-start f e s = ap (λ (k : ℕ). run f (upFrom 0 k) s) (sub-zero e)
-
--- a loop whose numbers are a less
-pub run-shift : {S : Type 0} (f g : ℕ → S → S) (a n : ℕ) → ((i : ℕ) → i < n → (s : S) → f i s ≡ g (a + i) s)
-    → (j m : ℕ) → j + m ≤ n → (s : S) → run f (upFrom j m) s ≡ run g (upFrom (a + j) m) s
-unfolding run upFrom
-run-shift f g a n h j zero l s = refl
-run-shift f g a n h j (suc m) l s =
-    run-shift f g a n h (suc j) m (omega arith) (f j s)
-    ∙ ap (λ (t : _). run g (upFrom (a + suc j) m) t) (h j (omega arith) s)
-    ∙ ap (λ (k : ℕ). run g (upFrom k m) (g (a + j) s)) (add-suc a j)
-
-pub below-of : (n : ℕ) (l : List ℕ) → ((k : ℕ) → k < length l → getD l k 0 < n) → Below n l
-unfolding Below
-below-of n [] h = tt
-below-of n (x ∷ l) h = (h 0 (omega arith), below-of n l (λ k i. h (suc k) (omega arith)))
 
 pub walked-is : (n : ℕ) (a : State) (es : List Event) → walkOf n a es .walked ≡ a .reach .walked
 unfolding walkOf
@@ -62,23 +46,13 @@ module _ (n : ℕ) (starts neighbours : List ℕ) (p : Parts n starts neighbours
   pub part-end : to ≤ length neighbours
   part-end = rw t (p .end row r)
 
-  pub part-length : (xs : List ℕ) → to ≤ length xs → length (take (to - from) (drop from xs)) ≡ to - from
-  part-length xs h = length-take-le (to - from) (drop from xs) (simp length-drop (omega arith))
-
-  pub part-at : (xs : List ℕ) (i : ℕ) → i < to - from → getD (take (to - from) (drop from xs)) i 0 ≡ getD xs (from + i) 0
-  part-at xs i h = getD-take (to - from) (drop from xs) i 0 h ∙ getD-drop from xs i 0
-
   pub part-below : ((k : ℕ) → k < length neighbours → getD neighbours k 0 < n) → Below n (take (to - from) (drop from neighbours))
-  part-below h = Below-take n (to - from) (drop from neighbours) (Below-drop n from neighbours (below-of n neighbours h))
+  part-below h = Below-take n (to - from) (drop from neighbours) (Below-drop n from neighbours (Below-of n neighbours h))
 
   -- a loop over the part is a loop over the turf's links
   pub part-run : {S : Type 0} (g h : ℕ → S → S) → ((i : ℕ) → i < to - from → (s : S) → g i s ≡ h (from + i) s) → (s : S)
       → run g (upFrom 0 (length (take (to - from) (drop from neighbours)))) s ≡ run h (upFrom (getD starts row 0) (getD starts (row + 1) 0 - getD starts row 0)) s
-  part-run g h same s =
-      ap (λ (k : ℕ). run g (upFrom 0 k) s) (part-length neighbours part-end)
-      ∙ run-shift g h from (to - from) same 0 (to - from) (omega arith) s
-      ∙ ap (λ (k : ℕ). run h (upFrom k (to - from)) s) (add-zero from)
-      ∙ rw (f, t)
+  part-run g h same s = lists.part-run g h neighbours from to part-order part-end same s ∙ rw (f, t)
 
 module _ (ids flags starts neighbours linkFlags : List ℕ) (limit row : ℕ) (l : Linked (grid ids flags starts neighbours linkFlags)) (r : row < length ids)
     (from to : ℕ) (f : from ≡ getD starts row 0) (t : to ≡ getD starts (row + 1) 0) where
@@ -102,18 +76,16 @@ module _ (ids flags starts neighbours linkFlags : List ℕ) (limit row : ℕ) (l
 
   pub near-part : Near (length ids) near locks row
   near-part =
-      let part = part-length (length ids) starts neighbours (l .parts) row r from to f t in
+      let up = part-order (length ids) starts neighbours (l .parts) row r from to f t in
       record {
         inside = r;
-        both = part linkFlags near-end-locks ∙ sym (part neighbours near-end);
+        both = lists.part-length linkFlags from to up near-end-locks ∙ sym (lists.part-length neighbours from to up near-end);
         below = part-below (length ids) starts neighbours (l .parts) row r from to f t (l .neighbour);
       }
 
   link-same : (i : ℕ) → i < to - from → (s : Walk) → walkLink (links ids near locks) row i s ≡ walkLink b row (from + i) s
   unfolding walkLink firelock
-  link-same i h s =
-      let part = part-at (length ids) starts neighbours (l .parts) row r from to f t in
-      rw (part neighbours i h, part linkFlags i h)
+  link-same i h s = rw (lists.part-at neighbours from to i h, lists.part-at linkFlags from to i h)
 
   pub spread-on : true ≡ anyBit (getD flags row 0) → (v : Walk) → v .walked ≤ limit
       → run (walkLink (links ids near locks) row) (upFrom 0 (length near)) v ≡ spread b limit row v

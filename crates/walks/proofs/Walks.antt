@@ -12,6 +12,7 @@ use lib.ListN.{length, getD, length-append, List·getD-append}
 use borrow.Author.Tests.{le-ltb}
 use Rattle.basics.specs.Loops.{times, member, snoc}
 use Rattle.basics.proofs.Loops.{All-any, run-keeps, times-keeps, times-rests, and-right}
+use Rattle.basics.proofs.Tests.{and-false}
 use Rattle.turfs.specs.Board.{Board, turfCount, idOf, end, enabled, firelock, linksOf}
 use Rattle.turfs.proofs.Line.{Line, line-snoc}
 use Rattle.events.specs.Events.{kindOf, sizeOf}
@@ -123,10 +124,6 @@ module _ (b : Board) (visit : ℕ → Walk → Walk) where
       w : Walk
       w = times (walkNext b visit) (turfCount b) (startWalk r)
 
-      and-no : (t u : Bool) → u ≡ false → t && u ≡ false
-      and-no true u e = e
-      and-no false u e = refl
-
       go : (going w ≡ false) ⊎ (w .walked ≡ 0 + turfCount b) → going w ≡ false
       go (inl e) = e
-      go (inr e) = and-no (not (w .ended)) (ltb (w .walked) (length (w .queue))) (le-ltb (w .walked) (length (w .queue)) (omega (arith, e, l)))
+      go (inr e) = ap (λ (t : Bool). not (w .ended) && t) (le-ltb (w .walked) (length (w .queue)) (omega (arith, e, l))) ∙ and-false (not (w .ended))

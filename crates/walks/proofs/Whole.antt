@@ -6,13 +6,13 @@ use mathlib.Core.Path.{_≡_, refl, ap, _∙_, sym, subst}
 use mathlib.Core.List.{List, [], _∷_, _++_}
 use mathlib.Core.Bool.{Bool, true, false, not, _&&_}
 use lib.Dec.{ltb}
-use lib.ListN.{length, getD, take, drop, set}
-use lib.Seq.{length-take-le, getD-take, drop-drop}
+use lib.ListN.{length, getD, take, set}
+use lib.Seq.{length-take-le, getD-take}
 use borrow.Author.Tests.{ltb-true}
 use Rattle.basics.specs.Loops.{times, member}
-use Rattle.basics.specs.Regions.{cut, region, base}
+use Rattle.basics.specs.Regions.{cut, region}
 use Rattle.basics.proofs.Loops.{times-still}
-use Rattle.basics.proofs.Regions.{cut-length, cut-rest}
+use Rattle.basics.proofs.Regions.{cut-length}
 use Rattle.basics.proofs.Tests.{both}
 use Rattle.turfs.specs.Board.{Board, turfCount, lockBit, enabled, planetary, immutable, firelock, linksOf}
 use Rattle.turfs.specs.Tables.{board, Tables}
@@ -192,10 +192,3 @@ pub gasless : (b : Board) (kind : Kind) (limit row : ℕ)
 unfolding walk walkNext visitPlanet visitSpace atSpace spread walkLink enabled planetary immutable firelock linksOf
 gasless b Planet limit row = refl
 gasless b Space limit row = refl
-
--- areas that agree past the arrays agree from any later place on
-pub later-same : {A : Type 0} (sizes : List ℕ) (m : ℕ) (w w′ : List A) → base sizes (length sizes) ≤ m → region sizes (length sizes) w′ ≡ region sizes (length sizes) w → drop m w′ ≡ drop m w
-later-same sizes m w w′ h e =
-    let k : ℕ = base sizes (length sizes) in
-    let q : m ≡ k + (m - k) = omega arith in
-    rw q (sym (drop-drop (m - k) k w′) ∙ ap (drop (m - k)) (sym (cut-rest sizes w′) ∙ e ∙ cut-rest sizes w) ∙ drop-drop (m - k) k w)

@@ -197,15 +197,6 @@ fn spread(
     )
 }
 
-// Whether the turf's mixture is immutable.
-pub fn is_immutable(mixtures: &[u32], immutable: &[u8], row: usize) -> bool
-    requires { ⌜ (row < length (now mixtures)) × (getD (now mixtures) row 0 < length (now immutable)) ⌝ }
-    ensures { λ r. ⌜ ((b : Board) → b .mixtures ≡ now (mixtures .entry) → b .immutable ≡ now (immutable .entry) → r ≡ tables.immutable b row) ⌝ }
-{
-    let mix = mixtures[row] as usize;
-    immutable[mix] != 0
-}
-
 // Whether a planetary turf was met before or is met here.
 fn met(planetary: &[u8], row: usize, before: bool) -> bool
     requires { ⌜ row < length (now planetary) ⌝ }
@@ -238,7 +229,7 @@ fn visit_planet(
     ensures { λ r. ⌜ Does (walking (length (now (ids .entry)))) (visitPlanet (board (now (ids .entry)) (now (flags .entry)) (now (planetary .entry)) (now (mixtures .entry)) (now (starts .entry)) (now (neighbours .entry)) (now («link_flags» .entry)) (now (immutable .entry)) 0) limit row) (at s (now (words .entry)) (now (events .entry))) (at r (now (words .exit)) (now (events .exit))) ⌝ }
 {
     let planet = met(planetary, row, s.planet);
-    if is_immutable(mixtures, immutable, row) {
+    if turfs::is_immutable(mixtures, immutable, row) {
         return s.mark(planet, true);
     }
     spread(
@@ -290,7 +281,7 @@ fn visit_space(
     if planetary[r] != 0 {
         return s.mark(true, true);
     }
-    if is_immutable(mixtures, immutable, r) {
+    if turfs::is_immutable(mixtures, immutable, r) {
         return at_space(ids, row, s, events, words);
     }
     spread(

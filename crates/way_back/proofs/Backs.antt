@@ -15,8 +15,6 @@ use Rattle.basics.specs.Regions.{cut, region, base}
 use Rattle.basics.proofs.Regions.{cut-set, cut-get, cut-length}
 use Rattle.turfs.specs.Board.{Board, turfCount, idOf, mixOf}
 use Rattle.mixture.specs.Mixture.{total, clearAir}
-use Rattle.mixture.specs.Moves.{Holds}
-use Rattle.mixture.proofs.Moves.{before}
 use Rattle.events.specs.Events.{encodeAll, encode, kindOf, sizeOf}
 use Rattle.events.specs.Area.{Wrote}
 use Rattle.events.specs.declared.Event.{Event}
@@ -24,6 +22,7 @@ use Rattle.events.specs.declared.Event.the-variants.{HighPressure, Difference, 
 use Rattle.events.proofs.Areas.{wrote-length}
 use Rattle.events.proofs.Sizes.{encode-size, size, size-cons, size-append}
 use Rattle.index_set.specs.Line.{Below}
+use Rattle.index_set.proofs.Queue.{Below-snoc}
 use Rattle.walks.specs.Does.{Does}
 use Rattle.walks.proofs.Does.{none-wrote, both-wrote, one-wrote}
 use Rattle.way_out.specs.Outed.{sizes}
@@ -87,18 +86,9 @@ rips-snoc ids [] (y ∷ ys) r x l = absurd (omega arith)
 rips-snoc ids (q ∷ rs) [] r x l = absurd (omega arith)
 rips-snoc ids (q ∷ rs) (y ∷ ys) r x l = ap (λ (es : List Event). FloorRip (getD ids q 0) y ∷ es) (rips-snoc ids rs ys r x (omega arith))
 
-below-snoc : (n : ℕ) (l : List ℕ) (x : ℕ) → Below n l → x < n → Below n (snoc l x)
-unfolding Below
-below-snoc n [] x b h = (h, tt)
-below-snoc n (y ∷ l) x b h = (b .0, below-snoc n l x (b .1) h)
-
 -- what is written stands in the area
 pub written-room : (b : Board) (a : State) → Fit b a → a .way .used ≤ length (a .area)
 written-room b a h = omega (arith, h .bytes, h .written, h .few)
-
--- the gas holds the amounts of every mixture
-pub holds-of : (gas : List Float) (count g m : ℕ) → length gas ≡ count * g → m < count → Holds gas g m
-holds-of gas count g m e h = subst (λ (k : ℕ). m * g + g ≤ k) (sym e) (before g h)
 
 -- ---- one turf
 
@@ -214,7 +204,7 @@ module _ (b : Board) (row d : ℕ) (s : Way) (gas : List Float) (e w : List ℕ)
         gas = gas-clear;
         amounts = subst (λ (fs : List (List Float)). T (every notNegative (getD fs 0 []))) (sym stores-f) (every-set (set mineOf row (sums .mine)) set-clear d (sums .theirs) theirs-clear);
         sums = subst (λ (fs : List (List Float)). T (every notNegative (take (s .rips + 1) (getD fs 1 [])))) (sym stores-f) (rw more-sums (every-snoc (take (s .rips) (region (lots n) 1 f)) (h .sums) (sums .sum) sum-clear));
-        rows = subst (λ (ws : List (List ℕ)). Below n (take (s .rips + 1) (getD ws 0 []))) (sym stores-w) (rw more-rows (below-snoc n (take (s .rips) (region (sizes n) 0 w)) row (h .rows) r));
+        rows = subst (λ (ws : List (List ℕ)). Below n (take (s .rips + 1) (getD ws 0 []))) (sym stores-w) (rw more-rows (Below-snoc n (take (s .rips) (region (sizes n) 0 w)) row (h .rows) r));
         order = subst (λ (ws : List (List ℕ)). (i : ℕ) → i < s .left → getD (getD ws 2 []) i 0 < n) (sym stores-w) (h .order);
         directed = subst (λ (ws : List (List ℕ)). (x : ℕ) → getD (getD ws 3 []) x 0 ≤ n) (sym stores-w) (h .directed);
       };

@@ -1,9 +1,9 @@
 -- The order from its end, and then the rips: each turn takes one turf off what is left. Assumes nothing.
-use Prim.Native.Nat.{ℕ, zero, suc, _+_, _-_, _*_, _≤_, _<_}
+use Prim.Native.Nat.{ℕ, zero, _+_, _-_, _*_, _≤_, _<_}
 use native.Mathlib.Omega.{arith}
 use native.Mathlib.Numerals.{add-one}
 use mathlib.Core.Path.{_≡_, refl, ap, ap₂, _∙_, sym, subst}
-use mathlib.Core.List.{List, [], _∷_, _++_, reverse, reverse-append, append-assoc, append-nil}
+use mathlib.Core.List.{List, [], _∷_, _++_, reverse, append-assoc, append-nil}
 use mathlib.Core.Bool.{Bool, true, false, not, cond}
 use lib.Dec.{T, eqb}
 use lib.ListN.{length, getD, take, drop, set, replicate, length-drop, length-append, length-replicate, take-append-drop}
@@ -14,6 +14,7 @@ use Rattle.basics.specs.Loops.{run, every, snoc}
 use Rattle.basics.specs.Floats.{0f}
 use Rattle.basics.specs.Regions.{cut, region, base}
 use Rattle.basics.proofs.Regions.{cut-get, cut-length}
+use Rattle.basics.proofs.Loops.{run-back}
 use Rattle.turfs.specs.Board.{Board, turfCount}
 use Rattle.events.specs.Events.{encodeAll, encode, kindOf, sizeOf}
 use Rattle.events.specs.Area.{Wrote}
@@ -128,17 +129,12 @@ module _ (b : Board) (s : Way) (gas : List Float) (e w : List ℕ) (f : List Flo
 
 -- ---- the loop
 
-module _ {S : Type 0} (g : ℕ → S → S) (xs : List ℕ) (v : S) where
-  pub back-next : (left left′ : ℕ) → left′ + 1 ≡ left → left ≤ length xs → run g (reverse (take left xs)) v ≡ run g (reverse (take left′ xs)) (g (getD xs (left - 1) 0) v)
-  unfolding run
-  back-next left left′ q l =
-      let k : left ≡ suc left′ = omega arith in
-      let m : left - 1 ≡ left′ = omega arith in
-      rw (m, k, take-suc xs left′ 0 (omega arith), reverse-append (take left′ xs) (getD xs left′ 0 ∷ []))
-
-  pub back-end : (left : ℕ) → left ≡ 0 → run g (reverse (take left xs)) v ≡ v
-  unfolding run
-  back-end left z = rw z
+-- the turn at the last place that is left
+pub back-next : {S : Type 0} (g : ℕ → S → S) (xs : List ℕ) (v : S) (left left′ : ℕ) → left′ + 1 ≡ left → left ≤ length xs
+    → run g (reverse (take left xs)) v ≡ run g (reverse (take left′ xs)) (g (getD xs (left - 1) 0) v)
+back-next g xs v left left′ q l =
+    let m : left′ ≡ left - 1 = omega arith in
+    run-back g xs left left′ v q (omega arith) ∙ ap (λ (k : ℕ). run g (reverse (take left′ xs)) (g (getD xs k 0) v)) m
 
 pub order-long : (n left : ℕ) (w : List ℕ) → 5 * n ≤ length w → left ≤ n → left ≤ length (region (sizes n) 2 w)
 order-long n left w l h = omega (arith, cut-length (sizes n) w 2 (omega arith) (omega arith))

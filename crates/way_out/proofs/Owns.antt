@@ -1,23 +1,23 @@
 -- The start of the way out: two arrays are cleared, and each space turf is given its place and its target, which no later one changes since none stands twice. Assumes nothing.
 use Prim.Native.Nat.{ℕ, zero, suc, _+_, _-_, _*_, _≤_, _<_}
 use native.Mathlib.Omega.{arith}
-use native.Mathlib.Numerals.{add-one}
 use native.Mathlib.Nat.{not-suc-le-zero, le-of-suc-le-suc}
 use native.Mathlib.Decide.{ℕ-discrete}
 use mathlib.Core.Path.{_≡_, refl, ap, _∙_, sym, subst}
-use mathlib.Core.Logic.{_≢_}
-use mathlib.Core.List.{List, [], _∷_, _++_, append-nil}
+use mathlib.Core.List.{List, [], _∷_, _++_}
 use mathlib.Core.Bool.{false}
-use lib.Dec.{T}
-use lib.ListN.{length, getD, take, drop, set, replicate, length-set, length-drop, length-replicate, drop-of-length-le}
-use lib.Seq.{length-take-le, getD-take, getD-set-same, getD-set-other, drop-cons}
-use Rattle.basics.specs.Loops.{run, times, member}
+use lib.ListN.{length, getD, take, drop, set, replicate, length-set, length-replicate}
+use lib.Seq.{length-take-le, getD-take, getD-set-same, getD-set-other}
+use Rattle.basics.specs.Loops.{run, times}
 use Rattle.basics.specs.Regions.{cut, region, base}
 use Rattle.basics.proofs.Regions.{cut-set, cut-get, cut-length, cut-part}
+use Rattle.basics.proofs.Loops.{run-at, run-stop}
+use Rattle.basics.proofs.Lists.{apart-at}
+use Rattle.basics.proofs.Parts.{cleared-length}
 use Rattle.turfs.specs.Board.{Board, turfCount, idOf}
 use Rattle.events.specs.declared.Event.{Event}
 use Rattle.index_set.specs.Line.{Below, Apart, Line}
-use Rattle.index_set.proofs.Queue.{Below-at, at-member}
+use Rattle.index_set.proofs.Queue.{Below-at, apart-all}
 use Rattle.walks.specs.Does.{Does}
 use Rattle.way_out.specs.Out.{Out, outNext, outward}
 use Rattle.way_out.specs.Outed.{State, at, sizes, outIn, outOf, Rest, Fit, outing, Owned, Outed}
@@ -33,37 +33,22 @@ size-at n (suc (suc (suc zero))) h = refl
 size-at n (suc (suc (suc (suc zero)))) h = refl
 size-at n (suc (suc (suc (suc (suc k))))) h = absurd (omega arith)
 
-pub array-cleared : (n k : ℕ) (w ys : List ℕ) (from size : ℕ) → k < 5 → from ≡ base (sizes n) k → 5 * n ≤ length w → size ≡ n → from ≤ 4 * n
-    → ys ≡ replicate n 0 ++ drop n (take size (drop from w))
-    → cut (sizes n) (take from w ++ (ys ++ drop size (drop from w))) ≡ set (cut (sizes n) w) k (replicate n 0)
-array-cleared n k w ys from size h f l s m y =
-    let part : length (take n (drop from w)) ≡ n = length-take-le n (drop from w) (rw (length-drop from w) (omega arith)) in
-    let y′ : ys ≡ replicate n 0 =
-    y ∙ ap (λ (j : ℕ). replicate n 0 ++ drop n (take j (drop from w))) s
-    ∙ ap (λ (r : List ℕ). replicate n 0 ++ r) (drop-of-length-le (take n (drop from w)) {i = n} (omega arith))
-    ∙ append-nil (replicate n 0) in
-    cut-part (sizes n) w k ys from size h (omega arith) f (s ∙ sym (size-at n k h)) (ap length y′ ∙ length-replicate {A = ℕ} n 0 ∙ sym s)
-    ∙ ap (set (cut (sizes n) w) k) y′
+-- an array that came back as zeros
+array-cleared : (n k : ℕ) (w : List ℕ) (from : ℕ) → k < 5 → from ≡ base (sizes n) k → 5 * n ≤ length w
+    → cut (sizes n) (take from w ++ (replicate n 0 ++ drop n (drop from w))) ≡ set (cut (sizes n) w) k (replicate n 0)
+array-cleared n k w from h f l = cut-part (sizes n) w k (replicate n 0) from n h (omega arith) f (sym (size-at n k h)) (length-replicate {A = ℕ} n 0)
+
+-- the ways, and then the targets
+module _ (n : ℕ) (w : List ℕ) {w₁ : List ℕ} (l : 5 * n ≤ length w) (e : w₁ ≡ take (3 * n) w ++ (replicate n 0 ++ drop n (drop (3 * n) w))) where
+  pub cleared-ways : cut (sizes n) w₁ ≡ set (cut (sizes n) w) 3 (replicate n 0)
+  cleared-ways = ap (cut (sizes n)) e ∙ array-cleared n 3 w (3 * n) (omega arith) (omega arith) l
+
+  pub cleared-targets : {w₂ : List ℕ} → w₂ ≡ take (4 * n) w₁ ++ (replicate n 0 ++ drop n (drop (4 * n) w₁)) → cut (sizes n) w₂ ≡ set (cut (sizes n) w₁) 4 (replicate n 0)
+  cleared-targets q =
+      let same : length w₁ ≡ length w = ap length e ∙ cleared-length (3 * n) n w (omega (arith, l)) in
+      ap (cut (sizes n)) q ∙ array-cleared n 4 w₁ (4 * n) (omega arith) (omega arith) (omega (arith, l, same))
 
 -- ---- places and targets
-
--- a loop over what is left of a list: one turn, and the end
-run-drop : {S : Type 0} (f : ℕ → S → S) (xs : List ℕ) (i : ℕ) (t : S) → i < length xs → run f (drop i xs) t ≡ run f (drop (i + 1) xs) (f (getD xs i 0) t)
-unfolding run
-run-drop f xs i t h = rw (add-one i, drop-cons xs i 0 h)
-
-run-done : {S : Type 0} (f : ℕ → S → S) (xs : List ℕ) (i : ℕ) (t : S) → length xs ≤ i → run f (drop i xs) t ≡ t
-unfolding run
-run-done f xs i t h = rw (drop-of-length-le xs {i = i} h)
-
--- two places of a list with none twice hold two numbers
-apart-at : (xs : List ℕ) (i j : ℕ) → Apart xs → i < j → j < length xs → getD xs j 0 ≢ getD xs i 0
-unfolding Apart
-apart-at [] i j a h l = absurd (omega arith)
-apart-at (x ∷ xs) zero zero a h l = absurd (omega arith)
-apart-at (x ∷ xs) zero (suc j) a h l = λ e. subst T (ap (λ (y : ℕ). member y xs) e ∙ a .0) (at-member xs j (omega arith))
-apart-at (x ∷ xs) (suc i) zero a h l = absurd (omega arith)
-apart-at (x ∷ xs) (suc i) (suc j) a h l = apart-at xs i j (a .1) (omega arith) (omega arith)
 
 module _ (ids : List ℕ) (count : ℕ) (w : List ℕ) where
   abbrev n : ℕ
@@ -143,14 +128,14 @@ module _ (ids : List ℕ) (count : ℕ) (w : List ℕ) where
                 go (no e) =
                     let k′ : j < i = omega arith in
                     getD-set-other (o .places) row (getD order j 0) i 0
-                    (λ x. apart-at (take count order) j i apart k′ (rw taken h) (sym row-taken ∙ sym x ∙ sym (getD-take count order j 0 (omega arith))))
+                    (λ x. apart-at (take count order) j i (apart-all (take count order) apart) k′ (rw taken h) (sym row-taken ∙ sym x ∙ sym (getD-take count order j 0 (omega arith))))
                     ∙ o .placed j k′
 
             on : run own (drop (i + 1) (take count order)) (set (o .target) row (getD ids row 0)) ≡ run own (take count order) (region (sizes n) 4 w)
             on =
                 let less : i < length (take count order) = rw taken h in
                 ap (λ (x : ℕ). run own (drop (i + 1) (take count order)) (set (o .target) x (getD ids x 0))) row-taken
-                ∙ sym (run-drop own (take count order) i (o .target) less)
+                ∙ sym (run-at own (take count order) i less (o .target))
                 ∙ o .on
 
       pub owning-end : (w′ : List ℕ) (i : ℕ) → i ≤ count → count ≤ i → Owning i w′ → Owned ids count w w′
@@ -163,7 +148,7 @@ module _ (ids : List ℕ) (count : ℕ) (w : List ℕ) where
         where
           all : o .target ≡ run own (take count order) (region (sizes n) 4 w)
           all =
-              sym (run-done own (take count order) i (o .target) (omega (arith, taken))) ∙ o .on
+              sym (run-stop own (take count order) i (omega (arith, taken)) (o .target)) ∙ o .on
 
 -- ---- the start
 

@@ -13,12 +13,13 @@ use Rattle.basics.specs.Loops.{run, times, upFrom, member}
 use Rattle.basics.specs.Regions.{cut, region, base}
 use Rattle.basics.proofs.Loops.{All-any, run-keeps, cond-both, times-still}
 use Rattle.basics.proofs.Regions.{cut-get}
+use Rattle.basics.proofs.Parts.{part-at}
 use Rattle.turfs.specs.Board.{Board, end, immutable, linksOf}
 use Rattle.events.specs.declared.Event.{Event}
 use Rattle.index_set.specs.Line.{Below}
 use Rattle.index_set.proofs.Queue.{Below-at}
 use Rattle.walks.specs.Does.{Does}
-use Rattle.walks.proofs.LinkParts.{part-at, part-run}
+use Rattle.walks.proofs.LinkParts.{part-run}
 use Rattle.walks.proofs.Does.{none-wrote}
 use Rattle.way_out.specs.Out.{Out, outTo, outLink, outRow, outNext}
 use Rattle.way_out.specs.Outed.{State, at, sizes, outIn, outOf, Rest, Fit, outing, shore, coast, Coast, passNext}
@@ -96,7 +97,7 @@ module _ (ids mixtures starts neighbours immut : List ℕ) (c : Coast (coast ids
 
   link-same : (i : ℕ) → i < to - from → (s : Out) → outLink (shore ids mixtures near immut) row i s ≡ outLink (coast ids mixtures starts neighbours immut) row (from + i) s
   unfolding outLink outTo immutable
-  link-same i h s = rw (part-at (length ids) starts neighbours (c .parts) row r from to f t neighbours i h)
+  link-same i h s = rw (part-at neighbours from to i h)
 
   pub links-same : (s : Out) → run (outLink (shore ids mixtures near immut) row) (upFrom 0 (length near)) s
       ≡ run (outLink (coast ids mixtures starts neighbours immut) row) (linksOf (coast ids mixtures starts neighbours immut) row) s

@@ -64,7 +64,7 @@ fn out_link(
 {
     let n = ids.len();
     let a = near[i];
-    if walks::is_immutable(mixtures, immutable, a as usize) {
+    if turfs::is_immutable(mixtures, immutable, a as usize) {
         return s;
     }
     let count = s.count;
@@ -171,15 +171,6 @@ fn out_rows(
     t
 }
 
-// Sets the array of n words from `from` on to zero.
-fn clear_array(words: &mut [u32], n: usize, from: usize)
-    requires { ⌜ (n ≤ 4096) × ((5 * n ≤ length (now words)) × (from ≤ 4 * n)) ⌝ }
-    ensures { λ _. ⌜ ((k : ℕ) → k < 5 → from ≡ base (sizes n) k → cut (sizes n) (now (words .exit)) ≡ set (cut (sizes n) (now (words .entry))) k (replicate n 0)) ⌝ }
-{
-    let to = from + n;
-    basics::clear(&mut words[from..to], n);
-}
-
 // The space turf number i has its place, and is its own target.
 fn own_target(ids: &[u32], i: usize, words: &mut [u32])
     requires { ⌜ (length (now ids) ≤ 4096) × (5 * length (now ids) ≤ length (now words)) ⌝ }
@@ -224,8 +215,8 @@ pub fn outward(
     ensures { λ r. ⌜ Outed (coast (now (ids .entry)) (now (mixtures .entry)) (now (starts .entry)) (now (neighbours .entry)) (now (immutable .entry))) limit spaces used r (now (words .entry)) (now (words .exit)) (now (events .entry)) (now (events .exit)) ⌝ }
 {
     let n = ids.len();
-    clear_array(words, n, 3 * n);
-    clear_array(words, n, 4 * n);
+    basics::clear_part(words, 3 * n, n);
+    basics::clear_part(words, 4 * n, n);
     own_targets(ids, spaces, words);
     let s = Front {
         count: spaces,

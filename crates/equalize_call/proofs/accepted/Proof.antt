@@ -4,7 +4,8 @@ use denote.Ref.{now}
 use Rattle.turfs.specs.Tables.{board}
 use Rattle.lent.specs.Given.{lent}
 use Rattle.fill_all.specs.Held.{ask}
-use Rattle.equalize_call.proofs.Calls.{fill-asks, fills, filled}
+use Rattle.fill_all.proofs.Asked.{fill-asks}
+use Rattle.equalize_call.proofs.Calls.{fills, filled}
 use borrow.Author.Needs.{needs}
 use Rattle.equalize_call.proofs.accepted.Statement.{statement}
 use Rattle.equalize_call.proofs.accepted.Tie as tie

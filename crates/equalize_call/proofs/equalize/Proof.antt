@@ -6,7 +6,8 @@ use Rattle.turfs.specs.Tables.{board}
 use Rattle.lent.specs.Given.{lent}
 use Rattle.lent.proofs.Numbers.{scratch-of}
 use Rattle.fill_all.specs.Held.{ask}
-use Rattle.equalize_call.proofs.Calls.{number-is, granted, few-processed, few-tests, few-zones, few-bytes, refused-is, answered}
+use Rattle.fill_all.proofs.Asked.{number-is, granted}
+use Rattle.equalize_call.proofs.Calls.{few-processed, few-tests, few-zones, few-bytes, refused-is, answered}
 use borrow.Author.Needs.{needs}
 use Rattle.equalize_call.proofs.equalize.Statement.{statement}
 use Rattle.equalize_call.proofs.equalize.Tie as tie

@@ -7,7 +7,7 @@ use Rattle.equalize_call.proofs.play.Tie as tie
 use Rattle.equalize_call.proofs.play.Reads as reads
 use Rattle.equalize_call.proofs.play.Lts as lts
 use Rattle.apart.proofs.apart.Reads as apart-reads
-use Rattle.equalize_call.proofs.bit.Reads as bit-reads
+use Rattle.equalize.proofs.bit.Reads as bit-reads
 use Rattle.finish_turns.proofs.finish_all.Reads as finish-all-reads
 use Rattle.flood_fill.proofs.nodes_at.Reads as nodes-at-reads
 use Rattle.flood_fill.proofs.starts_at.Reads as starts-at-reads

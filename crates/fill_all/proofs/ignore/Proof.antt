@@ -10,7 +10,7 @@ use Rattle.fill_all.proofs.ignore.Tie as tie
 use Rattle.fill_all.proofs.ignore.Reads as reads
 use Rattle.fill_all.proofs.ignore.Lts as lts
 use Rattle.fill_all.proofs.give_back.Reads as give-back-reads
-use Rattle.flood_fill.proofs.queue_at.Reads as queue-at-reads
+use Rattle.index_set.proofs.queue_at.Reads as queue-at-reads
 
 abbrev Inv-loop : tie.InvT-loop
 Inv-loop queued n e starts words₀ queue i₀ words i = Backing n e starts queued i words₀ words
@@ -20,7 +20,7 @@ abbrev μ-loop : tie.MeasureT-loop
 
 -- src/lib.rt:125:9
 queue-at-requires : tie.Need-queue-at-requires Inv-loop μ-loop
-queue-at-requires c κs = c .before .before .pre .0 .0
+queue-at-requires c κs = (c .before .before .pre .0 .0 .links, c .before .before .pre .0 .0 .turfs)
 
 -- src/lib.rt:127:5
 loop-holds : tie.Need-loop-holds Inv-loop μ-loop

@@ -14,7 +14,7 @@ use Rattle.fill_zone.proofs.breaks.Reads as breaks-reads
 use Rattle.fill_zone.proofs.ended.Reads as ended-reads
 use Rattle.fill_zone.proofs.expand.Reads as expand-reads
 use Rattle.fill_zone.proofs.is_planet.Reads as is-planet-reads
-use Rattle.flood_fill.proofs.queue_at.Reads as queue-at-reads
+use Rattle.index_set.proofs.queue_at.Reads as queue-at-reads
 
 -- src/lib.rt:147:21
 queue-at-requires : tie.Need-queue-at-requires

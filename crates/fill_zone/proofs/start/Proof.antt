@@ -10,8 +10,8 @@ use Rattle.fill_zone.proofs.start.Reads as reads
 use Rattle.fill_zone.proofs.start.Lts as lts
 use Rattle.flood_fill.proofs.found_at.Reads as found-at-reads
 use Rattle.flood_fill.proofs.nodes_at.Reads as nodes-at-reads
-use Rattle.flood_fill.proofs.places_at.Reads as places-at-reads
-use Rattle.flood_fill.proofs.queue_at.Reads as queue-at-reads
+use Rattle.index_set.proofs.places_at.Reads as places-at-reads
+use Rattle.index_set.proofs.queue_at.Reads as queue-at-reads
 use Rattle.index_set.proofs.insert.Reads as insert-reads
 
 -- src/lib.rt:181:11

@@ -1,9 +1,10 @@
 -- Equal rows are one mixture; two rows of the list hold their amounts. Assumes nothing.
 use denote.Ref.{now}
-use Rattle.finish_send.proofs.Edge.{holds-mix, share-same, share-moved}
+use Rattle.finish_send.proofs.Edge.{share-same, share-moved}
 use borrow.Author.Needs.{needs}
 use Rattle.finish_send.proofs.move_between.Statement.{statement}
 use Rattle.finish_send.proofs.move_between.Tie as tie
+use Rattle.mixture.proofs.Parts.{holds-of}
 
 mul-giver : tie.Need-mul-giver
 mul-giver c = search needs
@@ -27,7 +28,7 @@ returns : tie.Need-returns
 returns c = λ b m i g. share-same b _ _ _ _ _ m (c .if1 .taken)
 
 move-air-requires : tie.Need-move-air-requires
-move-air-requires c κs = (c .before .before .before .before .before .before .before .pre .1 .0, ((holds-mix (now (c .before .before .before .before .before .before .before .args .gas)) _ _ _ (c .before .before .before .before .before .before .before .pre .1 .1) (c .before .before .before .before .before .before .before .pre .1 .0 .0), holds-mix (now (c .before .before .before .before .before .before .before .args .gas)) _ _ _ (c .before .before .before .before .before .before .before .pre .1 .1) (c .before .before .before .before .before .before .before .pre .1 .0 .1)), c .before .if1 .left))
+move-air-requires c κs = (c .before .before .before .before .before .before .before .pre .1 .0, ((holds-of (now (c .before .before .before .before .before .before .before .args .gas)) _ _ _ (c .before .before .before .before .before .before .before .pre .1 .1) (c .before .before .before .before .before .before .before .pre .1 .0 .0), holds-of (now (c .before .before .before .before .before .before .before .args .gas)) _ _ _ (c .before .before .before .before .before .before .before .pre .1 .1) (c .before .before .before .before .before .before .before .pre .1 .0 .1)), c .before .if1 .left))
 
 same-length : tie.Need-same-length
 same-length c = search needs

@@ -10,7 +10,7 @@ use Rattle.flood_fill.proofs.edge_to.Tie as tie
 use Rattle.flood_fill.proofs.edge_to.Reads as reads
 use Rattle.flood_fill.proofs.edge_to.Lts as lts
 use Rattle.flood_fill.proofs.nodes_at.Reads as nodes-at-reads
-use Rattle.flood_fill.proofs.places_at.Reads as places-at-reads
+use Rattle.index_set.proofs.places_at.Reads as places-at-reads
 use Rattle.index_set.proofs.contains.Reads as contains-reads
 use Rattle.index_set.proofs.insert.Reads as insert-reads
 

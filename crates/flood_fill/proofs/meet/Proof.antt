@@ -1,5 +1,6 @@
 -- Each mark is read from its own table. Assumes nothing.
 use Rattle.flood_fill.specs.Steps.{metAt}
+use Rattle.flood_fill.proofs.Steps.{marked-immutable}
 use mathlib.Core.Path.{_∙_}
 use borrow.Author.Needs.{needs}
 use Rattle.flood_fill.proofs.meet.Statement.{statement}
@@ -7,7 +8,7 @@ use Rattle.flood_fill.proofs.meet.Tie as tie
 use Rattle.flood_fill.proofs.meet.Reads as reads
 use Rattle.flood_fill.proofs.meet.Lts as lts
 use Rattle.flood_fill.proofs.across_firelock.Reads as across-firelock-reads
-use Rattle.flood_fill.proofs.is_immutable.Reads as is-immutable-reads
+use Rattle.turfs.proofs.is_immutable.Reads as is-immutable-reads
 use Rattle.turfs.proofs.SimulationFlags.enabled.Reads as enabled-reads
 
 -- src/lib.rt:119:29
@@ -29,7 +30,7 @@ across-firelock-requires c κs = search needs
 -- src/lib.rt:103:1
 returns : tie.Need-returns
 unfolding metAt
-returns c = rw (c .before .before .enabled .ensures, c .before .is-immutable .ensures, c .across-firelock .ensures)
+returns c = rw (c .before .before .enabled .ensures, marked-immutable _ _ _ (c .before .is-immutable .ensures), c .across-firelock .ensures)
 
 pub meet-spec : {M : Type 1} → statement M
 meet-spec =

@@ -7,7 +7,7 @@ use Rattle.flood_fill.proofs.push.Statement.{statement}
 use Rattle.flood_fill.proofs.push.Tie as tie
 use Rattle.flood_fill.proofs.push.Reads as reads
 use Rattle.flood_fill.proofs.push.Lts as lts
-use Rattle.flood_fill.proofs.queue_at.Reads as queue-at-reads
+use Rattle.index_set.proofs.queue_at.Reads as queue-at-reads
 
 -- src/lib.rt:155:9
 returns : tie.Need-returns

@@ -1,19 +1,11 @@
 -- Both tests, in the other order. Assumes nothing.
-use mathlib.Core.Path.{_≡_, refl, sym, _∙_}
-use mathlib.Core.Bool.{Bool, true, false, _&&_}
+use mathlib.Core.Path.{sym, _∙_}
 use Rattle.basics.specs.Floats.{finiteSignClear}
+use Rattle.basics.proofs.Tests.{and-true, and-false}
 use Rattle.mixture.specs.Mixture.{amountFits}
 use borrow.Author.Needs.{needs}
 use Rattle.mixture.proofs.amount_fits.Statement.{statement}
 use Rattle.mixture.proofs.amount_fits.Tie as tie
-
-and-true : (b : Bool) → (b && true) ≡ b
-and-true true = refl
-and-true false = refl
-
-and-false : (b : Bool) → (b && false) ≡ false
-and-false true = refl
-and-false false = refl
 
 finite-sign-clear-requires : tie.Need-finite-sign-clear-requires
 finite-sign-clear-requires c κs = search needs

@@ -8,17 +8,17 @@ use Rattle.plan_all.proofs.clear_plan.Tie as tie
 add-direction : tie.Need-add-direction
 add-direction c = search needs
 
-clear-rows-requires : tie.Need-clear-rows-requires
-clear-rows-requires c κs = search needs
+clear-part-requires : tie.Need-clear-part-requires
+clear-part-requires c κs = search needs
 
-add-clear-rows : tie.Need-add-clear-rows
-add-clear-rows c = search needs
+add-clear-part : tie.Need-add-clear-part
+add-clear-part c = search needs
 
-add-clear-rows-2 : tie.Need-add-clear-rows-2
-add-clear-rows-2 c = search needs
+add-clear-part-2 : tie.Need-add-clear-part-2
+add-clear-part-2 c = search needs
 
-clear-rows-requires-2 : tie.Need-clear-rows-requires-2
-clear-rows-requires-2 c κs = search needs
+clear-part-requires-2 : tie.Need-clear-part-requires-2
+clear-part-requires-2 c κs = search needs
 
 add-clear-floats : tie.Need-add-clear-floats
 add-clear-floats c = search needs
@@ -36,17 +36,17 @@ same-length-2 : tie.Need-same-length-2
 same-length-2 c = search needs
 
 returns : tie.Need-returns
-returns c = blanked _ _ _ (c .before .before .before .before .before .before .before .before .before .before .before .before .before .before .pre) (c .before .before .before .before .before .before .before .before .before .before .clear-rows .ensures) (c .before .before .before .before .before .before .clear-rows2 .ensures) (c .before .before .clear-floats .ensures) (c .before .before .before .before .before .before .clear-rows2 .kept .1 .1 .0 ∙ c .before .before .before .before .before .before .before .before .before .before .clear-rows .kept .1 .1 .0) (c .before .before .before .before .before .before .before .before .before .before .clear-rows .kept .1 .1 .0) (c .before .before .clear-floats .kept .0)
+returns c = blanked _ _ _ (c .before .before .before .before .before .before .before .before .before .before .before .before .before .before .pre) (c .before .before .before .before .before .before .before .before .before .before .clear-part .ensures) (c .before .before .before .before .before .before .clear-part2 .ensures) (c .before .before .clear-floats .ensures) (c .before .before .before .before .before .before .clear-part2 .kept .0 ∙ c .before .before .before .before .before .before .before .before .before .before .clear-part .kept .0) (c .before .before .before .before .before .before .before .before .before .before .clear-part .kept .0) (c .before .before .clear-floats .kept .0)
 
 pub clear-plan-spec : {M : Type 1} → statement M
 clear-plan-spec =
     tie.close
     (tie.spec
     add-direction
-    clear-rows-requires
-    add-clear-rows
-    add-clear-rows-2
-    clear-rows-requires-2
+    clear-part-requires
+    add-clear-part
+    add-clear-part-2
+    clear-part-requires-2
     add-clear-floats
     add-clear-floats-2
     clear-floats-requires

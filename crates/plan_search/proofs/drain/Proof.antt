@@ -5,11 +5,12 @@ use mathlib.Core.Path.{_≡_, refl, _∙_, sym}
 use mathlib.Core.List.{reverse}
 use lib.ListN.{length, take}
 use borrow.Author.Needs.{needs}
+use Rattle.basics.proofs.Loops.{run-back-end}
 use Rattle.basics.specs.Loops.{run}
 use Rattle.plan_state.specs.Held.{area, view}
 use Rattle.plan_search.specs.Steps.{drainVia}
 use Rattle.plan_state.proofs.Nodes.{Onto, onto-start, onto-next, onto-end}
-use Rattle.plan_search.proofs.Drains.{row-below, row-within, row-next, back-end, drained-same}
+use Rattle.plan_search.proofs.Drains.{row-within, row-next, drained-same, row-below}
 use Rattle.plan_search.proofs.drain.Statement.{statement}
 use Rattle.plan_search.proofs.drain.Tie as tie
 
@@ -54,7 +55,7 @@ same-length : tie.Need-same-length Inv-loop μ-loop
 same-length c = search needs
 
 returns : tie.Need-returns Inv-loop μ-loop
-returns c = onto-end (c .before .loop .inv .1) (λ o p. back-end _ _ _ _ (c .loop-test .left))
+returns c = onto-end (c .before .loop .inv .1) (λ o p. run-back-end _ _ _ _ (c .loop-test .left))
 
 pub drain-spec : {M : Type 1} → statement M
 drain-spec =

@@ -1,5 +1,6 @@
 -- The tests of what only equalize is lent, and then the refusals of every call. Assumes nothing.
-use Rattle.stages.proofs.Calls.{number-is}
+use mathlib.Core.List.{[]}
+use Rattle.fill_all.proofs.Asked.{number-is}
 use borrow.Author.Needs.{needs}
 use Rattle.stages.proofs.refusal.Statement.{statement}
 use Rattle.stages.proofs.refusal.Tie as tie
@@ -18,7 +19,7 @@ refusal-requires c κs = search needs
 
 -- src/lib.rt:27:1
 returns : tie.Need-returns
-returns c = λ limit allowance. number-is _ _ _ _ (c .before .extra-tests .ensures) (c .refusal .ensures)
+returns c = λ limit allowance. number-is _ _ [] _ _ (c .before .extra-tests .ensures) (c .refusal .ensures)
 
 pub refusal-spec : {M : Type 1} → statement M
 refusal-spec = tie.close (tie.spec extra-tests-requires refusal-requires returns)

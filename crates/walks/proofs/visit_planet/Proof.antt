@@ -7,7 +7,7 @@ use Rattle.walks.proofs.visit_planet.Tie as tie
 use Rattle.walks.proofs.visit_planet.Reads as reads
 use Rattle.walks.proofs.visit_planet.Lts as lts
 use Rattle.walks.proofs.Reach.mark.Reads as mark-reads
-use Rattle.walks.proofs.is_immutable.Reads as is-immutable-reads
+use Rattle.turfs.proofs.is_immutable.Reads as is-immutable-reads
 use Rattle.walks.proofs.met.Reads as met-reads
 use Rattle.walks.proofs.spread.Reads as spread-reads
 

@@ -8,7 +8,7 @@ use Rattle.walks.proofs.visit_space.Reads as reads
 use Rattle.walks.proofs.visit_space.Lts as lts
 use Rattle.walks.proofs.Reach.mark.Reads as mark-reads
 use Rattle.walks.proofs.at_space.Reads as at-space-reads
-use Rattle.walks.proofs.is_immutable.Reads as is-immutable-reads
+use Rattle.turfs.proofs.is_immutable.Reads as is-immutable-reads
 use Rattle.walks.proofs.spread.Reads as spread-reads
 
 -- src/lib.rt:290:8

@@ -4,6 +4,7 @@ use mathlib.Core.Path.{refl}
 use denote.Ref.{now}
 use lib.ListN.{length, take}
 use mathlib.Core.List.{reverse}
+use Rattle.basics.proofs.Loops.{run-back-end}
 use Rattle.basics.specs.Loops.{run}
 use Rattle.basics.specs.Regions.{region}
 use Rattle.walks.proofs.Does.{Going, going-start, going-next, going-end}
@@ -11,7 +12,7 @@ use Rattle.way_out.specs.Outed.{sizes}
 use Rattle.way_back.specs.Back.{back}
 use Rattle.way_back.specs.Backed.{at, backing, air, directions}
 use Rattle.way_back.proofs.Backs.{written-room}
-use Rattle.way_back.proofs.Ways.{kept-words, kept-floats, kept-gas, kept-area, turn-as, back-next, back-end, order-long}
+use Rattle.way_back.proofs.Ways.{kept-words, kept-floats, kept-gas, kept-area, turn-as, back-next, order-long}
 use Rattle.way_back.proofs.back_all.Statement.{statement}
 use Rattle.way_back.proofs.back_all.Tie as tie
 use Rattle.way_back.proofs.back_all.Reads as reads
@@ -58,7 +59,7 @@ same-length-4 c = kept-floats (c .before .before .loop .inv)
 
 -- src/lib.rt:168:1
 returns : tie.Need-returns Inv-loop μ-loop
-returns c = (going-end (backing _) (c .before .before .loop .inv) (λ es. back-end _ _ _ (c .before .before .loop .t .left) (omega (arith, c .if1 .left))), omega (arith, c .if1 .left))
+returns c = (going-end (backing _) (c .before .before .loop .inv) (λ es. run-back-end _ _ (c .before .before .loop .t .left) _ (omega (arith, c .if1 .left))), omega (arith, c .if1 .left))
 
 pub back-all-spec : {M : Type 1} → statement M
 back-all-spec =

@@ -5,7 +5,7 @@ use Prim.Native.Nat.{ℕ}
 use lib.Dec.{eqb}
 use denote.Ref.{now}
 use Rattle.way_back.specs.Backed.{air}
-use Rattle.way_back.proofs.Backs.{holds-of, mine-number, theirs-number, told-room, direction-at, does-back}
+use Rattle.way_back.proofs.Backs.{mine-number, theirs-number, told-room, direction-at, does-back}
 use borrow.Author.Needs.{needs}
 use Rattle.way_back.proofs.back_to.Statement.{statement}
 use Rattle.way_back.proofs.back_to.Tie as tie
@@ -13,6 +13,7 @@ use Rattle.way_back.proofs.back_to.Reads as reads
 use Rattle.way_back.proofs.back_to.Lts as lts
 use Rattle.way_back.proofs.settle.Reads as settle-reads
 use Rattle.way_back.proofs.tell.Reads as tell-reads
+use Rattle.mixture.proofs.Parts.{holds-of}
 
 -- src/lib.rt:111:9
 settle-requires : tie.Need-settle-requires

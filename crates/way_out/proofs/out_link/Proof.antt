@@ -11,7 +11,7 @@ use Rattle.way_out.proofs.out_link.Tie as tie
 use Rattle.way_out.proofs.out_link.Reads as reads
 use Rattle.way_out.proofs.out_link.Lts as lts
 use Rattle.index_set.proofs.contains.Reads as contains-reads
-use Rattle.walks.proofs.is_immutable.Reads as is-immutable-reads
+use Rattle.turfs.proofs.is_immutable.Reads as is-immutable-reads
 use Rattle.way_out.proofs.out_to.Reads as out-to-reads
 
 -- src/lib.rt:66:13

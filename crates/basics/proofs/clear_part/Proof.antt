@@ -2,10 +2,10 @@
 use Prim.Native.Nat.{_+_, _-_}
 use native.Mathlib.Omega.{arith}
 use denote.Ref.{now}
-use Rattle.plan_all.proofs.Plans.{rows-cleared}
+use Rattle.basics.proofs.Parts.{part-cleared}
 use borrow.Author.Needs.{needs}
-use Rattle.plan_all.proofs.clear_rows.Statement.{statement}
-use Rattle.plan_all.proofs.clear_rows.Tie as tie
+use Rattle.basics.proofs.clear_part.Statement.{statement}
+use Rattle.basics.proofs.clear_part.Tie as tie
 
 add-to : tie.Need-add-to
 add-to c = search needs
@@ -29,10 +29,10 @@ same-length : tie.Need-same-length
 same-length c = search needs
 
 returns : tie.Need-returns
-returns c = rows-cleared (c .before .before .before .before .before .args .at) (c .before .before .before .before .before .args .n) (c .before .before .before .before .before .args .at + c .before .before .before .before .before .args .n - c .before .before .before .before .before .args .at) (now (c .before .before .before .before .before .args .words)) (c .before .before .clear .last .0) (c .before .before .before .before .before .pre) (omega arith) (c .before .before .clear .ensures)
+returns c = part-cleared (c .before .before .before .before .before .args .at) (c .before .before .before .before .before .args .n) (c .before .before .before .before .before .args .at + c .before .before .before .before .before .args .n - c .before .before .before .before .before .args .at) (now (c .before .before .before .before .before .args .words)) (c .before .before .clear .last .0) (c .before .before .before .before .before .pre) (omega arith) (c .before .before .clear .ensures)
 
-pub clear-rows-spec : {M : Type 1} → statement M
-clear-rows-spec =
+pub clear-part-spec : {M : Type 1} → statement M
+clear-part-spec =
     tie.close
     (tie.spec
     add-to

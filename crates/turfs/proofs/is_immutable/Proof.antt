@@ -1,30 +1,25 @@
 -- The turf's row of the mixtures is its mixture. Assumes nothing.
 use Prim.Native.Nat.{ℕ}
 use mathlib.Core.Path.{ap, sym, _∙_}
 use Rattle.turfs.specs.Board.{immutable}
 use borrow.Author.Needs.{needs}
-use Rattle.walks.proofs.is_immutable.Statement.{statement}
-use Rattle.walks.proofs.is_immutable.Tie as tie
-use Rattle.walks.proofs.is_immutable.Reads as reads
-use Rattle.walks.proofs.is_immutable.Lts as lts
+use Rattle.turfs.proofs.is_immutable.Statement.{statement}
+use Rattle.turfs.proofs.is_immutable.Tie as tie
+use Rattle.turfs.proofs.is_immutable.Reads as reads
+use Rattle.turfs.proofs.is_immutable.Lts as lts
 
--- src/lib.rt:205:15
 mul-mix : tie.Need-mul-mix
 mul-mix c = search needs
 
--- src/lib.rt:205:15
 shared-slice-read-mix : tie.Need-shared-slice-read-mix
 shared-slice-read-mix c = search needs
 
--- src/lib.rt:205:15
 cast-mix : tie.Need-cast-mix
 cast-mix c = search needs
 
--- src/lib.rt:206:5
 shared-slice-read-result : tie.Need-shared-slice-read-result
 shared-slice-read-result c = search needs
 
--- src/lib.rt:201:1
 returns : tie.Need-returns
 unfolding immutable
 returns c = λ b m i. rw (m, i)

@@ -1,0 +1,55 @@
+-- A call that equalize's number lets pass was lent what filling asks for. Assumes nothing.
+use Prim.Native.Nat.{ℕ, _+_, _*_, _≤_}
+use native.Mathlib.Omega.{arith}
+use mathlib.Core.Path.{_≡_, ap, _∙_}
+use mathlib.Core.List.{List}
+use mathlib.Core.Bool.{true, _&&_}
+use lib.Dec.{T, leb}
+use lib.Ieee.Bits.{is-true}
+use lib.ListN.{length}
+use Rattle.basics.specs.Floats.{finiteSignClear}
+use Rattle.turfs.specs.Board.{Board, turfCount, linkCount}
+use Rattle.turfs.specs.Refuse.{ascending, linksFit}
+use Rattle.turfs.proofs.Accepted.{Accepted}
+use Rattle.lent.specs.Lent.{Lent, Extra, wordsRoom, floatsRoom, refusal}
+use Rattle.lent.specs.Given.{Given}
+use Rattle.lent.proofs.Passed.{Passed, passed, links-pass}
+use Rattle.lent.proofs.Numbers.{given}
+use Rattle.flood_fill.specs.Held.{nodesAt}
+use Rattle.equalize.specs.Equalize.{Ask}
+use Rattle.equalize.specs.Result.{equalizeRoom, equalizeNumber}
+use Rattle.fill_all.specs.Held.{molesAt}
+
+module _ (b : Board) (q : Ask) (turns : List ℕ) (l : Lent) where
+  -- what only equalize is lent
+  abbrev pub extra : Extra
+  extra = record { sizes = leb (length (q .hot)) 4096 && leb (length turns) 65536; threshold = finiteSignClear (q .threshold); hot = ascending (q .hot) }
+
+  -- its number is the refusal of all that it is lent
+  pub number-is : {number : ℕ} (x : Extra) → x ≡ extra → number ≡ refusal b l (equalizeRoom b) x → number ≡ equalizeNumber b q turns l
+  unfolding equalizeNumber
+  number-is x e r = r ∙ ap (refusal b l (equalizeRoom b)) e
+
+  -- ---- not refused
+
+  module _ (z : equalizeNumber b q turns l ≡ 0) where
+    pub let-pass : Passed b l (equalizeRoom b) extra
+    unfolding equalizeNumber
+    let-pass = passed b l (equalizeRoom b) extra z
+
+    pub granted : Given b l (equalizeRoom b)
+    unfolding equalizeNumber
+    granted = given b l (equalizeRoom b) extra z
+
+    pub let-links : T (linksFit b)
+    unfolding equalizeNumber
+    let-links = links-pass b l (equalizeRoom b) extra z
+
+    -- what filling asks
+    pub fill-asks : (Accepted b (length (l .gas)) × (finiteSignClear (q .threshold) ≡ true))
+        × ((nodesAt (turfCount b) (linkCount b) + turfCount b + linkCount b + turfCount b ≤ length (l .words))
+        × ((molesAt (turfCount b) (linkCount b) + turfCount b ≤ length (l .floats)) × (16 * turfCount b ≤ length (l .area))))
+    unfolding wordsRoom floatsRoom
+    fill-asks =
+        let p = let-pass in
+        ((p .board, is-true (finiteSignClear (q .threshold)) (p .threshold)), (omega (arith, p .words), (omega (arith, p .floats), omega (arith, p .area))))
