@@ -8,9 +8,6 @@ use libc::STDOUT_FILENO;
 // Where reading goes on once a number is missing or a list too long; no number is found from here.
 const LOST: usize = 0xffff_ffff_ffff_ffff;
 
-// How long the text of a vector may be whose digits are tried.
-const SHORT: usize = 2_000;
-
 // A number, and where the next one stands.
 struct Number {
     value: u32,
@@ -29,18 +26,33 @@ struct Seen {
     next: usize,
 }
 
+// How long the lent areas are, and where the next number stands.
+struct Room {
+    bytes: usize,
+    words: usize,
+    floats: usize,
+    next: usize,
+}
+
+// The numbers that equalize is asked with, and where the next number stands.
+struct Asked {
+    threshold: f32,
+    limit: u32,
+    allowance: u32,
+    next: usize,
+}
+
+// The numbers that a walk is asked with, and where the next number stands.
+struct Walk {
+    id: u32,
+    limit: u32,
+    next: usize,
+}
+
 // One vector replayed: the call, the number it answered, where its expectations begin, whether it could be read and they were met, and where
 // the next vector stands.
 struct Vector {
     call: u32,
-    number: u32,
-    expected: usize,
-    same: bool,
-    next: usize,
-}
-
-// What a call answered: its first number, where its expectations begin, whether the answer is as expected, and where the next number stands.
-struct Answered {
     number: u32,
     expected: usize,
     same: bool,
@@ -207,6 +219,30 @@ fn read_amounts(input: &[u8], from: usize, out: &mut [f32]) -> List
     List { count, next: at }
 }
 
+// Reads the numbers that equalize is asked with.
+fn read_asked(input: &[u8], from: usize) -> Asked {
+    let threshold = read_number(input, from);
+    let limit = read_number(input, threshold.next);
+    let allowance = read_number(input, limit.next);
+    Asked {
+        threshold: amount_of(threshold.value),
+        limit: limit.value,
+        allowance: allowance.value,
+        next: allowance.next,
+    }
+}
+
+// Reads the numbers that a walk is asked with.
+fn read_walk(input: &[u8], from: usize) -> Walk {
+    let id = read_number(input, from);
+    let limit = read_number(input, id.next);
+    Walk {
+        id: id.value,
+        limit: limit.value,
+        next: limit.next,
+    }
+}
+
 // What a byte of the event area holds before a call; then a scratch word, and the bits of a scratch float.
 fn event_before(i: usize) -> u8 {
     ((i % 256 * 31 + 7) % 256) as u8
@@ -245,11 +281,25 @@ fn lend_floats(floats: &mut [f32]) {
     }
 }
 
-// Fills all three areas.
-fn lend(events: &mut [u8], words: &mut [u32], floats: &mut [f32]) {
-    lend_events(events);
-    lend_words(words);
-    lend_floats(floats);
+// Reads how long the three areas are, and fills so much of them.
+fn lend(input: &[u8], from: usize, events: &mut [u8], words: &mut [u32], floats: &mut [f32]) -> Room
+    ensures { λ r. ⌜ (r .bytes ≤ length (now (events .entry))) × (r .words ≤ length (now (words .entry))) × (r .floats ≤ length (now (floats .entry))) ⌝ }
+{
+    let e = length_of(input, from, events.len());
+    let w = length_of(input, e.next, words.len());
+    let f = length_of(input, w.next, floats.len());
+    let bytes = e.count;
+    let cells = w.count;
+    let numbers = f.count;
+    lend_events(&mut events[..bytes]);
+    lend_words(&mut words[..cells]);
+    lend_floats(&mut floats[..numbers]);
+    Room {
+        bytes,
+        words: cells,
+        floats: numbers,
+        next: f.next,
+    }
 }
 
 // Whether two things hold; unlike `&&` it is no branch of the caller.
@@ -389,18 +439,30 @@ fn same_lent(
     }
 }
 
-// A call's answer, held to the list that stands here.
-fn made(input: &[u8], expected: usize, number: u32, answer: &[u32]) -> Answered {
-    let s = same_answer(input, expected, answer);
-    Answered {
+// A call's answer and the lent cells, held to what is expected from here on.
+fn held(
+    call: u32,
+    input: &[u8],
+    expected: usize,
+    answer: &[u32],
+    number: u32,
+    amounts: &[f32],
+    events: &[u8],
+    words: &[u32],
+    floats: &[f32],
+) -> Vector {
+    let a = same_answer(input, expected, answer);
+    let s = same_lent(input, a.next, amounts, events, words, floats);
+    Vector {
+        call,
         number,
         expected,
-        same: s.same,
+        same: both(both(a.same, s.same), s.next != LOST),
         next: s.next,
     }
 }
 
-// Equalizes as is asked here.
+// Equalizes as is asked here, and looks at every cell.
 fn equalize(
     input: &[u8],
     from: usize,
@@ -417,14 +479,12 @@ fn equalize(
     events: &mut [u8],
     words: &mut [u32],
     floats: &mut [f32],
-) -> Answered {
+) -> Vector {
     let mut hot = [0u32; 4_097];
     let mut turns = [0u32; 128];
     let h = read_words(input, from, &mut hot);
     let t = read_words(input, h.next, &mut turns);
-    let threshold = read_number(input, t.next);
-    let limit = read_number(input, threshold.next);
-    let allowance = read_number(input, limit.next);
+    let asked = read_asked(input, t.next);
     let hot_count = h.count;
     let turn_count = t.count;
     let a = equalize_call::equalize(
@@ -440,9 +500,9 @@ fn equalize(
         amounts,
         &hot[..hot_count],
         &turns[..turn_count],
-        amount_of(threshold.value),
-        limit.value,
-        allowance.value,
+        asked.threshold,
+        asked.limit,
+        asked.allowance,
         events,
         words,
         floats,
@@ -456,10 +516,20 @@ fn equalize(
         a.apart,
         a.bytes,
     ];
-    made(input, allowance.next, a.number, &answer)
+    held(
+        1,
+        input,
+        asked.next,
+        &answer,
+        a.number,
+        amounts,
+        events,
+        words,
+        floats,
+    )
 }
 
-// Depressurizes as is asked here.
+// Depressurizes as is asked here, and looks at every cell.
 fn depressurize(
     input: &[u8],
     from: usize,
@@ -476,9 +546,8 @@ fn depressurize(
     events: &mut [u8],
     words: &mut [u32],
     floats: &mut [f32],
-) -> Answered {
-    let id = read_number(input, from);
-    let limit = read_number(input, id.next);
+) -> Vector {
+    let asked = read_walk(input, from);
     let a = depressurize::depressurize(
         ids,
         flags,
@@ -490,17 +559,27 @@ fn depressurize(
         immutable,
         gases,
         amounts,
-        id.value,
-        limit.value,
+        asked.id,
+        asked.limit,
         events,
         words,
         floats,
     );
     let answer = [a.number, a.outcome, a.bytes];
-    made(input, limit.next, a.number, &answer)
+    held(
+        2,
+        input,
+        asked.next,
+        &answer,
+        a.number,
+        amounts,
+        events,
+        words,
+        floats,
+    )
 }
 
-// Walks to a planet as is asked here.
+// Walks to a planet as is asked here, and looks at every cell.
 fn planet_walk(
     input: &[u8],
     from: usize,
@@ -517,9 +596,8 @@ fn planet_walk(
     events: &mut [u8],
     words: &mut [u32],
     floats: &mut [f32],
-) -> Answered {
-    let id = read_number(input, from);
-    let limit = read_number(input, id.next);
+) -> Vector {
+    let asked = read_walk(input, from);
     let a = planet_walk::planet_walk(
         ids,
         flags,
@@ -531,17 +609,27 @@ fn planet_walk(
         immutable,
         gases,
         amounts,
-        id.value,
-        limit.value,
+        asked.id,
+        asked.limit,
         events,
         words,
         floats,
     );
     let answer = [a.number, a.bytes];
-    made(input, limit.next, a.number, &answer)
+    held(
+        3,
+        input,
+        asked.next,
+        &answer,
+        a.number,
+        amounts,
+        events,
+        words,
+        floats,
+    )
 }
 
-// The call with this number; for another number the place is lost.
+// Makes the call with this number; for another number the place is lost.
 fn make(
     call: u32,
     input: &[u8],
@@ -559,7 +647,7 @@ fn make(
     events: &mut [u8],
     words: &mut [u32],
     floats: &mut [f32],
-) -> Answered {
+) -> Vector {
     match call {
         1 => equalize(
             input,
@@ -612,7 +700,8 @@ fn make(
             words,
             floats,
         ),
-        _ => Answered {
+        _ => Vector {
+            call,
             number: 0,
             expected: LOST,
             same: false,
@@ -621,105 +710,7 @@ fn make(
     }
 }
 
-// The answer and the lent cells together.
-fn replayed(call: u32, m: Answered, s: Seen) -> Vector {
-    Vector {
-        call,
-        number: m.number,
-        expected: m.expected,
-        same: both(both(m.same, s.same), s.next != LOST),
-        next: s.next,
-    }
-}
-
-// Fills the areas, makes the call and looks at every cell.
-fn play(
-    call: u32,
-    input: &[u8],
-    from: usize,
-    ids: &[u32],
-    flags: &[u8],
-    planetary: &[u8],
-    mixtures: &[u32],
-    starts: &[u32],
-    neighbours: &[u32],
-    link_flags: &[u8],
-    immutable: &[u8],
-    gases: u32,
-    amounts: &mut [f32],
-    events: &mut [u8],
-    words: &mut [u32],
-    floats: &mut [f32],
-) -> Vector {
-    lend(events, words, floats);
-    let m = make(
-        call,
-        input,
-        from,
-        ids,
-        flags,
-        planetary,
-        mixtures,
-        starts,
-        neighbours,
-        link_flags,
-        immutable,
-        gases,
-        amounts,
-        events,
-        words,
-        floats,
-    );
-    let s = same_lent(input, m.next, amounts, events, words, floats);
-    replayed(call, m, s)
-}
-
-// Plays with areas of the lengths that stand here.
-fn play_within(
-    call: u32,
-    input: &[u8],
-    from: usize,
-    ids: &[u32],
-    flags: &[u8],
-    planetary: &[u8],
-    mixtures: &[u32],
-    starts: &[u32],
-    neighbours: &[u32],
-    link_flags: &[u8],
-    immutable: &[u8],
-    gases: u32,
-    amounts: &mut [f32],
-    events: &mut [u8],
-    words: &mut [u32],
-    floats: &mut [f32],
-) -> Vector {
-    let e = length_of(input, from, events.len());
-    let w = length_of(input, e.next, words.len());
-    let f = length_of(input, w.next, floats.len());
-    let bytes = e.count;
-    let cells = w.count;
-    let numbers = f.count;
-    play(
-        call,
-        input,
-        f.next,
-        ids,
-        flags,
-        planetary,
-        mixtures,
-        starts,
-        neighbours,
-        link_flags,
-        immutable,
-        gases,
-        amounts,
-        &mut events[..bytes],
-        &mut words[..cells],
-        &mut floats[..numbers],
-    )
-}
-
-// Reads the mixtures' tables that stand here, and plays.
+// Reads the mixtures' tables and the areas' lengths that stand here, and makes the call.
 fn replay_gas(
     call: u32,
     input: &[u8],
@@ -740,12 +731,16 @@ fn replay_gas(
     let i = read_bytes(input, from, &mut immutable);
     let gases = read_number(input, i.next);
     let a = read_amounts(input, gases.next, &mut amounts);
+    let room = lend(input, a.next, &mut events, &mut words, &mut floats);
     let immutable_count = i.count;
     let amount_count = a.count;
-    play_within(
+    let bytes = room.bytes;
+    let cells = room.words;
+    let numbers = room.floats;
+    make(
         call,
         input,
-        a.next,
+        room.next,
         ids,
         flags,
         planetary,
@@ -756,9 +751,9 @@ fn replay_gas(
         &immutable[..immutable_count],
         gases.value,
         &mut amounts[..amount_count],
-        &mut events,
-        &mut words,
-        &mut floats,
+        &mut events[..bytes],
+        &mut words[..cells],
+        &mut floats[..numbers],
     )
 }
 
@@ -878,13 +873,18 @@ fn show(text: &[u8]) {
     io::write_all(STDOUT_FILENO, text);
 }
 
+// Prints a number and a text.
+fn show_count(n: u32, what: &[u8]) {
+    show_number(n);
+    show(what);
+}
+
 // A line for a call: how many were done, and how many refused by each number.
 fn show_call(name: &[u8], counts: &[u32; 32], call: usize)
     requires { ⌜ call < 4 ⌝ }
 {
     show(name);
-    show_number(counts[call * 8]);
-    show(b" done, refused by 1 to 7:");
+    show_count(counts[call * 8], b" done, refused by 1 to 7:");
     let mut i = 1;
     while i < 8 {
         show(b" ");
@@ -896,14 +896,22 @@ fn show_call(name: &[u8], counts: &[u32; 32], call: usize)
 
 // The lines about all vectors.
 fn show_total(t: Total) {
-    show_number(t.vectors);
-    show(b" vectors, ");
-    show_number(t.differ);
-    show(b" differ\n");
+    show_count(t.vectors, b" vectors, ");
+    show_count(t.differ, b" differ\n");
     if t.differ != 0 {
         show(b"the first that differs is vector ");
-        show_number(t.first);
-        show(b"\n");
+        show_count(t.first, b"\n");
+    }
+}
+
+// All lines: about each call, about all vectors, and whether the place was lost.
+fn show_all(counts: &[u32; 32], t: Total, at: usize) {
+    show_call(b"equalize: ", counts, 1);
+    show_call(b"depressurize: ", counts, 2);
+    show_call(b"planet walk: ", counts, 3);
+    show_total(t);
+    if at == LOST {
+        show(b"the next vector is torn or too long\n");
     }
 }
 
@@ -935,13 +943,7 @@ fn print(input: &[u8]) {
             t = counted(t, r.same);
         }
     }
-    show_call(b"equalize: ", &counts, 1);
-    show_call(b"depressurize: ", &counts, 2);
-    show_call(b"planet walk: ", &counts, 3);
-    show_total(t);
-    if at == LOST {
-        show(b"the next vector is torn or too long\n");
-    }
+    show_all(&counts, t, at);
 }
 
 // How many were tried, and how many of them found.
@@ -998,16 +1000,6 @@ fn text_end(input: &[u8], from: usize, to: usize) -> usize
         at += 1;
     }
     end
-}
-
-// The end of a text that is short enough to be tried; of a longer one 0, so that nothing is.
-fn short_end(at: usize, end: usize) -> usize
-    ensures { λ r. ⌜ r ≤ end ⌝ }
-{
-    if std::num::wrapping_sub_usize(end, at) <= SHORT {
-        return end;
-    }
-    0
 }
 
 // Where the number begins that holds the byte at p, after the byte before it belonged to a number that begins at a place.
@@ -1076,20 +1068,18 @@ fn tears(input: &[u8], at: usize, end: usize, before: Tried) -> Tried
 
 // A line about what was tried.
 fn show_tried(t: Tried, what: &[u8]) {
-    show_number(t.tried);
-    show(what);
-    show_number(t.found);
-    show(b" found\n");
+    show_count(t.tried, what);
+    show_count(t.found, b" found\n");
 }
 
-// Every short vector's digits.
+// Every vector's digits.
 fn run(input: &mut [u8]) {
     let mut changed = Tried { tried: 0, found: 0 };
     let mut torn = Tried { tried: 0, found: 0 };
     let mut at = skip(input, 0);
     while at < input.len() {
         let r = replay(input, at);
-        let end = short_end(at, text_end(input, r.expected, r.next));
+        let end = text_end(input, r.expected, r.next);
         changed = changes(input, at, r.expected, end, changed);
         torn = tears(input, at, end, torn);
         at = further(at, r.next);
@@ -1108,10 +1098,24 @@ fn spoil(input: &mut [u8]) {
     input[p] = other(input[p]);
 }
 
+// Prints what is said of vectors with one number changed.
+fn print_spoiled(input: &mut [u8]) {
+    spoil(input);
+    show(b"with one number changed:\n");
+    print(input);
+}
+
 // Prints what is said of the first half.
 fn print_half(input: &[u8]) {
     let n = input.len() / 2;
+    show(b"the first half:\n");
     print(&input[..n]);
+}
+
+// Prints what is said of a list that is too long.
+fn print_long() {
+    show(b"a list that is too long:\n");
+    print(b"3 43 1 2 3");
 }
 
 // All runs, one after the other, of at most 512 KiB of vectors.
@@ -1122,13 +1126,9 @@ fn run_all(input: &mut [u8]) {
     }
     print(input);
     run(input);
-    spoil(input);
-    show(b"with one number changed:\n");
-    print(input);
-    show(b"the first half:\n");
+    print_spoiled(input);
     print_half(input);
-    show(b"a list that is too long:\n");
-    print(b"3 43 1 2 3");
+    print_long();
 }
 
 // Reads vectors from standard input; one byte more than 512 KiB tells that there are too many.

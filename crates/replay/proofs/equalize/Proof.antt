@@ -17,14 +17,8 @@ slice-aggregate-read-words-2 c = search needs
 read-words-requires-2 : tie.Need-read-words-requires-2
 read-words-requires-2 c κs = search needs
 
-read-number-requires : tie.Need-read-number-requires
-read-number-requires c κs = search needs
-
-read-number-requires-2 : tie.Need-read-number-requires-2
-read-number-requires-2 c κs = search needs
-
-read-number-requires-3 : tie.Need-read-number-requires-3
-read-number-requires-3 c κs = search needs
+read-asked-requires : tie.Need-read-asked-requires
+read-asked-requires c κs = search needs
 
 array-share-prefix-hot : tie.Need-array-share-prefix-hot
 array-share-prefix-hot c = search needs
@@ -38,17 +32,14 @@ array-share-prefix-turns c = search needs
 slice-aggregate-equalize-2 : tie.Need-slice-aggregate-equalize-2
 slice-aggregate-equalize-2 c = sym (length-take-le _ _ (search needs))
 
-amount-of-requires : tie.Need-amount-of-requires
-amount-of-requires c κs = search needs
-
 equalize-requires : tie.Need-equalize-requires
 equalize-requires c κs = search needs
 
-slice-aggregate-made : tie.Need-slice-aggregate-made
-slice-aggregate-made c = search needs
+slice-aggregate-held : tie.Need-slice-aggregate-held
+slice-aggregate-held c = search needs
 
-made-requires : tie.Need-made-requires
-made-requires c κs = search needs
+held-requires : tie.Need-held-requires
+held-requires c κs = search needs
 
 same-length : tie.Need-same-length
 same-length c = search needs
@@ -73,17 +64,14 @@ equalize-spec =
     read-words-requires
     slice-aggregate-read-words-2
     read-words-requires-2
-    read-number-requires
-    read-number-requires-2
-    read-number-requires-3
+    read-asked-requires
     array-share-prefix-hot
     slice-aggregate-equalize
     array-share-prefix-turns
     slice-aggregate-equalize-2
-    amount-of-requires
     equalize-requires
-    slice-aggregate-made
-    made-requires
+    slice-aggregate-held
+    held-requires
     same-length
     same-length-2
     same-length-3

@@ -6,10 +6,10 @@ use Rattle.replay.proofs.print.Statement.{statement}
 use Rattle.replay.proofs.print.Tie as tie
 
 abbrev Inv-loop : tie.InvT-loop
-Inv-loop input counts₀ t₀ at₀ t6 t7 t8 t9 counts t at = Unit {0}
+Inv-loop input counts₀ t₀ at₀ counts t at = Unit {0}
 
 abbrev μ-loop : tie.MeasureT-loop
-μ-loop input counts₀ t₀ at₀ t6 t7 t8 t9 counts t at = length input - at
+μ-loop input counts₀ t₀ at₀ counts t at = length input - at
 
 skip-requires : tie.Need-skip-requires Inv-loop μ-loop
 skip-requires c κs = search needs
@@ -41,38 +41,11 @@ loop-less-2 c = search needs
 loop-again-2 : tie.Need-loop-again-2 Inv-loop μ-loop
 loop-again-2 c = search needs
 
-slice-aggregate-show-call : tie.Need-slice-aggregate-show-call Inv-loop μ-loop
-slice-aggregate-show-call c = search needs
-
-show-call-requires : tie.Need-show-call-requires Inv-loop μ-loop
-show-call-requires c κs = search needs
-
-slice-aggregate-show-call-2 : tie.Need-slice-aggregate-show-call-2 Inv-loop μ-loop
-slice-aggregate-show-call-2 c = search needs
-
-show-call-requires-2 : tie.Need-show-call-requires-2 Inv-loop μ-loop
-show-call-requires-2 c κs = search needs
-
-slice-aggregate-show-call-3 : tie.Need-slice-aggregate-show-call-3 Inv-loop μ-loop
-slice-aggregate-show-call-3 c = search needs
-
-show-call-requires-3 : tie.Need-show-call-requires-3 Inv-loop μ-loop
-show-call-requires-3 c κs = search needs
-
-show-total-requires : tie.Need-show-total-requires Inv-loop μ-loop
-show-total-requires c κs = search needs
-
-slice-aggregate-show : tie.Need-slice-aggregate-show Inv-loop μ-loop
-slice-aggregate-show c = search needs
-
-show-requires : tie.Need-show-requires Inv-loop μ-loop
-show-requires c κs = search needs
+show-all-requires : tie.Need-show-all-requires Inv-loop μ-loop
+show-all-requires c κs = search needs
 
 returns : tie.Need-returns Inv-loop μ-loop
 returns c = search needs
-
-returns-2 : tie.Need-returns-2 Inv-loop μ-loop
-returns-2 c = search needs
 
 pub print-spec : {M : Type 1} → statement M
 print-spec =
@@ -90,14 +63,5 @@ print-spec =
     loop-again
     loop-less-2
     loop-again-2
-    slice-aggregate-show-call
-    show-call-requires
-    slice-aggregate-show-call-2
-    show-call-requires-2
-    slice-aggregate-show-call-3
-    show-call-requires-3
-    show-total-requires
-    slice-aggregate-show
-    show-requires
-    returns
-    returns-2)
+    show-all-requires
+    returns)

@@ -1,4 +1,4 @@
--- `replay_gas` is safe: a list that was read is no longer than its array. Assumes nothing.
+-- `replay_gas` is safe: a list that was read is no longer than its array, and the lengths are at most those of the areas. Assumes nothing.
 use mathlib.Core.Path.{sym}
 use lib.Seq.{length-take-le}
 use borrow.Author.Needs.{needs}
@@ -20,29 +20,50 @@ slice-aggregate-read-amounts c = search needs
 read-amounts-requires : tie.Need-read-amounts-requires
 read-amounts-requires c κs = search needs
 
+slice-aggregate-lend : tie.Need-slice-aggregate-lend
+slice-aggregate-lend c = search needs
+
+slice-aggregate-lend-2 : tie.Need-slice-aggregate-lend-2
+slice-aggregate-lend-2 c = search needs
+
+slice-aggregate-lend-3 : tie.Need-slice-aggregate-lend-3
+slice-aggregate-lend-3 c = search needs
+
+lend-requires : tie.Need-lend-requires
+lend-requires c κs = search needs
+
 array-share-prefix-immutable : tie.Need-array-share-prefix-immutable
 array-share-prefix-immutable c = search needs
 
-slice-aggregate-play-within : tie.Need-slice-aggregate-play-within
-slice-aggregate-play-within c = sym (length-take-le _ _ (search needs))
+slice-aggregate-make : tie.Need-slice-aggregate-make
+slice-aggregate-make c = sym (length-take-le _ _ (search needs))
 
 array-borrow-prefix-amounts : tie.Need-array-borrow-prefix-amounts
 array-borrow-prefix-amounts c = search needs
 
-slice-aggregate-play-within-2 : tie.Need-slice-aggregate-play-within-2
-slice-aggregate-play-within-2 c = sym (length-take-le _ _ (search needs))
+slice-aggregate-make-2 : tie.Need-slice-aggregate-make-2
+slice-aggregate-make-2 c = sym (length-take-le _ _ (search needs))
 
-slice-aggregate-play-within-3 : tie.Need-slice-aggregate-play-within-3
-slice-aggregate-play-within-3 c = search needs
+array-borrow-prefix-events : tie.Need-array-borrow-prefix-events
+array-borrow-prefix-events c = search needs
 
-slice-aggregate-play-within-4 : tie.Need-slice-aggregate-play-within-4
-slice-aggregate-play-within-4 c = search needs
+slice-aggregate-make-3 : tie.Need-slice-aggregate-make-3
+slice-aggregate-make-3 c = sym (length-take-le _ _ (search needs))
 
-slice-aggregate-play-within-5 : tie.Need-slice-aggregate-play-within-5
-slice-aggregate-play-within-5 c = search needs
+array-borrow-prefix-words : tie.Need-array-borrow-prefix-words
+array-borrow-prefix-words c = search needs
 
-play-within-requires : tie.Need-play-within-requires
-play-within-requires c κs = search needs
+slice-aggregate-make-4 : tie.Need-slice-aggregate-make-4
+slice-aggregate-make-4 c = sym (length-take-le _ _ (search needs))
+
+array-borrow-prefix-floats : tie.Need-array-borrow-prefix-floats
+array-borrow-prefix-floats c = search needs
+
+slice-aggregate-make-5 : tie.Need-slice-aggregate-make-5
+slice-aggregate-make-5 c = sym (length-take-le _ _ (search needs))
+
+make-requires : tie.Need-make-requires
+make-requires c κs = search needs
 
 returns : tie.Need-returns
 returns c = search needs
@@ -56,12 +77,19 @@ replay-gas-spec =
     read-number-requires
     slice-aggregate-read-amounts
     read-amounts-requires
+    slice-aggregate-lend
+    slice-aggregate-lend-2
+    slice-aggregate-lend-3
+    lend-requires
     array-share-prefix-immutable
-    slice-aggregate-play-within
+    slice-aggregate-make
     array-borrow-prefix-amounts
-    slice-aggregate-play-within-2
-    slice-aggregate-play-within-3
-    slice-aggregate-play-within-4
-    slice-aggregate-play-within-5
-    play-within-requires
+    slice-aggregate-make-2
+    array-borrow-prefix-events
+    slice-aggregate-make-3
+    array-borrow-prefix-words
+    slice-aggregate-make-4
+    array-borrow-prefix-floats
+    slice-aggregate-make-5
+    make-requires
     returns)

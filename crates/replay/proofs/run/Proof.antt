@@ -24,9 +24,6 @@ replay-requires c κs = search needs
 text-end-requires : tie.Need-text-end-requires Inv-loop μ-loop
 text-end-requires c κs = search needs
 
-short-end-requires : tie.Need-short-end-requires Inv-loop μ-loop
-short-end-requires c κs = search needs
-
 changes-requires : tie.Need-changes-requires Inv-loop μ-loop
 changes-requires c κs = search needs
 
@@ -70,7 +67,6 @@ run-spec =
     loop-holds
     replay-requires
     text-end-requires
-    short-end-requires
     changes-requires
     tears-requires
     further-requires

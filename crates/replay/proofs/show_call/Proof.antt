@@ -13,8 +13,35 @@ abbrev μ-loop : tie.MeasureT-loop
 show-requires : tie.Need-show-requires Inv-loop μ-loop
 show-requires c κs = search needs
 
+mul-show-count : tie.Need-mul-show-count Inv-loop μ-loop
+mul-show-count c = search needs
+
+mul-show-count-2 : tie.Need-mul-show-count-2 Inv-loop μ-loop
+mul-show-count-2 c = search needs
+
+element-copy-out-show-count : tie.Need-element-copy-out-show-count Inv-loop μ-loop
+element-copy-out-show-count c = search needs
+
+slice-aggregate-show-count : tie.Need-slice-aggregate-show-count Inv-loop μ-loop
+slice-aggregate-show-count c = search needs
+
+show-count-requires : tie.Need-show-count-requires Inv-loop μ-loop
+show-count-requires c κs = search needs
+
+loop-holds : tie.Need-loop-holds Inv-loop μ-loop
+loop-holds c = search needs
+
+slice-aggregate-show : tie.Need-slice-aggregate-show Inv-loop μ-loop
+slice-aggregate-show c = search needs
+
+show-requires-2 : tie.Need-show-requires-2 Inv-loop μ-loop
+show-requires-2 c κs = search needs
+
 mul-show-number : tie.Need-mul-show-number Inv-loop μ-loop
 mul-show-number c = search needs
+
+add-show-number : tie.Need-add-show-number Inv-loop μ-loop
+add-show-number c = search needs
 
 mul-show-number-2 : tie.Need-mul-show-number-2 Inv-loop μ-loop
 mul-show-number-2 c = search needs
@@ -25,36 +52,6 @@ element-copy-out-show-number c = search needs
 show-number-requires : tie.Need-show-number-requires Inv-loop μ-loop
 show-number-requires c κs = search needs
 
-slice-aggregate-show : tie.Need-slice-aggregate-show Inv-loop μ-loop
-slice-aggregate-show c = search needs
-
-show-requires-2 : tie.Need-show-requires-2 Inv-loop μ-loop
-show-requires-2 c κs = search needs
-
-loop-holds : tie.Need-loop-holds Inv-loop μ-loop
-loop-holds c = search needs
-
-slice-aggregate-show-2 : tie.Need-slice-aggregate-show-2 Inv-loop μ-loop
-slice-aggregate-show-2 c = search needs
-
-show-requires-3 : tie.Need-show-requires-3 Inv-loop μ-loop
-show-requires-3 c κs = search needs
-
-mul-show-number-3 : tie.Need-mul-show-number-3 Inv-loop μ-loop
-mul-show-number-3 c = search needs
-
-add-show-number : tie.Need-add-show-number Inv-loop μ-loop
-add-show-number c = search needs
-
-mul-show-number-4 : tie.Need-mul-show-number-4 Inv-loop μ-loop
-mul-show-number-4 c = search needs
-
-element-copy-out-show-number-2 : tie.Need-element-copy-out-show-number-2 Inv-loop μ-loop
-element-copy-out-show-number-2 c = search needs
-
-show-number-requires-2 : tie.Need-show-number-requires-2 Inv-loop μ-loop
-show-number-requires-2 c κs = search needs
-
 add-i : tie.Need-add-i Inv-loop μ-loop
 add-i c = search needs
 
@@ -64,11 +61,11 @@ loop-less c = search needs
 loop-again : tie.Need-loop-again Inv-loop μ-loop
 loop-again c = search needs
 
-slice-aggregate-show-3 : tie.Need-slice-aggregate-show-3 Inv-loop μ-loop
-slice-aggregate-show-3 c = search needs
+slice-aggregate-show-2 : tie.Need-slice-aggregate-show-2 Inv-loop μ-loop
+slice-aggregate-show-2 c = search needs
 
-show-requires-4 : tie.Need-show-requires-4 Inv-loop μ-loop
-show-requires-4 c κs = search needs
+show-requires-3 : tie.Need-show-requires-3 Inv-loop μ-loop
+show-requires-3 c κs = search needs
 
 returns : tie.Need-returns Inv-loop μ-loop
 returns c = search needs
@@ -80,23 +77,22 @@ show-call-spec =
     Inv-loop
     μ-loop
     show-requires
+    mul-show-count
+    mul-show-count-2
+    element-copy-out-show-count
+    slice-aggregate-show-count
+    show-count-requires
+    loop-holds
+    slice-aggregate-show
+    show-requires-2
     mul-show-number
+    add-show-number
     mul-show-number-2
     element-copy-out-show-number
     show-number-requires
-    slice-aggregate-show
-    show-requires-2
-    loop-holds
-    slice-aggregate-show-2
-    show-requires-3
-    mul-show-number-3
-    add-show-number
-    mul-show-number-4
-    element-copy-out-show-number-2
-    show-number-requires-2
     add-i
     loop-less
     loop-again
-    slice-aggregate-show-3
-    show-requires-4
+    slice-aggregate-show-2
+    show-requires-3
     returns)
