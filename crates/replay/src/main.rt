@@ -243,20 +243,22 @@ fn read_walk(input: &[u8], from: usize) -> Walk {
     }
 }
 
-// What a byte of the event area holds before a call; then a scratch word, and the bits of a scratch float.
+// What a byte of the event area holds before a call.
 fn event_before(i: usize) -> u8 {
     ((i % 256 * 31 + 7) % 256) as u8
 }
 
+// What a scratch word holds before a call.
 fn word_before(i: usize) -> u32 {
     ((i % 0x1_0000_0000 * 2_654_435_761 + 1) % 0x1_0000_0000) as u32
 }
 
+// The bits that a scratch float holds before a call.
 fn float_before(i: usize) -> u32 {
     (0x3f00_0000 + i % 65536) as u32
 }
 
-// Fill the event area, the scratch words and the scratch floats.
+// Fills the event area.
 fn lend_events(events: &mut [u8]) {
     let mut i = 0;
     while i < events.len() {
@@ -265,6 +267,7 @@ fn lend_events(events: &mut [u8]) {
     }
 }
 
+// Fills the scratch words.
 fn lend_words(words: &mut [u32]) {
     let mut i = 0;
     while i < words.len() {
@@ -273,6 +276,7 @@ fn lend_words(words: &mut [u32]) {
     }
 }
 
+// Fills the scratch floats.
 fn lend_floats(floats: &mut [f32]) {
     let mut i = 0;
     while i < floats.len() {
@@ -379,7 +383,7 @@ fn same_events(input: &[u8], from: usize, events: &[u8]) -> Seen {
     Seen { same, next: at }
 }
 
-// What a scratch word, and the bits of a scratch float, hold after a call that clears so many.
+// What a scratch word holds after a call that clears so many.
 fn word_after(zeros: usize, i: usize) -> u32 {
     if i < zeros {
         return 0;
@@ -387,6 +391,7 @@ fn word_after(zeros: usize, i: usize) -> u32 {
     word_before(i)
 }
 
+// The bits that a scratch float holds after a call that clears so many.
 fn float_after(zeros: usize, i: usize) -> u32 {
     if i < zeros {
         return 0;
