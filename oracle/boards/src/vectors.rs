@@ -16,7 +16,7 @@
 //! | 1 | the list of event bytes written; the area's other bytes are unchanged |
 //! | 2 | how many scratch words, and floats, from the first are 0 afterwards; the others are unchanged |
 //!
-//! The crate `replaying` reads it, into arrays of a fixed size: `fits` says which cases they hold.
+//! The program `replay` reads it, into arrays of a fixed size: `fits` says which cases they hold.
 
 use crate::outcome::bits;
 use crate::{Board, Call, Case, Equalize, Outcome, Room, Walk};
