@@ -67,7 +67,7 @@ trail-next {n} {e} {count′ = c′} {count″ = c″} {looked = looked} F h {a}
     }
 
 pub trail-end : {n e count count′ looked : ℕ} (F : List ℕ → Seek → Seek) {a a′ : Area} → Trail n e F count count′ looked a a′
-    → ((o : List ℕ) → F o (seekOf (view n e a′) count′ looked) ≡ seekOf (view n e a′) count′ looked) → Searched n e (λ o s. times (F o) n s) count count′ a a′
+    → ((o : List ℕ) → F o (seekOf (view n e a′) count′ looked) ≡ seekOf (view n e a′) count′ looked) → Searched n e (λ o s. times (F o) n s) count count′ looked a a′
 trail-end {n} {e} {looked = looked} F {a} b s =
     let t = sym (times-still (F (view n e a .owner)) (n - looked) _ (s (view n e a .owner))) ∙ b .on in
     record {
@@ -75,6 +75,7 @@ trail-end {n} {e} {looked = looked} F {a} b s =
       rest = b .rest;
       queue = ap (λ (u : Seek). u .queue) t;
       plan = ap (λ (u : Seek). u .plan) t;
+      looked = ap (λ (u : Seek). u .looked) t;
     }
 
 -- ---- what the code reads, as the search has it

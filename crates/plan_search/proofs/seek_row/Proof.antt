@@ -9,25 +9,25 @@ use Rattle.basics.specs.Loops.{run, upFrom}
 use Rattle.basics.proofs.Loops.{run-up, run-up-end}
 use Rattle.index_set.proofs.Queue.{Below-at}
 use Rattle.plan_state.specs.Held.{area}
-use Rattle.plan_search.specs.Search.{KeepsMet}
+use Rattle.plan_search.specs.Search.{KeepsMet, KeepsIdle}
 use Rattle.plan_search.specs.Steps.{alongPart}
-use Rattle.plan_search.proofs.Seeks.{keeps-none}
+use Rattle.plan_search.proofs.Seeks.{keeps-none, idle-none, idle-then}
 use Rattle.plan_search.proofs.Rows.{Onward, onward-start, onward-next, onward-end, keeps-next, along-settled}
 use Rattle.plan_search.proofs.seek_row.Statement.{statement}
 use Rattle.plan_search.proofs.seek_row.Tie as tie
 
 abbrev Inv-loop : tie.InvT-loop
-Inv-loop side g r part from z n e count words₀ reals₀ c₀ i₀ words reals c i =
+Inv-loop side g r part from z n e count first words₀ reals₀ c₀ f₀ i₀ words reals c f i =
     ((i ≤ length part) × ((length words ≡ length words₀) × (length reals ≡ length reals₀)))
     × (Onward n e (λ o s. run (alongPart side g r part from z o) (upFrom i (length part - i)) s) (λ o s. run (alongPart side g r part from z o) (upFrom 0 (length part)) s)
     c₀ c (area words₀ reals₀) (area words reals)
-    × KeepsMet n e z r from part c₀ c (area words₀ reals₀) (area words reals))
+    × (KeepsMet n e z r from part c₀ c (area words₀ reals₀) (area words reals) × KeepsIdle n e c₀ f₀ c f (area words₀ reals₀) (area words reals)))
 
 abbrev μ-loop : tie.MeasureT-loop
-μ-loop side g r part from z n e count words₀ reals₀ c₀ i₀ words reals c i = length part - i
+μ-loop side g r part from z n e count first words₀ reals₀ c₀ f₀ i₀ words reals c f i = length part - i
 
 loop-holds : tie.Need-loop-holds Inv-loop μ-loop
-loop-holds c = ((omega arith, (refl, refl)), (onward-start (c .before .before .before .pre .0 .0) (λ o s. rw sub-zero), keeps-none))
+loop-holds c = ((omega arith, (refl, refl)), (onward-start (c .before .before .before .pre .0 .0) (λ o s. rw sub-zero), (keeps-none, idle-none)))
 
 add-settled : tie.Need-add-settled Inv-loop μ-loop
 add-settled c = omega (arith, c .before .before .before .before .before .pre .0 .0 .fit .turfs, c .before .before .before .before .before .pre .0 .0 .fit .links, c .before .before .before .before .before .pre .1 .0)
@@ -63,13 +63,13 @@ seek-link-requires : tie.Need-seek-link-requires Inv-loop μ-loop
 seek-link-requires c κs = ((c .before .before .before .before .before .before .before .loop .inv .1 .0 .seeking, (c .before .before .before .before .before .before .before .before .before .before .before .pre .0 .1, sym (c .before .before .before .before .settled .ensures) ∙ c .before .before .before .if1 .left)), (c .before .before .before .before .before .before .before .before .before .before .before .pre .1 .0, (c .before .before .before .before .before .before .before .before .before .before .before .pre .1 .1 .0, (Below-at _ _ _ (c .before .before .before .before .before .before .before .before .before .before .before .pre .1 .1 .1 .0) (c .before .before .before .before .before .before .loop-test .taken), omega (arith, c .before .before .before .before .before .before .before .before .before .before .before .pre .1 .1 .1 .1, c .before .before .before .before .before .before .loop-test .taken)))))
 
 add-i : tie.Need-add-i Inv-loop μ-loop
-add-i c = omega arith
+add-i c = omega (arith, c .before .before .before .before .before .before .before .before .before .before .before .loop-test .taken, c .before .before .before .before .before .before .before .before .before .before .before .before .before .before .before .before .good)
 
 loop-less : tie.Need-loop-less Inv-loop μ-loop
-loop-less c = omega arith
+loop-less c = omega (arith, c .before .before .before .before .before .before .before .before .before .before .before .loop-test .taken)
 
 loop-again : tie.Need-loop-again Inv-loop μ-loop
-loop-again c = unfold alongPart in ((omega arith, (c .before .before .before .before .seek-link .kept .1 .1 .1 .1 .1 .1 .1 .1 .1 .0 ∙ c .before .before .before .before .before .before .before .before .before .before .before .before .loop .inv .0 .1 .0, c .before .before .before .before .seek-link .kept .1 .1 .1 .1 .1 .1 .1 .1 .1 .1 .0 ∙ c .before .before .before .before .before .before .before .before .before .before .before .before .loop .inv .0 .1 .1)), (onward-next _ _ (c .before .before .before .before .before .before .before .before .before .before .before .before .loop .inv .1 .0) (c .before .before .before .before .seek-link .ensures .0) (λ o s. run-up _ _ _ _ (c .before .before .before .before .before .before .before .before .before .before .before .loop-test .taken)), keeps-next _ (c .before .before .before .before .before .before .before .before .before .before .before .loop-test .taken) (c .before .before .before .before .before .before .before .before .before .before .before .before .loop .inv .1 .1) (c .before .before .before .before .seek-link .ensures .1)))
+loop-again c = unfold alongPart in ((omega arith, (c .before .before .before .before .seek-link .kept .1 .1 .1 .1 .1 .1 .1 .1 .1 .1 .0 ∙ c .before .before .before .before .before .before .before .before .before .before .before .before .loop .inv .0 .1 .0, c .before .before .before .before .seek-link .kept .1 .1 .1 .1 .1 .1 .1 .1 .1 .1 .1 .0 ∙ c .before .before .before .before .before .before .before .before .before .before .before .before .loop .inv .0 .1 .1)), (onward-next _ _ (c .before .before .before .before .before .before .before .before .before .before .before .before .loop .inv .1 .0) (c .before .before .before .before .seek-link .ensures .0) (λ o s. run-up _ _ _ _ (c .before .before .before .before .before .before .before .before .before .before .before .loop-test .taken)), (keeps-next _ (c .before .before .before .before .before .before .before .before .before .before .before .loop-test .taken) (c .before .before .before .before .before .before .before .before .before .before .before .before .loop .inv .1 .1 .0) (c .before .before .before .before .seek-link .ensures .1 .0), idle-then (c .before .before .before .before .before .before .before .before .before .before .before .before .loop .inv .1 .1 .1) (c .before .before .before .before .seek-link .ensures .1 .1))))
 
 same-length-3 : tie.Need-same-length-3 Inv-loop μ-loop
 same-length-3 c = search needs
