@@ -23,9 +23,9 @@ use Rattle.index_set.proofs.Queue.{not-member, count-below, take-more, line-mor
 use Rattle.plan_state.specs.Held.{Area, area, wsizes, rsizes, View, viewIn, view, Fit, onPlan, Does}
 use Rattle.plan_state.proofs.Stores.{frame-none, owner-at, delta-at}
 use Rattle.plan_search.specs.Search.{Seeking, seekOf, Leaves, Sought, Leads, Met, AllMet, KeepsMet, Idle, KeepsIdle}
-use Rattle.plan_search.specs.Steps.{lesser}
+use Rattle.plan_search.specs.Steps.{lesser, point}
 use Rattle.plan_search.proofs.Lessers.{lesser-left, lesser-right}
-use Rattle.plan_search.proofs.Trades.{meet-direction, meet-others, meet-here}
+use Rattle.plan_search.proofs.Trades.{meet-none, meet-direction, meet-others, meet-here}
 
 pub leaves-none : {n e : ℕ} {a : Area} → Leaves n e a a
 leaves-none = record { frame = frame-none; list = refl }
@@ -269,3 +269,26 @@ module _ (side : Side) (g r k a z n e count : ℕ) (w : List ℕ) (f : List Floa
                     let other : getD (v .queue) i 0 ≢ a = λ x. not-member a (take count (v .queue)) new i (rw long l) (getD-take count (v .queue) i 0 l ∙ x) in
                     let same = ap (λ (p : Plan). getD (p .amount) (getD (v .queue) i 0) nan) plan-after ∙ meet-others side g r a (getD (v .queue) i 0) (v .plan) (omega (arith, long-amount)) other in
                     rw row (ap (λ (x : Float). ne x 0f) same ∙ m i l (omega (arith, before)))
+
+            -- a turf in hand that didn't trade isn't settled
+            pub link-open : (traded : Bool) → traded ≡ wants side (getD (view n e (area (set w′ (e + e + n + a) k) f) .plan .delta) a nan)
+                → (w₂ : List ℕ) (f₂ : List Float) → A ≡ area w₂ f₂ → (done : Bool) → done ≡ cond traded (settled side (getD f₂ (e + g) nan)) false → done ≡ settled side (getD f₂ (e + g) nan)
+            unfolding pushed point
+            link-open traded et w₂ f₂ ea done ed = go traded refl
+              where
+                v : View
+                v = view n e (area w f)
+
+                plan-after : view n e (area w₂ f₂) .plan ≡ meet side g r a (v .plan)
+                plan-after = ap (λ (x : Area). view n e x .plan) (sym ea) ∙ ap (λ (x : View). x .plan) after
+
+                delta-same : view n e (area (set w′ (e + e + n + a) k) f) .plan .delta ≡ v .plan .delta
+                delta-same = ap (λ (x : View). x .plan .delta) push-view
+
+                go : (b : Bool) → traded ≡ b → done ≡ settled side (getD f₂ (e + g) nan)
+                go true q = ed ∙ ap (λ (x : Bool). cond x (settled side (getD f₂ (e + g) nan)) false) q
+                go false q =
+                    let u : wants side (getD (v .plan .delta) a nan) ≡ false = ap (λ (d : List Float). wants side (getD d a nan)) (sym delta-same) ∙ sym et ∙ q in
+                    let same : getD f₂ (e + g) nan ≡ getD f (e + g) nan =
+                    delta-at n e g w₂ f₂ hg ∙ ap (λ (x : Plan). getD (x .delta) g nan) (plan-after ∙ sym (meet-none side g r a (v .plan) u)) ∙ sym (delta-at n e g w f hg) in
+                    ed ∙ ap (λ (x : Bool). cond x (settled side (getD f₂ (e + g) nan)) false) q ∙ sym (ap (settled side) same ∙ t)

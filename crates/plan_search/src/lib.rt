@@ -153,6 +153,23 @@ pub struct Reach {
     pub first: usize,
 }
 
+// The same after a link, and whether the turf in hand is settled then.
+pub struct Step {
+    pub count: usize,
+    pub first: usize,
+    pub done: bool,
+}
+
+// Whether the turf in hand is settled with what it has left, once it traded or didn't.
+fn settles(traded: bool, side: Side, x: f32) -> bool
+    ensures { λ r. ⌜ r ≡ cond traded (settled side x) false ⌝ }
+{
+    if traded {
+        return settled(side, x);
+    }
+    false
+}
+
 // The lesser one.
 fn least(a: usize, b: usize) -> usize
     ensures { λ r. ⌜ r ≡ lesser a b ⌝ }
@@ -187,28 +204,38 @@ fn seek_link(
     first: usize,
     words: &mut [u32],
     reals: &mut [f32],
-) -> Reach
+) -> Step
     requires { ⌜ Seeking n e count (area (now words) (now reals)) × ((z < 4096) × (settled side (getD (now reals) (e + g) nan) ≡ false)) ⌝ }
     requires { ⌜ (g < n) × ((r < n) × ((a < n) × (k < e))) ⌝ }
     ensures { λ c. ⌜ Sought n e (λ o s. cond (eqb (getD o k 0) (z + 1)) (seekTo side g r a s) s) count (c .count) (area (now (words .entry)) (now (reals .entry))) (area (now (words .exit)) (now (reals .exit))) ⌝ }
     ensures { λ c. ⌜ KeepsMet n e z r k (a ∷ []) count (c .count) (area (now (words .entry)) (now (reals .entry))) (area (now (words .exit)) (now (reals .exit))) ⌝ }
     ensures { λ c. ⌜ KeepsIdle n e count first (c .count) (c .first) (area (now (words .entry)) (now (reals .entry))) (area (now (words .exit)) (now (reals .exit))) ⌝ }
+    ensures { λ c. ⌜ c .done ≡ settled side (getD (now (reals .exit)) (e + g) nan) ⌝ }
 {
     if words[k] != z + 1 {
-        return Reach { count, first };
+        return Step {
+            count,
+            first,
+            done: false,
+        };
     }
     let queue = queue_at(n, e);
     let places = places_at(n, e);
     if contains(a, count, n, queue, places, words) {
-        return Reach { count, first };
+        return Step {
+            count,
+            first,
+            done: false,
+        };
     }
     insert(a, count, queue, places, words);
     let row = a as usize;
     words[e + e + n + row] = k as u32;
     let traded = meet(side, g, r, row, n, e, words, reals);
-    Reach {
+    Step {
         count: count + 1,
         first: first_traded(traded, first, count),
+        done: settles(traded, side, reals[e + g]),
     }
 }
 
@@ -227,7 +254,7 @@ fn seek_row(
     words: &mut [u32],
     reals: &mut [f32],
 ) -> Reach
-    requires { ⌜ Seeking n e count (area (now words) (now reals)) × (z < 4096) ⌝ }
+    requires { ⌜ Seeking n e count (area (now words) (now reals)) × ((z < 4096) × (settled side (getD (now reals) (e + g) nan) ≡ false)) ⌝ }
     requires { ⌜ (g < n) × ((r < n) × (Below n (now part) × (from + length (now part) ≤ e))) ⌝ }
     ensures { λ c. ⌜ Sought n e (λ o s. run (alongPart side g r (now (part .entry)) from z o) (upFrom 0 (length (now (part .entry)))) s) count (c .count) (area (now (words .entry)) (now (reals .entry))) (area (now (words .exit)) (now (reals .exit))) ⌝ }
     ensures { λ c. ⌜ KeepsMet n e z r from (now (part .entry)) count (c .count) (area (now (words .entry)) (now (reals .entry))) (area (now (words .exit)) (now (reals .exit))) ⌝ }
@@ -237,13 +264,13 @@ fn seek_row(
     let mut f = first;
     let mut i = 0;
     while i < part.len() {
-        if settled(side, reals[e + g]) {
+        let step = seek_link(side, g, r, from + i, part[i], z, n, e, c, f, words, reals);
+        c = step.count;
+        f = step.first;
+        i += 1;
+        if step.done {
             return Reach { count: c, first: f };
         }
-        let reach = seek_link(side, g, r, from + i, part[i], z, n, e, c, f, words, reals);
-        c = reach.count;
-        f = reach.first;
-        i += 1;
     }
     Reach { count: c, first: f }
 }
@@ -263,7 +290,7 @@ fn seek_turf(
     words: &mut [u32],
     reals: &mut [f32],
 ) -> Reach
-    requires { ⌜ Seeking n e count (area (now words) (now reals)) × (z < 4096) ⌝ }
+    requires { ⌜ Seeking n e count (area (now words) (now reals)) × ((z < 4096) × (settled side (getD (now reals) (e + g) nan) ≡ false)) ⌝ }
     requires { ⌜ (g < n) × ((r < n) × (Linked n (now starts) (now neighbours) × (length (now neighbours) ≡ e))) ⌝ }
     ensures { λ c. ⌜ Sought n e (λ o s. run (seekLink (grid n (now (starts .entry)) (now (neighbours .entry))) o z side g r) (edgesOf (grid n (now (starts .entry)) (now (neighbours .entry))) o z r) s) count (c .count) (area (now (words .entry)) (now (reals .entry))) (area (now (words .exit)) (now (reals .exit))) ⌝ }
     ensures { λ c. ⌜ (AllMet n z (now (starts .entry)) (now (neighbours .entry)) (view n e (area (now (words .entry)) (now (reals .entry)))) count → AllMet n z (now (starts .entry)) (now (neighbours .entry)) (view n e (area (now (words .exit)) (now (reals .exit)))) (c .count)) ⌝ }

@@ -57,7 +57,7 @@ slice-read-seek-turf : tie.Need-slice-read-seek-turf Inv-loop μ-loop
 slice-read-seek-turf c = omega (arith, c .before .before .before .before .before .loop .inv .1 .0 .seeking .fit .words, c .before .before .before .before .before .loop .inv .1 .0 .seeking .fit .reals, c .before .before .before .before .before .loop .inv .1 .0 .seeking .fit .turfs, c .before .before .before .before .before .loop .inv .1 .0 .seeking .fit .links, c .before .before .before .before .before .loop .inv .1 .0 .seeking .line .few, c .before .before .before .before .before .before .queue-at .ensures, c .before .before .before .before .loop-test .taken)
 
 seek-turf-requires : tie.Need-seek-turf-requires Inv-loop μ-loop
-seek-turf-requires c κs = ((c .before .before .before .before .before .before .before .loop .inv .1 .0 .seeking, c .before .before .before .before .before .before .before .before .before .before .before .before .before .pre .0 .1), (c .before .before .before .before .before .before .before .before .before .before .before .before .before .pre .1 .0 .0, (seen-below _ _ _ _ _ _ (c .before .before .before .before .before .before .before .loop .inv .1 .0 .seeking) (c .before .before .before .before .before .before .loop-test .taken) _ (c .before .before .before .before .before .before .before .before .queue-at .ensures), (c .before .before .before .before .before .before .before .before .before .before .before .before .before .pre .1 .0 .1 .0, c .before .before .before .before .before .before .before .before .before .before .before .before .before .pre .1 .0 .1 .1 .0))))
+seek-turf-requires c κs = ((c .before .before .before .before .before .before .before .loop .inv .1 .0 .seeking, (c .before .before .before .before .before .before .before .before .before .before .before .before .before .pre .0 .1, sym (c .before .before .before .before .settled .ensures) ∙ c .before .before .before .if1 .left)), (c .before .before .before .before .before .before .before .before .before .before .before .before .before .pre .1 .0 .0, (seen-below _ _ _ _ _ _ (c .before .before .before .before .before .before .before .loop .inv .1 .0 .seeking) (c .before .before .before .before .before .before .loop-test .taken) _ (c .before .before .before .before .before .before .before .before .queue-at .ensures), (c .before .before .before .before .before .before .before .before .before .before .before .before .before .pre .1 .0 .1 .0, c .before .before .before .before .before .before .before .before .before .before .before .before .before .pre .1 .0 .1 .1 .0))))
 
 add-looked : tie.Need-add-looked Inv-loop μ-loop
 add-looked c = omega (arith, c .before .before .before .before .before .before .before .before .before .before .before .before .loop .inv .1 .0 .seeking .line .few, c .before .before .before .before .before .before .before .before .before .before .before .before .loop .inv .1 .0 .seeking .fit .turfs, c .before .before .before .before .before .before .before .before .before .before .before .loop-test .taken)
