@@ -96,7 +96,7 @@ fn plan_zones(
     }
 }
 
-// All zones of a board of n turfs and e links. The e + n + n words from `work` on are worked with.
+// All zones of a board of n turfs and e links. The e + n + n words from `work` on may be worked with.
 pub fn plan_all(
     zones: usize,
     mixtures: &[u32],
@@ -114,7 +114,7 @@ pub fn plan_all(
     requires { ⌜ Zoned n e zones (now words) (now reals) × ((nodesAt n e + n + e ≤ work) × (work + e + n + n ≤ length (now words))) ⌝ }
     ensures { λ _. ⌜ PlansAll n e zones work (ground n (now (starts .entry)) (now (neighbours .entry)) (now (mixtures .entry)) gases) (now (gas .entry)) (now (words .entry)) (now (words .exit)) (now (reals .entry)) (now (reals .exit)) ⌝ }
 {
-    reverse_links::find_reverses(starts, neighbours, n, e, work, words);
+    reverse_links::find_reverses(starts, neighbours, n, e, words);
     clear_plan(n, e, words, reals);
     plan_zones(
         zones,

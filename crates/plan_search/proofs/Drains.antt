@@ -1,24 +1,24 @@
 -- The way back: what the code adds and clears is what the definition stores, but for numbers that stay. Assumes nothing.
 use Prim.Native.Nat.{ℕ, zero, suc, _+_, _-_, _≤_, _<_}
 use native.Mathlib.Omega.{arith}
-use mathlib.Core.Path.{_≡_, ap, _∙_, sym, subst}
+use mathlib.Core.Path.{_≡_, refl, ap, _∙_, sym, subst}
 use mathlib.Core.Logic.{_≢_}
-use mathlib.Core.List.{List, reverse}
+use mathlib.Core.List.{List, [], _∷_, _++_, reverse, reverseAux}
 use mathlib.Core.Bool.{Bool, true, false, not, _&&_, cond}
 use lib.Dec.{eqb}
-use lib.ListN.{getD, set, take, drop}
-use lib.Seq.{getD-take, getD-drop, length-take-le}
+use lib.ListN.{length, getD, set, take, drop, length-drop}
+use lib.Seq.{take-suc, getD-take, getD-drop, length-take-le}
 use lib.Ieee.{Float, nan, ne}
 use borrow.Author.Tests.{eq-eqb, ne-eqb}
 use Rattle.basics.specs.Floats.{0f, _+f_}
 use Rattle.basics.specs.Loops.{run}
 use Rattle.basics.specs.declared.Spot.{Spot}
 use Rattle.basics.specs.declared.Spot.the-variants.{At}
-use Rattle.basics.proofs.Loops.{Found, run-back}
+use Rattle.basics.proofs.Loops.{All, Found, run-back, run-back-end}
+use Rattle.basics.proofs.Regions.{cut-length}
 use Rattle.process_zone.specs.Plan.{Plan, load, reweigh}
 use Rattle.process_zone.specs.declared.MonstermosInfo.{MonstermosInfo}
-use Rattle.index_set.proofs.Queue.{Below-at}
-use Rattle.plan_state.specs.Held.{Area, area, View, view, Fit, onPlan, Does}
+use Rattle.plan_state.specs.Held.{Area, area, wsizes, View, view, Fit, onPlan, Does}
 use Rattle.plan_state.specs.Steps.{backLink, adjustAt}
 use Rattle.plan_state.proofs.Stores.{setAmount, does-as, does-then, does-none, amount-at, amount-set, via-at, queue-at, reverse-at}
 use Rattle.plan_state.proofs.Weights.{adjusted, back-found}
@@ -88,27 +88,52 @@ module _ (n e z r : ℕ) (i : MonstermosInfo) (w : List ℕ) (f : List Float) (e
 
 -- ---- the loop
 
+pub back-end : {S : Type 0} (f : ℕ → S → S) (q : List ℕ) (i from : ℕ) (s : S) → i ≤ from → run f (reverse (take (i - from) q)) s ≡ s
+back-end f q i from s h = run-back-end f q (i - from) s (omega arith)
+
+pub take-few : {A : Type 0} (k : ℕ) (xs : List A) → length (take k xs) ≤ k
+take-few zero xs = omega arith
+take-few (suc k) [] = omega arith
+take-few (suc k) (x ∷ xs) = omega (arith, take-few k xs)
+
+pub queue-length : (n e : ℕ) (a : Area) → Fit n e a → length (view n e a .queue) ≡ n
+unfolding view
+queue-length n e a h = cut-length (wsizes n e) (a .words) 5 (omega arith) (omega (arith, h .words))
+
 -- in the loop the words stay, and so does all that is read of them
-module _ (n e count j : ℕ) (w : List ℕ) (f₀ : List Float) (h : Seeking n e count (area w f₀)) (l : j < count) (at : ℕ) (ea : at ≡ e + e + n + n + n) where
+module _ (n e from j : ℕ) (w : List ℕ) (f₀ : List Float) (at : ℕ) (ea : at ≡ e + e + n + n + n) (l : j < n) where
   row-is : getD w (at + j) 0 ≡ getD (view n e (area w f₀) .queue) j 0
-  row-is = ap (λ (m : ℕ). getD w (m + j) 0) ea ∙ queue-at n e j w f₀ (omega (arith, h .line .few))
+  row-is = ap (λ (m : ℕ). getD w (m + j) 0) ea ∙ queue-at n e j w f₀ l
 
-  pub row-below : getD w (at + j) 0 < n
-  row-below =
-      rw (row-is, ← getD-take count (view n e (area w f₀) .queue) j 0 l)
-      (Below-at n (take count (view n e (area w f₀) .queue)) j (h .line .rows)
-      (rw (length-take-le count (view n e (area w f₀) .queue) (omega (arith, h .line .few, h .line .queue-n))) l))
-
-  pub row-within : (f : List Float) → Within n e (view n e (area w f₀)) (getD (view n e (area w f₀) .queue) j 0)
-      → Within n e (view n e (area w f)) (getD w (at + j) 0)
+  pub row-within : (f : List Float) → (getD (view n e (area w f₀) .queue) j 0 < n) × Within n e (view n e (area w f₀)) (getD (view n e (area w f₀) .queue) j 0)
+      → (getD w (at + j) 0 < n) × Within n e (view n e (area w f)) (getD w (at + j) 0)
   unfolding view
-  row-within f g = rw row-is (record { at = g .at })
+  row-within f g = rw row-is (g .0, record { at = g .1 .at })
 
-  pub row-next : (G : ℕ → Plan → Plan) (i : ℕ) → j + 1 ≡ i → (p : Plan)
-      → run G (reverse (take i (view n e (area w f₀) .queue))) p ≡ run G (reverse (take j (view n e (area w f₀) .queue))) (G (getD w (at + j) 0) p)
-  row-next G i e′ p = rw row-is (run-back G (view n e (area w f₀) .queue) i j p e′ (omega (arith, h .line .few, h .line .queue-n)))
+  pub row-next : (G : ℕ → Plan → Plan) (i : ℕ) → j + 1 ≡ i → from ≤ j → length (view n e (area w f₀) .queue) ≡ n → (p : Plan)
+      → run G (reverse (take (i - from) (drop from (view n e (area w f₀) .queue)))) p
+      ≡ run G (reverse (take (j - from) (drop from (view n e (area w f₀) .queue)))) (G (getD w (at + j) 0) p)
+  row-next G i e′ h long p =
+      let q : List ℕ = view n e (area w f₀) .queue in
+      let k : from + (j - from) ≡ j = omega (arith, h) in
+      let row : getD (drop from q) (j - from) 0 ≡ getD w (at + j) 0 = getD-drop from q (j - from) 0 ∙ ap (λ (m : ℕ). getD q m 0) k ∙ sym row-is in
+      run-back G (drop from q) (i - from) (j - from) p (omega (arith, e′, h)) (omega (arith, l, long, h, length-drop from q))
+      ∙ ap (λ (x : ℕ). run G (reverse (take (j - from) (drop from q))) (G x p)) row
 
 pub drained-same : (n e z r : ℕ) (w : List ℕ) (f f₀ : List Float) {A B : Area} → Does n e (λ o p. drainVia (view n e (area w f) .reverse) (view n e (area w f) .via) z o r p) A B
     → Does n e (λ o p. drainVia (view n e (area w f₀) .reverse) (view n e (area w f₀) .via) z o r p) A B
 unfolding view
 drained-same n e z r w f f₀ d = d
+
+-- ---- all rows of the queue, from its end
+
+pub all-of-rows : (P : ℕ → Type 0) (xs : List ℕ) → ((i : ℕ) → i < length xs → P (getD xs i 0)) → All P xs
+all-of-rows P [] h = tt
+all-of-rows P (x ∷ xs) h = (h 0 (omega arith), all-of-rows P xs (λ i l. h (suc i) (omega arith)))
+
+all-aux : (P : ℕ → Type 0) (xs ys : List ℕ) → All P xs → All P ys → All P (reverseAux xs ys)
+all-aux P [] ys a b = b
+all-aux P (x ∷ xs) ys a b = all-aux P xs (x ∷ ys) (a .1) (a .0, b)
+
+pub all-back : (P : ℕ → Type 0) (xs : List ℕ) → All P xs → All P (reverse xs)
+all-back P xs a = all-aux P xs [] a tt

@@ -9,7 +9,7 @@ use lib.Dec.{eqb}
 use lib.ListN.{length, getD, take, drop}
 use lib.Ieee.{Float, nan}
 use Rattle.basics.specs.Loops.{run, upFrom}
-use Rattle.basics.proofs.Loops.{run-keep, run-still, All-any}
+use Rattle.basics.proofs.Loops.{run-keep, run-up, run-still, All-any}
 use Rattle.basics.proofs.Parts.{part, part-at}
 use Rattle.turfs.specs.Board.{linksOf}
 use Rattle.process_zone.specs.Edges.{edgesOf}
@@ -78,6 +78,17 @@ along-settled side g r part from z n e count w f hg t xs o looked =
     pick : (b : Bool) (a : ℕ) → cond b (seekTo side g r a (seekOf (view n e (area w f)) count looked)) (seekOf (view n e (area w f)) count looked) ≡ seekOf (view n e (area w f)) count looked
     pick true a = sym (to-settled side g r a (seekOf (view n e (area w f)) count looked) (rw (delta-at n e g w f hg) at t))
     pick false a = refl
+
+-- a link that settles the turf in hand ends the row
+pub row-settled : (side : Side) (g r : ℕ) (part : List ℕ) (from z n e count c c′ i : ℕ) (w : List ℕ) (f : List Float) {A B : Area}
+    → Onward n e (λ o s. run (alongPart side g r part from z o) (upFrom i (length part - i)) s) (λ o s. run (alongPart side g r part from z o) (upFrom 0 (length part)) s) count c A B
+    → Sought n e (λ o s. cond (eqb (getD o (from + i) 0) (z + 1)) (seekTo side g r (getD part i 0) s) s) c c′ B (area w f) → i < length part → g < n
+    → settled side (getD f (e + g) nan) ≡ true → Sought n e (λ o s. run (alongPart side g r part from z o) (upFrom 0 (length part)) s) count c′ A (area w f)
+unfolding alongPart
+row-settled side g r part from z n e count c c′ i w f on d l hg t =
+    onward-end {f = λ o s. run (alongPart side g r part from z o) (upFrom (i + 1) (length part - (i + 1))) s}
+    (onward-next _ (λ o s. run (alongPart side g r part from z o) (upFrom (i + 1) (length part - (i + 1))) s) on d (λ o s. run-up (alongPart side g r part from z o) i (length part) s l))
+    (λ o looked. along-settled side g r part from z n e c′ w f hg t (upFrom (i + 1) (length part - (i + 1))) o looked)
 
 -- ---- the part of the links
 

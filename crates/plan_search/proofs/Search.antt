@@ -6,7 +6,7 @@ use mathlib.Core.Path.{_≡_, refl, ap, _∙_, sym, subst}
 use mathlib.Core.List.{List}
 use mathlib.Core.Bool.{Bool, true, false, not, _&&_, cond}
 use lib.Dec.{ltb}
-use lib.ListN.{length, getD}
+use lib.ListN.{length, getD, take}
 use lib.Seq.{getD-take, length-take-le}
 use lib.Ieee.{Float, nan}
 use borrow.Author.Tests.{lt-ltb, le-ltb}
@@ -16,6 +16,7 @@ use Rattle.turfs.specs.Board.{Board}
 use Rattle.process_zone.specs.Edges.{edgesOf}
 use Rattle.process_zone.specs.Plan.{Plan, Seek, settled, seekLink, seekRow, seekNext}
 use Rattle.process_zone.specs.declared.Side.{Side}
+use Rattle.index_set.proofs.Queue.{Below-at}
 use Rattle.plan_state.specs.Held.{Area, area, View, view}
 use Rattle.plan_state.proofs.Stores.{queue-at, delta-at}
 use Rattle.plan_search.specs.Search.{Seeking, seekOf, Leaves, Sought, Searched}
@@ -66,7 +67,7 @@ trail-next {n} {e} {count′ = c′} {count″ = c″} {looked = looked} F h {a}
     }
 
 pub trail-end : {n e count count′ looked : ℕ} (F : List ℕ → Seek → Seek) {a a′ : Area} → Trail n e F count count′ looked a a′
-    → ((o : List ℕ) → F o (seekOf (view n e a′) count′ looked) ≡ seekOf (view n e a′) count′ looked) → Searched n e (λ o s. times (F o) n s) count count′ a a′
+    → ((o : List ℕ) → F o (seekOf (view n e a′) count′ looked) ≡ seekOf (view n e a′) count′ looked) → Searched n e (λ o s. times (F o) n s) count count′ looked a a′
 trail-end {n} {e} {looked = looked} F {a} b s =
     let t = sym (times-still (F (view n e a .owner)) (n - looked) _ (s (view n e a .owner))) ∙ b .on in
     record {
@@ -74,9 +75,15 @@ trail-end {n} {e} {looked = looked} F {a} b s =
       rest = b .rest;
       queue = ap (λ (u : Seek). u .queue) t;
       plan = ap (λ (u : Seek). u .plan) t;
+      looked = ap (λ (u : Seek). u .looked) t;
     }
 
 -- ---- what the code reads, as the search has it
+
+pub queue-below : {n e count : ℕ} {a : Area} → Seeking n e count a → (i : ℕ) → i < count → getD (view n e a .queue) i 0 < n
+queue-below {n} {e} {count} {a} h i l =
+    rw (← getD-take count (view n e a .queue) i 0 l)
+    (Below-at n (take count (view n e a .queue)) i (h .line .rows) (rw (length-take-le count (view n e a .queue) (omega (arith, h .line .few, h .line .queue-n))) l))
 
 module _ (n e count looked : ℕ) (w : List ℕ) (f : List Float) (h : Seeking n e count (area w f)) where
   queue-length : length (seekOf (view n e (area w f)) count looked .queue) ≡ count
@@ -85,6 +92,9 @@ module _ (n e count looked : ℕ) (w : List ℕ) (f : List Float) (h : Seeking n
   module _ (l : looked < count) (at : ℕ) (ea : at ≡ e + e + n + n + n) where
     row-at : getD w (at + looked) 0 ≡ getD (seekOf (view n e (area w f)) count looked .queue) looked 0
     row-at = ap (λ (m : ℕ). getD w (m + looked) 0) ea ∙ queue-at n e looked w f (omega (arith, h .line .few)) ∙ sym (getD-take count (view n e (area w f) .queue) looked 0 l)
+
+    pub seen-below : getD w (at + looked) 0 < n
+    seen-below = rw (row-at ∙ getD-take count (view n e (area w f) .queue) looked 0 l) (queue-below h looked l)
 
     module _ (b : Board) (z : ℕ) (side : Side) (g : ℕ) (hg : g < n) where
       pub turn-on : settled side (getD f (e + g) nan) ≡ false → (o : List ℕ)

@@ -10,19 +10,22 @@ use mathlib.Core.Bool.{Bool, true, false, _||_, cond}
 use lib.Dec.{eqb}
 use lib.ListN.{length, getD, set, take, drop, length-set}
 use lib.Seq.{getD-take, getD-set-same, getD-set-other, length-take-le}
-use lib.Ieee.{Float, nan}
+use lib.Ieee.{Float, nan, ne, eq, ofBits, ofFields}
 use borrow.Author.Tests.{eq-eqb, ne-eqb}
+use Rattle.basics.specs.Floats.{0f}
 use Rattle.basics.specs.Loops.{member, snoc}
 use Rattle.basics.specs.Regions.{cut}
 use Rattle.basics.proofs.Regions.{cut-set, cut-length, region-part}
-use Rattle.process_zone.specs.Plan.{Plan, Seek, settled, meet, seekTo}
+use Rattle.process_zone.specs.Plan.{Plan, Seek, settled, wants, meet, seekTo}
 use Rattle.process_zone.specs.declared.Side.{Side}
 use Rattle.index_set.specs.Line.{Line, array, Holds}
 use Rattle.index_set.proofs.Queue.{not-member, count-below, take-more, line-more}
 use Rattle.plan_state.specs.Held.{Area, area, wsizes, rsizes, View, viewIn, view, Fit, onPlan, Does}
 use Rattle.plan_state.proofs.Stores.{frame-none, owner-at, delta-at}
-use Rattle.plan_search.specs.Search.{Seeking, seekOf, Leaves, Sought, Leads, Met, AllMet, KeepsMet}
-use Rattle.plan_search.proofs.Trades.{meet-direction}
+use Rattle.plan_search.specs.Search.{Seeking, seekOf, Leaves, Sought, Leads, Met, AllMet, KeepsMet, Idle, KeepsIdle}
+use Rattle.plan_search.specs.Steps.{lesser, point}
+use Rattle.plan_search.proofs.Lessers.{lesser-left, lesser-right}
+use Rattle.plan_search.proofs.Trades.{meet-none, meet-direction, meet-others, meet-here}
 
 pub leaves-none : {n e : ℕ} {a : Area} → Leaves n e a a
 leaves-none = record { frame = frame-none; list = refl }
@@ -33,6 +36,17 @@ sought-none f h s = record { seeking = h; rest = leaves-none; same = s }
 
 pub keeps-none : {n e z r from : ℕ} {part : List ℕ} {count : ℕ} {a : Area} → KeepsMet n e z r from part count count a a
 keeps-none = record { keeps = λ starts neighbours l m. m }
+
+pub idle-none : {n e count first : ℕ} {a : Area} → KeepsIdle n e count first count first a a
+idle-none = record { keeps = λ m. m }
+
+pub idle-then : {n e c c′ c″ f f′ f″ : ℕ} {a a′ a″ : Area} → KeepsIdle n e c f c′ f′ a a′ → KeepsIdle n e c′ f′ c″ f″ a′ a″ → KeepsIdle n e c f c″ f″ a a″
+idle-then k l = record { keeps = λ m. l .keeps (k .keeps m) }
+
+-- 0 is nothing to hand on
+pub none-left : ne 0f 0f ≡ false
+unfolding ne eq ofBits ofFields
+none-left = refl
 
 -- ---- the definition's step
 
@@ -211,3 +225,70 @@ module _ (side : Side) (g r k a z n e count : ℕ) (w : List ℕ) (f : List Floa
                     (omega (arith, h .line .queue-n, link-room)) t₀ (sym (owner-at n e k w f hk) ∙ o))
                 pick starts neighbours l m i hi (no q) =
                     met-before n z count r k a starts neighbours (view n e (area w f)) (view n e A) joins (h .line) new i (omega (arith, q)) (m i (omega (arith, q)))
+
+            long-amount : length (view n e (area w f) .plan .amount) ≡ n
+            unfolding view
+            long-amount = cut-length (rsizes n e) f 2 (omega arith) (omega (arith, h .fit .reals))
+
+            pub link-idle : (traded : Bool) (first first′ : ℕ) → traded ≡ wants side (getD (view n e (area (set w′ (e + e + n + a) k) f) .plan .delta) a nan)
+                → first′ ≡ cond traded (lesser first count) first → KeepsIdle n e count first (count + 1) first′ (area w f) A
+            unfolding pushed
+            link-idle traded first first′ et ef = record { keeps = λ m i hi hf. pick traded refl m i hi hf (ℕ-discrete i count) }
+              where
+                v : View
+                v = view n e (area w f)
+
+                plan-after : view n e A .plan ≡ meet side g r a (v .plan)
+                plan-after = ap (λ (x : View). x .plan) after
+
+                delta-same : view n e (area (set w′ (e + e + n + a) k) f) .plan .delta ≡ v .plan .delta
+                delta-same = ap (λ (x : View). x .plan .delta) push-view
+
+                before : first′ ≤ first
+                before = go traded refl
+                  where
+                    go : (b : Bool) → traded ≡ b → first′ ≤ first
+                    go true q = let u : first′ ≡ lesser first count = ef ∙ ap (λ (x : Bool). cond x (lesser first count) first) q in omega (arith, u, lesser-left first count)
+                    go false q = let u : first′ ≡ first = ef ∙ ap (λ (x : Bool). cond x (lesser first count) first) q in omega (arith, u)
+
+                idle-here : traded ≡ false → ne (getD (view n e A .plan .amount) a nan) 0f ≡ false
+                idle-here q =
+                    let t : wants side (getD (v .plan .delta) a nan) ≡ false = ap (λ (d : List Float). wants side (getD d a nan)) (sym delta-same) ∙ sym et ∙ q in
+                    ap (λ (x : Float). ne x 0f) (ap (λ (p : Plan). getD (p .amount) a nan) plan-after ∙ meet-here side g r a (v .plan) (omega (arith, long-amount)) t) ∙ none-left
+
+                pick : (b : Bool) → traded ≡ b → Idle v count first → (i : ℕ) → i < count + 1 → i < first′ → Dec (i ≡ count)
+                    → ne (getD (view n e A .plan .amount) (getD (view n e A .queue) i 0) nan) 0f ≡ false
+                pick true u m i hi hf (yes q) = let x : first′ ≡ lesser first count = ef ∙ ap (λ (x : Bool). cond x (lesser first count) first) u in absurd (omega (arith, x, lesser-right first count, q, hf))
+                pick false u m i hi hf (yes q) =
+                    let row : getD (view n e A .queue) i 0 ≡ a = ap (λ (x : ℕ). getD (view n e A .queue) x 0) q ∙ ap (λ (xs : List ℕ). getD xs count 0) (joins .queue) ∙ getD-set-same (v .queue) count a 0 (omega (arith, h .line .queue-n, link-room)) in
+                    rw row (idle-here u)
+                pick b u m i hi hf (no q) =
+                    let l : i < count = omega (arith, q) in
+                    let row : getD (view n e A .queue) i 0 ≡ getD (v .queue) i 0 = ap (λ (xs : List ℕ). getD xs i 0) (joins .queue) ∙ getD-set-other (v .queue) count i a 0 (λ x. omega arith) in
+                    let long : length (take count (v .queue)) ≡ count = length-take-le count (v .queue) (omega (arith, h .line .few, h .line .queue-n)) in
+                    let other : getD (v .queue) i 0 ≢ a = λ x. not-member a (take count (v .queue)) new i (rw long l) (getD-take count (v .queue) i 0 l ∙ x) in
+                    let same = ap (λ (p : Plan). getD (p .amount) (getD (v .queue) i 0) nan) plan-after ∙ meet-others side g r a (getD (v .queue) i 0) (v .plan) (omega (arith, long-amount)) other in
+                    rw row (ap (λ (x : Float). ne x 0f) same ∙ m i l (omega (arith, before)))
+
+            -- a turf in hand that didn't trade isn't settled
+            pub link-open : (traded : Bool) → traded ≡ wants side (getD (view n e (area (set w′ (e + e + n + a) k) f) .plan .delta) a nan)
+                → (w₂ : List ℕ) (f₂ : List Float) → A ≡ area w₂ f₂ → (done : Bool) → done ≡ cond traded (settled side (getD f₂ (e + g) nan)) false → done ≡ settled side (getD f₂ (e + g) nan)
+            unfolding pushed point
+            link-open traded et w₂ f₂ ea done ed = go traded refl
+              where
+                v : View
+                v = view n e (area w f)
+
+                plan-after : view n e (area w₂ f₂) .plan ≡ meet side g r a (v .plan)
+                plan-after = ap (λ (x : Area). view n e x .plan) (sym ea) ∙ ap (λ (x : View). x .plan) after
+
+                delta-same : view n e (area (set w′ (e + e + n + a) k) f) .plan .delta ≡ v .plan .delta
+                delta-same = ap (λ (x : View). x .plan .delta) push-view
+
+                go : (b : Bool) → traded ≡ b → done ≡ settled side (getD f₂ (e + g) nan)
+                go true q = ed ∙ ap (λ (x : Bool). cond x (settled side (getD f₂ (e + g) nan)) false) q
+                go false q =
+                    let u : wants side (getD (v .plan .delta) a nan) ≡ false = ap (λ (d : List Float). wants side (getD d a nan)) (sym delta-same) ∙ sym et ∙ q in
+                    let same : getD f₂ (e + g) nan ≡ getD f (e + g) nan =
+                    delta-at n e g w₂ f₂ hg ∙ ap (λ (x : Plan). getD (x .delta) g nan) (plan-after ∙ sym (meet-none side g r a (v .plan) u)) ∙ sym (delta-at n e g w f hg) in
+                    ed ∙ ap (λ (x : Bool). cond x (settled side (getD f₂ (e + g) nan)) false) q ∙ sym (ap (settled side) same ∙ t)

@@ -31,9 +31,13 @@ use Rattle.plan_state.specs.Held.{grid, Area, area, wsizes, rsizes, View, viewI
 use Rattle.plan_state.specs.Steps.{backLink, adjustAt}
 use Rattle.plan_state.proofs.Stores.{frame-then, does-frame, store-amount, setAmount}
 use Rattle.plan_state.proofs.Links.{link-below, edge-there, edge-back, reverse-within}
-use Rattle.plan_search.specs.Search.{Seeking, seekOf, Leaves, Searched, Leads, Met, AllMet, Within}
+use Rattle.plan_search.specs.Search.{Seeking, seekOf, Leaves, Searched, Leads, Met, AllMet, Idle, Within}
 use Rattle.plan_search.specs.Steps.{handOn, drainVia}
+use Rattle.plan_search.proofs.Drains.{all-of-rows, all-back}
+use Rattle.plan_search.proofs.Seeks.{none-left}
 use Rattle.plan_search.proofs.Rows.{leaves-then}
+use Rattle.plan_search.proofs.Search.{queue-below}
+use Rattle.plan_search.proofs.Nears.{Near, near-times}
 
 -- ---- the way back by the links is the way back by the edges
 
@@ -86,19 +90,6 @@ module _ (b : Board) (n : ℕ) (t : Linked n (b .starts) (b .neighbours)) (rev v
       run-both Way (λ x y. (x ≡ y) × (y .direction ≡ dirs)) (drainVia rev via z o) (drain b o z)
       (λ r x y h e. (ap (drainVia rev via z o r) (e .0) ∙ step r y (e .1) h, drain-direction r y ∙ e .1)) xs s s w (refl, q) .0
 
--- ---- all rows of the queue, from its end
-
-all-of-rows : (P : ℕ → Type 0) (xs : List ℕ) → ((i : ℕ) → i < length xs → P (getD xs i 0)) → All P xs
-all-of-rows P [] h = tt
-all-of-rows P (x ∷ xs) h = (h 0 (omega arith), all-of-rows P xs (λ i l. h (suc i) (omega arith)))
-
-all-aux : (P : ℕ → Type 0) (xs ys : List ℕ) → All P xs → All P ys → All P (reverseAux xs ys)
-all-aux P [] ys a b = b
-all-aux P (x ∷ xs) ys a b = all-aux P xs (x ∷ ys) (a .1) (a .0, b)
-
-all-back : (P : ℕ → Type 0) (xs : List ℕ) → All P xs → All P (reverse xs)
-all-back P xs a = all-aux P xs [] a tt
-
 -- ---- the turf in hand stands at the queue's start
 
 pub points-nowhere : (n e g : ℕ) (x y : Float) (m : ℕ) {A B : Area} → Fit n e A → g < n → Does n e (λ o p. store p g (record { delta = x; amount = y; direction = 0; fast = m })) A B
@@ -108,6 +99,17 @@ points-nowhere n e g x y m {A} h l d =
   where
     long : length (view n e A .plan .direction) ≡ n
     long = Rattle.plan_state.proofs.Stores.direction-length n e A h
+
+amount-length : (n e : ℕ) (A : Area) → Fit n e A → length (view n e A .plan .amount) ≡ n
+unfolding view
+amount-length n e A h = cut-length (rsizes n e) (A .reals) 2 (omega arith) (omega (arith, h .reals))
+
+pub moves-nothing : (n e g : ℕ) (x : Float) (m : ℕ) {A B : Area} → Fit n e A → g < n → Does n e (λ o p. store p g (record { delta = x; amount = 0f; direction = 0; fast = m })) A B
+    → ne (getD (view n e B .plan .amount) g nan) 0f ≡ false
+moves-nothing n e g x m {A} h l d =
+    ap (λ (v : View). ne (getD (v .plan .amount) g nan) 0f) (d .same)
+    ∙ ap (λ (y : Float). ne y 0f) (getD-set-same (view n e A .plan .amount) g 0f nan (omega (arith, l, amount-length n e A h)))
+    ∙ none-left
 
 -- a queue with no rows, whatever the words hold
 seeking-none : (n e : ℕ) (a : Area) → Fit n e a → Seeking n e 0 a
@@ -168,6 +170,30 @@ module _ (n e g : ℕ) (w w′ : List ℕ) (f : List Float) (h : Fit n e (area w
       ∙ ap (λ (q : List ℕ). record { queue = q; looked = 0; plan = view n e (area w f) .plan })
       (take-more (seeking-none n e (area w f) h .line) g hg empty)
 
+  -- it has nothing to hand on
+  pub begun-idle : (first : ℕ) → ne (getD (view n e (area w f) .plan .amount) g nan) 0f ≡ false → Idle (view n e (area w′ f)) 1 first
+  begun-idle first q i l k =
+      let e₀ : i ≡ 0 = omega arith in
+      let row : getD (view n e (area w′ f) .queue) i 0 ≡ g =
+      ap₂ (λ (x : View) (j : ℕ). getD (x .queue) j 0) begun-view e₀ ∙ getD-set-same (view n e (area w f) .queue) 0 g 0 (omega (arith, seeking-none n e (area w f) h .line .queue-n)) in
+      rw row (ap (λ (x : View). ne (getD (x .plan .amount) g nan) 0f) begun-view ∙ q)
+
+  -- the search leaves rows that point at rows it looked at
+  pub searched-near : (starts neighbours : List ℕ) (z count seen : ℕ) (side : Side) {C : Area} → getD (view n e (area w f) .plan .direction) g 0 ≡ 0
+      → Searched n e (λ o t. times (seekNext (grid n starts neighbours) o z side g) n t) 1 count seen (area w′ f) C → Near seen (seekOf (view n e C) count seen)
+  searched-near starts neighbours z count seen side {C} still q =
+      let o : List ℕ = view n e (area w′ f) .owner in
+      let s₀ : Seek = seekOf (view n e (area w′ f)) 1 0 in
+      let start : Near 0 s₀ = subst (Near 0) (sym begun-seek) (record { within = omega arith; at = λ i l d x. absurd (points i l d x) }) in
+      let t : Seek = times (seekNext (grid n starts neighbours) o z side g) n s₀ in
+      let same : seekOf (view n e C) count seen ≡ t = λ i. record { queue = q .queue i; looked = q .looked i; plan = q .plan i } in
+      subst (λ (u : Seek). Near (u .looked) u) (sym same) (near-times (grid n starts neighbours) o z side g n s₀ start)
+    where
+      points : (i : ℕ) → i < 1 → (d : ℕ) → getD (view n e (area w f) .plan .direction) (getD (g ∷ []) i 0) 0 ≡ d + 1 → ⊥
+      points i l d x =
+          let e₀ : i ≡ 0 = omega arith in
+          absurd (omega (arith, still, ap (λ (j : ℕ). getD (view n e (area w f) .plan .direction) (getD (g ∷ []) j 0) 0) (sym e₀) ∙ x))
+
   begun-leaves : Leaves n e (area w f) (area w′ f)
   begun-leaves = record {
     frame = record {
@@ -180,17 +206,17 @@ module _ (n e g : ℕ) (w w′ : List ℕ) (f : List Float) (h : Fit n e (area w
   }
 
   -- the reverses stand as they stood
-  pub reverses-after : {b : Board} {st : List ℕ → Plan → Plan} {F : List ℕ → Seek → Seek} {count : ℕ} {A C : Area} → Reverses b n (view n e A .reverse) → Does n e st A (area w f)
-      → Searched n e F 1 count (area w′ f) C → Reverses b n (view n e C .reverse)
+  pub reverses-after : {b : Board} {st : List ℕ → Plan → Plan} {F : List ℕ → Seek → Seek} {count seen : ℕ} {A C : Area} → Reverses b n (view n e A .reverse) → Does n e st A (area w f)
+      → Searched n e F 1 count seen (area w′ f) C → Reverses b n (view n e C .reverse)
   reverses-after {b} v d q = subst (Reverses b n) (sym (q .rest .frame .reverse ∙ begun-leaves .frame .reverse ∙ does-frame d .reverse)) v
 
-  pub served : (starts neighbours : List ℕ) (z count : ℕ) (side : Side) (i : MonstermosInfo) {A C D : Area} → i ≡ load (view n e A .plan) g
+  pub served : (starts neighbours : List ℕ) (z count seen : ℕ) (side : Side) (i : MonstermosInfo) {A C D : Area} → i ≡ load (view n e A .plan) g
       → Does n e (λ o p. store p g (record { delta = i .delta; amount = 0f; direction = 0; fast = i .fast })) A (area w f)
-      → Searched n e (λ o t. times (seekNext (grid n starts neighbours) o z side g) n t) 1 count (area w′ f) C
+      → Searched n e (λ o t. times (seekNext (grid n starts neighbours) o z side g) n t) 1 count seen (area w′ f) C
       → Does n e (λ o p. run (drain (grid n starts neighbours) o z) (reverse (take count (view n e C .queue))) p) C D
       → Serves n e (λ o p. serve (grid n starts neighbours) o z side g p) A D
   unfolding serve
-  served starts neighbours z count side i {A} {C} {D} ei d₁ q d₂ =
+  served starts neighbours z count seen side i {A} {C} {D} ei d₁ q d₂ =
       let b : Board = grid n starts neighbours in
       let o : List ℕ = view n e A .owner in
       let fr : Leaves n e A (area w′ f) = leaves-then (record { frame = does-frame d₁; list = ap (λ (v : View). v .list) (d₁ .same) }) begun-leaves in
@@ -219,7 +245,7 @@ module _ (n e g : ℕ) (w w′ : List ℕ) (f : List Float) (h : Fit n e (area w
 module _ (n e z count : ℕ) (starts neighbours : List ℕ) (t : Linked n starts neighbours) (len : length neighbours ≡ e) {C : Area} (h : Seeking n e count C) (m : AllMet n z starts neighbours (view n e C) count)
     (v : Reverses (grid n starts neighbours) n (view n e C .reverse)) where
   -- what it reads is within the areas
-  pub met-within : (i : ℕ) → i < count → Within n e (view n e C) (getD (view n e C .queue) i 0)
+  met-within : (i : ℕ) → i < count → Within n e (view n e C) (getD (view n e C .queue) i 0)
   met-within i l = record {
     at = λ d q.
         let u = m i l .over d q .0 in (
@@ -230,6 +256,9 @@ module _ (n e z count : ℕ) (starts neighbours : List ℕ) (t : Linked n starts
           ),
         );
   }
+
+  pub rows-within : (i : ℕ) → i < count → (getD (view n e C .queue) i 0 < n) × Within n e (view n e C) (getD (view n e C .queue) i 0)
+  rows-within i l = (queue-below h i l, met-within i l)
 
   pub drained-by-edges : {D : Area} → Does n e (λ o p. run (drainVia (view n e C .reverse) (view n e C .via) z o) (reverse (take count (view n e C .queue))) p) C D
       → Does n e (λ o p. run (drain (grid n starts neighbours) o z) (reverse (take count (view n e C .queue))) p) C D

@@ -1,10 +1,12 @@
 -- A turf that is met: what the code stores is what the definition stores, but for numbers that stay. Assumes nothing.
 use Prim.Native.Nat.{ℕ, _+_, _≤_, _<_}
+use native.Mathlib.Decide.{ℕ-discrete}
 use mathlib.Core.Path.{_≡_, refl, ap, _∙_, sym, subst}
+use mathlib.Core.Logic.{_≢_}
 use mathlib.Core.List.{List}
 use mathlib.Core.Bool.{Bool, true, false, cond}
-use lib.ListN.{length, getD, set}
-use lib.Seq.{set-getD}
+use lib.ListN.{length, getD, set, length-set}
+use lib.Seq.{set-getD, getD-set-same, getD-set-other}
 use lib.Ieee.{Float, nan}
 use Rattle.basics.specs.Floats.{0f, _+f_, _-f_}
 use Rattle.process_zone.specs.Plan.{Plan, load, store, withDelta, wants, more, trade, meet}
@@ -71,6 +73,11 @@ pointed-is r a s = sym (λ i. record {
   fast = set-getD (s .fast) a 0 i;
 })
 
+-- a turf that doesn't want was only pointed
+pub meet-none : (side : Side) (g r a : ℕ) (s : Plan) → wants side (getD (s .delta) a nan) ≡ false → point a (r + 1) s ≡ meet side g r a s
+unfolding meet point
+meet-none side g r a s t = trade-none side g a (point a (r + 1) s) t ∙ ap (trade side g a) (pointed-is r a s)
+
 pub pointed : (n e a d : ℕ) (w : List ℕ) (f : List Float) → a < n → Fit n e (area w f)
     → Does n e (λ o p. point a d p) (area w f) (area (set w (e + e + a) d) (set f (e + n + a) 0f))
 unfolding point
@@ -81,15 +88,34 @@ module _ (n e g r a : ℕ) (side : Side) {A : Area} {w : List ℕ} {f : List Flo
   unfolding point
   test = delta-at n e a w f l ∙ ap (λ v. getD (v .plan .delta) a nan) (d .same)
 
+  pub wanted : {t : Bool} → t ≡ wants side (getD f (e + a) nan) → t ≡ wants side (getD (view n e A .plan .delta) a nan)
+  wanted q = q ∙ ap (wants side) test
+
   pub met-none : wants side (getD f (e + a) nan) ≡ false → Does n e (λ o p. meet side g r a p) A (area w f)
-  unfolding meet point
-  met-none t =
-      does-as d
-      (trade-none side g a (point a (r + 1) (view n e A .plan)) (rw test at t) ∙ ap (trade side g a) (pointed-is r a (view n e A .plan)))
+  met-none t = does-as d (meet-none side g r a (view n e A .plan) (rw test at t))
 
   pub met-some : {C : Area} → Does n e (λ o p. trade side g a p) (area w f) C → Does n e (λ o p. meet side g r a p) A C
   unfolding meet
   met-some d′ = does-as (does-then _ d d′) (ap (trade side g a) (pointed-is r a (view n e A .plan)))
+
+-- a list after a number was set twice, and another one to what it was
+set-others : (xs : List Float) (a b g : ℕ) (x y : Float) → g < length xs → b ≢ a → getD (set (set (set xs a x) a y) g (getD (set xs a x) g nan)) b nan ≡ getD xs b nan
+set-others xs a b g x y l h = pick (ℕ-discrete b g)
+  where
+    pick : Dec (b ≡ g) → getD (set (set (set xs a x) a y) g (getD (set xs a x) g nan)) b nan ≡ getD xs b nan
+    pick (yes q) =
+        let long : g < length (set (set xs a x) a y) = rw (length-set (set xs a x) a y, length-set xs a x) l in
+        rw q (getD-set-same (set (set xs a x) a y) g (getD (set xs a x) g nan) nan long ∙ getD-set-other xs a g x nan (λ r. h (q ∙ r)))
+    pick (no q) = getD-set-other (set (set xs a x) a y) g b (getD (set xs a x) g nan) nan q ∙ getD-set-other (set xs a x) a b y nan h ∙ getD-set-other xs a b x nan h
+
+-- the amounts after a turf was met: no other turf's changes, and one that doesn't want has none
+pub meet-others : (side : Side) (g r a b : ℕ) (s : Plan) → g < length (s .amount) → b ≢ a → getD (meet side g r a s .amount) b nan ≡ getD (s .amount) b nan
+unfolding meet trade
+meet-others side g r a b s l h = set-others (s .amount) a b g 0f _ l h
+
+pub meet-here : (side : Side) (g r a : ℕ) (s : Plan) → a < length (s .amount) → wants side (getD (s .delta) a nan) ≡ false → getD (meet side g r a s .amount) a nan ≡ 0f
+unfolding point
+meet-here side g r a s l t = ap (λ (p : Plan). getD (p .amount) a nan) (sym (meet-none side g r a s t)) ∙ getD-set-same (s .amount) a 0f nan l
 
 -- the directions after a turf was met
 pub meet-direction : (side : Side) (g r a : ℕ) (s : Plan) → meet side g r a s .direction ≡ set (s .direction) a (r + 1)

@@ -1,8 +1,11 @@
 -- What holds in a search, and what a step of it promises.
 use Prim.Native.Nat.{ℕ, _+_, _≤_, _<_}
 use mathlib.Core.Path.{_≡_}
+use mathlib.Core.Bool.{false}
 use mathlib.Core.List.{List}
 use lib.ListN.{length, getD, take}
+use lib.Ieee.{nan, ne}
+use Rattle.basics.specs.Floats.{0f}
 use Rattle.process_zone.specs.Plan.{Plan, Seek}
 use Rattle.index_set.specs.Line.{Line}
 use Rattle.reverse_links.specs.Reverse.{InRow}
@@ -29,11 +32,22 @@ pub record Sought (n e : ℕ) (f : List ℕ → Seek → Seek) (count count′ :
   pub same : (looked : ℕ) → seekOf (view n e a′) count′ looked ≡ f (view n e a .owner) (seekOf (view n e a) count looked)
 
 -- from a to a′ by the whole search f, which has looked nowhere yet
-pub record Searched (n e : ℕ) (f : List ℕ → Seek → Seek) (count count′ : ℕ) (a a′ : Area) : Type 0 where
+pub record Searched (n e : ℕ) (f : List ℕ → Seek → Seek) (count count′ seen : ℕ) (a a′ : Area) : Type 0 where
   pub seeking : Seeking n e count′ a′
   pub rest : Leaves n e a a′
   pub queue : take count′ (view n e a′ .queue) ≡ f (view n e a .owner) (seekOf (view n e a) count 0) .queue
   pub plan : view n e a′ .plan ≡ f (view n e a .owner) (seekOf (view n e a) count 0) .plan
+  pub looked : seen ≡ f (view n e a .owner) (seekOf (view n e a) count 0) .looked
+
+-- ---- rows that didn't trade
+
+-- of `count` rows those before the place `first` have nothing to hand on
+abbrev pub Idle : View → ℕ → ℕ → Type 0
+Idle v count first = (i : ℕ) → i < count → i < first → ne (getD (v .plan .amount) (getD (v .queue) i 0) nan) 0f ≡ false
+
+-- a step keeps that so
+pub record KeepsIdle (n e count first count′ first′ : ℕ) (a a′ : Area) : Type 0 where
+  pub keeps : Idle (view n e a) count first → Idle (view n e a′) count′ first′
 
 -- ---- the links over which turfs were met
 

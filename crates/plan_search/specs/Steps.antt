@@ -2,7 +2,7 @@
 use Prim.Native.Nat.{ℕ, _+_, _-_}
 use mathlib.Core.List.{List}
 use mathlib.Core.Bool.{Bool, not, _&&_, cond}
-use lib.Dec.{eqb}
+use lib.Dec.{eqb, ltb}
 use lib.ListN.{getD, set}
 use lib.Ieee.{Float, nan, ne, neg}
 use Rattle.basics.specs.Loops.{if_then_else_}
@@ -15,6 +15,10 @@ use Rattle.process_zone.specs.declared.Side.{Side}
 use Rattle.process_zone.specs.declared.Side.the-variants.{Giving, Taking}
 use Rattle.plan_state.specs.Steps.{backLink, adjustAt}
 use Rattle.plan_search.specs.declared.Both.{Both}
+
+-- the lesser one
+unfoldable pub lesser : ℕ → ℕ → ℕ
+lesser a b = if ltb a b then a else b
 
 -- a giver's number as it is, a taker's negated
 abbrev pub given : Side → Float → Float

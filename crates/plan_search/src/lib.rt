@@ -6,7 +6,7 @@ ghost use mathlib.Core.List.{[], _∷_, reverse};
 ghost use Prim.Native.Nat.{ℕ, _+_, _-_, _≤_, _<_};
 ghost use lib.Dec.{eqb};
 ghost use lib.Ieee.{nan};
-ghost use lib.ListN.{length, getD, take};
+ghost use lib.ListN.{length, getD, take, drop};
 ghost use Rattle.basics.proofs.Loops.{Found};
 ghost use Rattle.basics.specs.Loops.{run, times, upFrom};
 ghost use Rattle.process_zone.specs.Edges.{edgesOf};
@@ -14,8 +14,8 @@ ghost use Rattle.process_zone.specs.Plan.{settled, wants, more, trade, meet, se
 ghost use Rattle.index_set.specs.Line.{Below};
 ghost use Rattle.reverse_links.specs.Reverse.{Linked, Reverses};
 ghost use Rattle.plan_state.specs.Held.{grid, area, view, Fit, Does, Serves};
-ghost use Rattle.plan_search.specs.Search.{Seeking, Sought, Searched, AllMet, KeepsMet, Within};
-ghost use Rattle.plan_search.specs.Steps.{given, bargain, point, alongPart, handOn, drainVia};
+ghost use Rattle.plan_search.specs.Search.{Seeking, Sought, Searched, AllMet, KeepsMet, Idle, KeepsIdle, Within};
+ghost use Rattle.plan_search.specs.Steps.{lesser, given, bargain, point, alongPart, handOn, drainVia};
 use basics::Spot;
 use index_set::contains;
 use index_set::insert;
@@ -122,7 +122,7 @@ fn point(a: usize, d: u32, n: usize, e: usize, words: &mut [u32], reals: &mut [f
     reals[e + n + a] = 0.0;
 }
 
-// A turf that is met for the first time, from r.
+// A turf that is met for the first time, from r; whether it traded.
 fn meet(
     side: Side,
     g: usize,
@@ -132,14 +132,60 @@ fn meet(
     e: usize,
     words: &mut [u32],
     reals: &mut [f32],
-)
+) -> bool
     requires { ⌜ Fit n e (area (now words) (now reals)) × ((g < n) × ((a < n) × (r < n))) ⌝ }
     ensures { λ _. ⌜ Does n e (λ o p. meet side g r a p) (area (now (words .entry)) (now (reals .entry))) (area (now (words .exit)) (now (reals .exit))) ⌝ }
+    ensures { λ t. ⌜ t ≡ wants side (getD (view n e (area (now (words .entry)) (now (reals .entry))) .plan .delta) a nan) ⌝ }
 {
     point(a, r + 1, n, e, words, reals);
-    if wants(side, reals[e + a]) {
+    let can = wants(side, reals[e + a]);
+    if can {
         trade(side, g, a, n, e, words, reals);
     }
+    can
+}
+
+// How many rows the queue has, and the first place whose row traded; n if none did.
+pub struct Reach {
+    pub count: usize,
+    pub first: usize,
+}
+
+// The same after a link, and whether the turf in hand is settled then.
+pub struct Step {
+    pub count: usize,
+    pub first: usize,
+    pub done: bool,
+}
+
+// Whether the turf in hand is settled with what it has left, once it traded or didn't.
+fn settles(traded: bool, side: Side, x: f32) -> bool
+    ensures { λ r. ⌜ r ≡ cond traded (settled side x) false ⌝ }
+{
+    if traded {
+        return settled(side, x);
+    }
+    false
+}
+
+// The lesser one.
+fn least(a: usize, b: usize) -> usize
+    ensures { λ r. ⌜ r ≡ lesser a b ⌝ }
+{
+    if a < b {
+        return a;
+    }
+    b
+}
+
+// The first place that traded, once the row at a place traded or didn't.
+fn first_traded(traded: bool, first: usize, place: usize) -> usize
+    ensures { λ r. ⌜ r ≡ cond traded (lesser first place) first ⌝ }
+{
+    if traded {
+        return least(first, place);
+    }
+    first
 }
 
 // A link of the turf r, which ends at the row a. The turf in hand is g, and isn't settled.
@@ -153,27 +199,42 @@ fn seek_link(
     n: usize,
     e: usize,
     count: usize,
+    first: usize,
     words: &mut [u32],
     reals: &mut [f32],
-) -> usize
+) -> Step
     requires { ⌜ Seeking n e count (area (now words) (now reals)) × ((z < 4096) × (settled side (getD (now reals) (e + g) nan) ≡ false)) ⌝ }
     requires { ⌜ (g < n) × ((r < n) × ((a < n) × (k < e))) ⌝ }
-    ensures { λ c. ⌜ Sought n e (λ o s. cond (eqb (getD o k 0) (z + 1)) (seekTo side g r a s) s) count c (area (now (words .entry)) (now (reals .entry))) (area (now (words .exit)) (now (reals .exit))) ⌝ }
-    ensures { λ c. ⌜ KeepsMet n e z r k (a ∷ []) count c (area (now (words .entry)) (now (reals .entry))) (area (now (words .exit)) (now (reals .exit))) ⌝ }
+    ensures { λ c. ⌜ Sought n e (λ o s. cond (eqb (getD o k 0) (z + 1)) (seekTo side g r a s) s) count (c .count) (area (now (words .entry)) (now (reals .entry))) (area (now (words .exit)) (now (reals .exit))) ⌝ }
+    ensures { λ c. ⌜ KeepsMet n e z r k (a ∷ []) count (c .count) (area (now (words .entry)) (now (reals .entry))) (area (now (words .exit)) (now (reals .exit))) ⌝ }
+    ensures { λ c. ⌜ KeepsIdle n e count first (c .count) (c .first) (area (now (words .entry)) (now (reals .entry))) (area (now (words .exit)) (now (reals .exit))) ⌝ }
+    ensures { λ c. ⌜ c .done ≡ settled side (getD (now (reals .exit)) (e + g) nan) ⌝ }
 {
     if words[k] != z + 1 {
-        return count;
+        return Step {
+            count,
+            first,
+            done: false,
+        };
     }
     let queue = index_set::queue_at(n, e);
     let places = index_set::places_at(n, e);
     if contains(a, count, n, queue, places, words) {
-        return count;
+        return Step {
+            count,
+            first,
+            done: false,
+        };
     }
     insert(a, count, queue, places, words);
     let row = a as usize;
     words[e + e + n + row] = k as u32;
-    meet(side, g, r, row, n, e, words, reals);
-    count + 1
+    let traded = meet(side, g, r, row, n, e, words, reals);
+    Step {
+        count: count + 1,
+        first: first_traded(traded, first, count),
+        done: settles(traded, side, reals[e + g]),
+    }
 }
 
 // The links of the turf r, which are handed on as a part of the link list that starts at `from`.
@@ -187,24 +248,29 @@ fn seek_row(
     n: usize,
     e: usize,
     count: usize,
+    first: usize,
     words: &mut [u32],
     reals: &mut [f32],
-) -> usize
-    requires { ⌜ Seeking n e count (area (now words) (now reals)) × (z < 4096) ⌝ }
+) -> Reach
+    requires { ⌜ Seeking n e count (area (now words) (now reals)) × ((z < 4096) × (settled side (getD (now reals) (e + g) nan) ≡ false)) ⌝ }
     requires { ⌜ (g < n) × ((r < n) × (Below n (now part) × (from + length (now part) ≤ e))) ⌝ }
-    ensures { λ c. ⌜ Sought n e (λ o s. run (alongPart side g r (now (part .entry)) from z o) (upFrom 0 (length (now (part .entry)))) s) count c (area (now (words .entry)) (now (reals .entry))) (area (now (words .exit)) (now (reals .exit))) ⌝ }
-    ensures { λ c. ⌜ KeepsMet n e z r from (now (part .entry)) count c (area (now (words .entry)) (now (reals .entry))) (area (now (words .exit)) (now (reals .exit))) ⌝ }
+    ensures { λ c. ⌜ Sought n e (λ o s. run (alongPart side g r (now (part .entry)) from z o) (upFrom 0 (length (now (part .entry)))) s) count (c .count) (area (now (words .entry)) (now (reals .entry))) (area (now (words .exit)) (now (reals .exit))) ⌝ }
+    ensures { λ c. ⌜ KeepsMet n e z r from (now (part .entry)) count (c .count) (area (now (words .entry)) (now (reals .entry))) (area (now (words .exit)) (now (reals .exit))) ⌝ }
+    ensures { λ c. ⌜ KeepsIdle n e count first (c .count) (c .first) (area (now (words .entry)) (now (reals .entry))) (area (now (words .exit)) (now (reals .exit))) ⌝ }
 {
     let mut c = count;
+    let mut f = first;
     let mut i = 0;
     while i < part.len() {
-        if settled(side, reals[e + g]) {
-            return c;
-        }
-        c = seek_link(side, g, r, from + i, part[i], z, n, e, c, words, reals);
+        let step = seek_link(side, g, r, from + i, part[i], z, n, e, c, f, words, reals);
+        c = step.count;
+        f = step.first;
         i += 1;
+        if step.done {
+            return Reach { count: c, first: f };
+        }
     }
-    c
+    Reach { count: c, first: f }
 }
 
 // The turf r of the queue.
@@ -218,13 +284,15 @@ fn seek_turf(
     n: usize,
     e: usize,
     count: usize,
+    first: usize,
     words: &mut [u32],
     reals: &mut [f32],
-) -> usize
-    requires { ⌜ Seeking n e count (area (now words) (now reals)) × (z < 4096) ⌝ }
+) -> Reach
+    requires { ⌜ Seeking n e count (area (now words) (now reals)) × ((z < 4096) × (settled side (getD (now reals) (e + g) nan) ≡ false)) ⌝ }
     requires { ⌜ (g < n) × ((r < n) × (Linked n (now starts) (now neighbours) × (length (now neighbours) ≡ e))) ⌝ }
-    ensures { λ c. ⌜ Sought n e (λ o s. run (seekLink (grid n (now (starts .entry)) (now (neighbours .entry))) o z side g r) (edgesOf (grid n (now (starts .entry)) (now (neighbours .entry))) o z r) s) count c (area (now (words .entry)) (now (reals .entry))) (area (now (words .exit)) (now (reals .exit))) ⌝ }
-    ensures { λ c. ⌜ (AllMet n z (now (starts .entry)) (now (neighbours .entry)) (view n e (area (now (words .entry)) (now (reals .entry)))) count → AllMet n z (now (starts .entry)) (now (neighbours .entry)) (view n e (area (now (words .exit)) (now (reals .exit)))) c) ⌝ }
+    ensures { λ c. ⌜ Sought n e (λ o s. run (seekLink (grid n (now (starts .entry)) (now (neighbours .entry))) o z side g r) (edgesOf (grid n (now (starts .entry)) (now (neighbours .entry))) o z r) s) count (c .count) (area (now (words .entry)) (now (reals .entry))) (area (now (words .exit)) (now (reals .exit))) ⌝ }
+    ensures { λ c. ⌜ (AllMet n z (now (starts .entry)) (now (neighbours .entry)) (view n e (area (now (words .entry)) (now (reals .entry)))) count → AllMet n z (now (starts .entry)) (now (neighbours .entry)) (view n e (area (now (words .exit)) (now (reals .exit)))) (c .count)) ⌝ }
+    ensures { λ c. ⌜ KeepsIdle n e count first (c .count) (c .first) (area (now (words .entry)) (now (reals .entry))) (area (now (words .exit)) (now (reals .exit))) ⌝ }
 {
     let row = r as usize;
     let from = starts[row] as usize;
@@ -239,12 +307,20 @@ fn seek_turf(
         n,
         e,
         count,
+        first,
         words,
         reals,
     )
 }
 
-// The search from the turf g, which is at the queue's start: it answers how many rows the queue has then.
+// The same after a search, and how many rows it looked at.
+pub struct Sweep {
+    pub count: usize,
+    pub first: usize,
+    pub looked: usize,
+}
+
+// The search from the turf g, which is at the queue's start.
 fn seek(
     side: Side,
     g: usize,
@@ -255,20 +331,27 @@ fn seek(
     e: usize,
     words: &mut [u32],
     reals: &mut [f32],
-) -> usize
+) -> Sweep
     requires { ⌜ Seeking n e 1 (area (now words) (now reals)) × (z < 4096) ⌝ }
     requires { ⌜ (g < n) × (Linked n (now starts) (now neighbours) × ((length (now neighbours) ≡ e) × AllMet n z (now starts) (now neighbours) (view n e (area (now words) (now reals))) 1)) ⌝ }
-    ensures { λ c. ⌜ Searched n e (λ o s. times (seekNext (grid n (now (starts .entry)) (now (neighbours .entry))) o z side g) n s) 1 c (area (now (words .entry)) (now (reals .entry))) (area (now (words .exit)) (now (reals .exit))) ⌝ }
-    ensures { λ c. ⌜ AllMet n z (now (starts .entry)) (now (neighbours .entry)) (view n e (area (now (words .exit)) (now (reals .exit)))) c ⌝ }
+    requires { ⌜ Idle (view n e (area (now words) (now reals))) 1 n ⌝ }
+    ensures { λ c. ⌜ Searched n e (λ o s. times (seekNext (grid n (now (starts .entry)) (now (neighbours .entry))) o z side g) n s) 1 (c .count) (c .looked) (area (now (words .entry)) (now (reals .entry))) (area (now (words .exit)) (now (reals .exit))) ⌝ }
+    ensures { λ c. ⌜ AllMet n z (now (starts .entry)) (now (neighbours .entry)) (view n e (area (now (words .exit)) (now (reals .exit)))) (c .count) ⌝ }
+    ensures { λ c. ⌜ Idle (view n e (area (now (words .exit)) (now (reals .exit)))) (c .count) (c .first) ⌝ }
 {
     let queue = index_set::queue_at(n, e);
     let mut count = 1;
+    let mut first = n;
     let mut looked = 0;
     while looked < count {
         if settled(side, reals[e + g]) {
-            return count;
+            return Sweep {
+                count,
+                first,
+                looked,
+            };
         }
-        count = seek_turf(
+        let reach = seek_turf(
             side,
             g,
             words[queue + looked],
@@ -278,12 +361,19 @@ fn seek(
             n,
             e,
             count,
+            first,
             words,
             reals,
         );
+        count = reach.count;
+        first = reach.first;
         looked += 1;
     }
-    count
+    Sweep {
+        count,
+        first,
+        looked,
+    }
 }
 
 // The turf r hands its amount on to the turf d, over the edges at hand.
@@ -325,15 +415,15 @@ fn drain_turf(r: u32, z: u32, n: usize, e: usize, words: &[u32], reals: &mut [f3
     }
 }
 
-// The queue from its end.
-fn drain(count: usize, z: u32, n: usize, e: usize, words: &[u32], reals: &mut [f32])
-    requires { ⌜ Seeking n e count (area (now words) (now reals)) × (z < 4096) ⌝ }
-    requires { ⌜ ((i : ℕ) → i < count → Within n e (view n e (area (now words) (now reals))) (getD (view n e (area (now words) (now reals)) .queue) i 0)) ⌝ }
-    ensures { λ _. ⌜ Does n e (λ o p. run (drainVia (view n e (area (now (words .entry)) (now (reals .entry))) .reverse) (view n e (area (now (words .entry)) (now (reals .entry))) .via) z o) (reverse (take count (view n e (area (now (words .entry)) (now (reals .entry))) .queue))) p) (area (now (words .entry)) (now (reals .entry))) (area (now (words .exit)) (now (reals .exit))) ⌝ }
+// The rows of the queue from the place `to` back to the place `from`.
+fn drain(from: usize, to: usize, z: u32, n: usize, e: usize, words: &[u32], reals: &mut [f32])
+    requires { ⌜ Fit n e (area (now words) (now reals)) × ((z < 4096) × (to ≤ n)) ⌝ }
+    requires { ⌜ ((i : ℕ) → i < to → (getD (view n e (area (now words) (now reals)) .queue) i 0 < n) × Within n e (view n e (area (now words) (now reals))) (getD (view n e (area (now words) (now reals)) .queue) i 0)) ⌝ }
+    ensures { λ _. ⌜ Does n e (λ o p. run (drainVia (view n e (area (now (words .entry)) (now (reals .entry))) .reverse) (view n e (area (now (words .entry)) (now (reals .entry))) .via) z o) (reverse (take (to - from) (drop from (view n e (area (now (words .entry)) (now (reals .entry))) .queue)))) p) (area (now (words .entry)) (now (reals .entry))) (area (now (words .exit)) (now (reals .exit))) ⌝ }
 {
     let queue = index_set::queue_at(n, e);
-    let mut i = count;
-    while i > 0 {
+    let mut i = to;
+    while i > from {
         i -= 1;
         drain_turf(words[queue + i], z, n, e, words, reals);
     }
@@ -367,6 +457,8 @@ pub fn serve(
     let queue = index_set::queue_at(n, e);
     let places = index_set::places_at(n, e);
     insert(g, 0, queue, places, words);
-    let count = seek(side, row, starts, neighbours, z, n, e, words, reals);
-    drain(count, z, n, e, words, reals);
+    let sweep = seek(side, row, starts, neighbours, z, n, e, words, reals);
+    let first = least(sweep.first, sweep.count);
+    drain(first, sweep.count, z, n, e, words, reals);
+    drain(0, least(first, sweep.looked), z, n, e, words, reals);
 }

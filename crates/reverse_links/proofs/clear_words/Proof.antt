@@ -1,4 +1,4 @@
--- The loop's invariant: the heads before r are 0, and nothing else changed. Assumes nothing.
+-- The loop's invariant: the words before i are 0, and nothing else changed. Assumes nothing.
 use Prim.Native.Nat.{ℕ, _≤_, _<_, _-_, _+_}
 use native.Mathlib.Omega.{arith}
 use mathlib.Core.Path.{_≡_, refl, _∙_, sym, ap}
@@ -6,15 +6,15 @@ use lib.ListN.{length, getD}
 use borrow.Author.Needs.{needs}
 use Rattle.reverse_links.specs.Words.{But}
 use Rattle.reverse_links.proofs.Places.{but-none, but-set, cleared}
-use Rattle.reverse_links.proofs.clear_heads.Statement.{statement}
-use Rattle.reverse_links.proofs.clear_heads.Tie as tie
+use Rattle.reverse_links.proofs.clear_words.Statement.{statement}
+use Rattle.reverse_links.proofs.clear_words.Tie as tie
 
 abbrev Inv-loop : tie.InvT-loop
-Inv-loop head n words₀ r₀ words r =
-    (r ≤ n) × (But head (head + n) words₀ words × ((a : ℕ) → a < r → getD words (head + a) 0 ≡ 0))
+Inv-loop at n words₀ i₀ words i =
+    (i ≤ n) × (But at (at + n) words₀ words × ((a : ℕ) → a < i → getD words (at + a) 0 ≡ 0))
 
 abbrev μ-loop : tie.MeasureT-loop
-μ-loop head n words₀ r₀ words r = n - r
+μ-loop at n words₀ i₀ words i = n - i
 
 loop-holds : tie.Need-loop-holds Inv-loop μ-loop
 loop-holds c = (omega arith, (but-none, λ a l. absurd (omega (arith, l))))
@@ -28,14 +28,14 @@ mul-words c = omega (arith, c .before .before .pre, c .before .before .good, c .
 slice-write-words : tie.Need-slice-write-words Inv-loop μ-loop
 slice-write-words c = omega (arith, c .before .before .pre, c .loop-test .taken, c .before .loop .inv .1 .0 .len)
 
-add-r : tie.Need-add-r Inv-loop μ-loop
-add-r c = omega arith
+add-i : tie.Need-add-i Inv-loop μ-loop
+add-i c = omega arith
 
 loop-less : tie.Need-loop-less Inv-loop μ-loop
 loop-less c = omega arith
 
 loop-again : tie.Need-loop-again Inv-loop μ-loop
-loop-again c = (omega arith, (but-set (c .before .before .args .head + c .before .loop .r) 0 (omega arith) (omega (arith, c .loop-test .taken)) (c .before .loop .inv .1 .0), cleared (c .before .before .args .head) (c .before .loop .r) (c .before .loop .words) (omega (arith, c .before .before .pre, c .loop-test .taken, c .before .loop .inv .1 .0 .len)) (c .before .loop .inv .1 .1)))
+loop-again c = (omega arith, (but-set (c .before .before .args .at + c .before .loop .i) 0 (omega arith) (omega (arith, c .loop-test .taken)) (c .before .loop .inv .1 .0), cleared (c .before .before .args .at) (c .before .loop .i) (c .before .loop .words) (omega (arith, c .before .before .pre, c .loop-test .taken, c .before .loop .inv .1 .0 .len)) (c .before .loop .inv .1 .1)))
 
 same-length : tie.Need-same-length Inv-loop μ-loop
 same-length c = c .before .loop .inv .1 .0 .len
@@ -43,8 +43,8 @@ same-length c = c .before .loop .inv .1 .0 .len
 returns : tie.Need-returns Inv-loop μ-loop
 returns c = (c .before .loop .inv .1 .0, λ a l. c .before .loop .inv .1 .1 a (omega (arith, l, c .loop-test .left, c .before .loop .inv .0)))
 
-pub clear-heads-spec : {M : Type 1} → statement M
-clear-heads-spec =
+pub clear-words-spec : {M : Type 1} → statement M
+clear-words-spec =
     tie.close
     (tie.spec
     Inv-loop
@@ -53,7 +53,7 @@ clear-heads-spec =
     add-words
     mul-words
     slice-write-words
-    add-r
+    add-i
     loop-less
     loop-again
     same-length
