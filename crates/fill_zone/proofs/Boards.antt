@@ -4,7 +4,6 @@ use native.Mathlib.Omega.{arith}
 use mathlib.Core.Path.{_≡_, ap, _∙_, sym}
 use mathlib.Core.List.{List}
 use lib.Ieee.{Float}
-use lib.Ieee.Bits.{is-true}
 use lib.ListN.{length, getD}
 use Rattle.basics.specs.Loops.{upFrom}
 use Rattle.basics.proofs.Loops.{All-getD}
@@ -13,7 +12,7 @@ use Rattle.basics.proofs.Parts.{part, part-length, part-at}
 use Rattle.turfs.specs.Board.{Board, turfCount, linkCount, mixOf, linksOf, mixtureCount}
 use Rattle.turfs.specs.Tables.{Parts}
 use Rattle.turfs.proofs.Accepted.{Accepted, source, sources}
-use Rattle.turfs.proofs.Tables.{parts-of}
+use Rattle.turfs.proofs.Tables.{accepted-parts}
 use Rattle.mixture.specs.Moves.{Holds}
 use Rattle.mixture.proofs.Parts.{holds-of}
 use Rattle.flood_fill.specs.Steps.{Rows}
@@ -25,7 +24,7 @@ module _ {b : Board} {m : ℕ} (h : Accepted b m) where
   sizes-of = record { turfs = h .turfs .1; links = h .links }
 
   pub parts : Parts (turfCount b) (b .starts) (b .neighbours)
-  parts = parts-of (turfCount b) (b .starts) (b .neighbours) (h .turfs .1) (h .starts) (is-true _ (h .rises)) (h .last)
+  parts = accepted-parts b h
 
   pub rows-of : Rows (turfCount b) (linkCount b) (b .flags) (b .planetary) (b .mixtures) (b .linkFlags) (b .immutable)
   rows-of = record { flags-n = h .flags; planetary-n = h .planets; mixtures-n = h .mixes; mixed = λ r _. h .mixed r; linkFlags-e = h .linkFlags }

@@ -1,6 +1,6 @@
 pub mod Order
 pub mod Lookup
 pub mod Refused
-pub mod Tables
 pub mod Accepted
+pub mod Tables
 pub mod Line

@@ -3,17 +3,20 @@ use Prim.Native.Nat.{ℕ, _+_, _*_, _≤_, _<_}
 use native.Mathlib.Omega.{arith}
 use native.Mathlib.Nat.{le-of-eq, zero-add}
 use native.Mathlib.Decide.{ℕ-discrete}
-use mathlib.Core.Path.{_≡_, ap, sym, _∙_}
+use mathlib.Core.Path.{_≡_, ap, sym, subst, _∙_}
 use mathlib.Core.List.{List}
 use mathlib.Core.Bool.{true}
 use lib.ListN.{length, getD}
-use lib.Dec.{leb}
-use borrow.Author.Tests.{ltb-true, leb-true, eqb-true}
-use Rattle.basics.proofs.Tests.{both, each, every-at, every-up-at}
+use lib.Dec.{T, leb}
+use lib.Ieee.Bits.{is-true}
+use borrow.Author.Tests.{leb-true, eqb-true}
+use Rattle.basics.specs.Loops.{every, upFrom}
+use Rattle.basics.proofs.Tests.{both, each, every-up-at}
 use Rattle.turfs.specs.Board.{Board, turfCount, linkCount, mixtureCount}
 use Rattle.turfs.specs.Refuse.{within, rising, sizesFit, tablesFit, idsFit, linksFit, rowFits}
 use Rattle.turfs.specs.Tables.{Parts, Sizes, Tables}
 use Rattle.turfs.proofs.Order.{rising-to}
+use Rattle.turfs.proofs.Accepted.{Accepted, accepted}
 
 -- starts that never fall and end with the number of links
 pub parts-of : (n : ℕ) (starts neighbours : List ℕ) → n ≤ 4096 → length starts ≡ n + 1 → rising starts ≡ true → getD starts n 0 ≡ length neighbours
@@ -54,20 +57,22 @@ module _ (b : Board) where
   unfolding tablesFit
   starts-of amounts e = eqb-true _ _ (each _ 3 e (omega arith))
 
+  -- what a law says of accepted tables is what a contract asks
+  pub accepted-parts : {amounts : ℕ} → Accepted b amounts → Parts (turfCount b) (b .starts) (b .neighbours)
+  accepted-parts a = parts-of (turfCount b) (b .starts) (b .neighbours) (a .turfs .1) (a .starts) (is-true (rising (b .starts)) (a .rises)) (a .last)
+
   pub tables-of : (amounts : ℕ) → sizesFit b ≡ true → tablesFit b amounts ≡ true → idsFit b ≡ true → linksFit b ≡ true → Tables b
-  unfolding tablesFit linksFit
   tables-of amounts s t i l =
-      let sizes = sizes-of s in
-      let mix : length (b .mixtures) ≡ turfCount b = eqb-true _ _ (each _ 2 t (omega arith)) in
+      let a : Accepted b amounts = accepted b amounts (subst T (sym s) tt) (subst T (sym t) tt) (subst T (sym i) tt) (subst T (sym l) tt) in
       record {
-        sizes = sizes;
-        flags = eqb-true _ _ (each _ 0 t (omega arith));
-        planetary = eqb-true _ _ (each _ 1 t (omega arith));
-        mixtures = mix;
-        linkFlags = eqb-true _ _ (each _ 4 t (omega arith));
+        sizes = sizes-of s;
+        flags = a .flags;
+        planetary = a .planets;
+        mixtures = a .mixes;
+        linkFlags = a .linkFlags;
         ascend = i;
-        parts = parts-of (turfCount b) (b .starts) (b .neighbours) (sizes .small .turfs) (starts-of amounts t) (each _ 0 l (omega arith)) (eqb-true _ _ (each _ 2 l (omega arith)));
-        neighbour = λ k h. ltb-true _ _ (every-at _ (b .neighbours) 0 k (each _ 3 l (omega arith)) h);
-        mixture = λ r h. ltb-true _ _ (every-at _ (b .mixtures) 0 r (each _ 4 l (omega arith)) (omega arith));
-        apart = λ r h. ap (rowFits b) (sym (zero-add r)) ∙ every-up-at (rowFits b) 0 (turfCount b) r (each _ 5 l (omega arith)) h;
+        parts = accepted-parts a;
+        neighbour = λ k h. a .ends k;
+        mixture = λ r h. a .mixed r;
+        apart = λ r h. ap (rowFits b) (sym (zero-add r)) ∙ every-up-at (rowFits b) 0 (turfCount b) r (is-true (every (rowFits b) (upFrom 0 (turfCount b))) (a .rows)) h;
       }
