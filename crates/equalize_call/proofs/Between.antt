@@ -24,14 +24,13 @@ use Rattle.lent.specs.Lent.{Lent, wordsRoom, floatsRoom}
 use Rattle.flood_fill.specs.Held.{sizes, startsAt, nodesAt}
 use Rattle.process_zone.specs.Plan.{Plan}
 use Rattle.reverse_links.specs.Reverse.{Linked, Reverses}
-use Rattle.reverse_links.specs.Words.{But, ButParts, Outside}
+use Rattle.reverse_links.specs.Words.{But}
 use Rattle.reverse_links.proofs.Accepted.{linked}
 use Rattle.plan_state.specs.Held.{area, view, top}
 use Rattle.plan_zone.specs.Zone.{Gassed}
 use Rattle.plan_zone.proofs.Whole.{tablesOf}
-use Rattle.plan_all.specs.Zones.{workAt, Zoned, PlansAll}
+use Rattle.plan_all.specs.Zones.{Zoned, PlansAll}
 use Rattle.plan_all.proofs.Asked as asked
-use Rattle.plan_all.proofs.Asked.{work-fits}
 use Rattle.plan_all.proofs.Calls.{planned-filled}
 use Rattle.fill_all.specs.Held.{floatSizes, View, FillsAll}
 use Rattle.fill_all.specs.Held as fill
@@ -75,17 +74,15 @@ module _ (b : Board) (q : Ask) (l₀ l : Lent) (s : Filling) (d : Fills b q s l�
   abbrev marks : ℕ
   marks = nodesAt n e + n + e
 
-  abbrev work : ℕ
-  work = workAt b
-
   abbrev zones : List Zone
   zones = fillAll b (l₀ .gas) q .zones
 
   accepted : Accepted b (length (l₀ .gas))
   accepted = subst (λ (g : List Float). Accepted b (length g)) (d .gas) h
 
-  words-long : work + e + n + n ≤ length (l .words)
-  words-long = work-fits b (l .words) words-room
+  words-long : marks + mixtureCount b ≤ length (l .words)
+  unfolding wordsRoom
+  words-long = omega (arith, words-room)
 
   few-zones : s .zones ≤ n
   few-zones = d .fills .stored .zones
@@ -95,10 +92,10 @@ module _ (b : Board) (q : Ask) (l₀ l : Lent) (s : Filling) (d : Fills b q s l�
   links : Linked n (b .starts) (b .neighbours)
   links = linked b (h .starts) k
 
-  pub plan-asks : (Gassed n (b .mixtures) (b .gases) (l .gas) × (Linked n (b .starts) (b .neighbours) × (linkCount b ≡ e))) × (Zoned n e (s .zones) (l .words) (l .floats) × ((nodesAt n e + n + e ≤ work) × (work + e + n + n ≤ length (l .words))))
+  pub plan-asks : (Gassed n (b .mixtures) (b .gases) (l .gas) × (Linked n (b .starts) (b .neighbours) × (linkCount b ≡ e))) × Zoned n e (s .zones) (l .words) (l .floats)
   plan-asks =
-      subst (λ (g : List Float). (Gassed n (b .mixtures) (b .gases) g × (Linked n (b .starts) (b .neighbours) × (linkCount b ≡ e))) × (Zoned n e (s .zones) (l .words) (l .floats) × ((nodesAt n e + n + e ≤ work) × (work + e + n + n ≤ length (l .words)))))
-      (sym (d .gas)) (asked.plan-asks b q (l₀ .gas) s (d .fills) accepted k words-room floats-room work refl)
+      subst (λ (g : List Float). (Gassed n (b .mixtures) (b .gases) g × (Linked n (b .starts) (b .neighbours) × (linkCount b ≡ e))) × Zoned n e (s .zones) (l .words) (l .floats))
+      (sym (d .gas)) (asked.plan-asks b q (l₀ .gas) s (d .fills) accepted k words-room floats-room)
 
   -- ---- what filling left, by its places
 
@@ -129,12 +126,12 @@ module _ (b : Board) (q : Ask) (l₀ l : Lent) (s : Filling) (d : Fills b q s l�
 
   -- ---- apart
 
-  module _ (w₁ : List ℕ) (f₁ : List Float) (p : PlansAll n e (s .zones) work (tablesOf b) (l .gas) (l .words) w₁ (l .floats) f₁) where
-    kept₁ : (j : ℕ) → top n e ≤ j → j < work → getD w₁ j 0 ≡ getD (l .words) j 0
-    kept₁ j a c = p .words .same j (inr a) (inl c)
+  module _ (w₁ : List ℕ) (f₁ : List Float) (p : PlansAll n e (s .zones) (tablesOf b) (l .gas) (l .words) w₁ (l .floats) f₁) where
+    kept₁ : (j : ℕ) → top n e ≤ j → getD w₁ j 0 ≡ getD (l .words) j 0
+    kept₁ j a = p .words .same j (inr a)
 
     start₁ : (z : ℕ) → z ≤ s .zones → getD w₁ (startsAt n e + z) 0 ≡ at D z
-    start₁ z a = kept₁ (startsAt n e + z) (omega arith) (omega (arith, few-zones))
+    start₁ z a = kept₁ (startsAt n e + z) (omega arith)
 
     next₁ : (z : ℕ) → z < s .zones → getD w₁ (startsAt n e + z + 1) 0 ≡ at D (z + 1)
     next₁ z a =
@@ -156,7 +153,7 @@ module _ (b : Board) (q : Ask) (l₀ l : Lent) (s : Filling) (d : Fills b q s l�
             let i : ℕ = j - (nodesAt n e + at D z) in
             let q : j ≡ nodesAt n e + at D z + i = omega (arith, lo) in
             let k : i < at D (z + 1) - at D z = omega (arith, lo, hi) in
-            rw (kept₁ j (omega (arith, lo)) (omega (arith, hi, ends-within z a)) ∙ ap (λ (x : ℕ). getD (l .words) x 0) q ∙ row-at z i k)
+            rw (kept₁ j (omega (arith, lo)) ∙ ap (λ (x : ℕ). getD (l .words) x 0) q ∙ row-at z i k)
             (All-getD (λ x. x < n) (rowsOf D z) i 0 (node-rows z a) (omega (arith, rows-length D z a, k)))
 
     stands : Stands (startsAt n e) (nodesAt n e) zones w₁
@@ -169,7 +166,7 @@ module _ (b : Board) (q : Ask) (l₀ l : Lent) (s : Filling) (d : Fills b q s l�
         node-of z i a c =
             let k : i < at D (z + 1) - at D z = omega (arith, c, ap length (rows-are D z a), rows-length D z a) in
             ap (λ (x : ℕ). getD w₁ (nodesAt n e + x + i) 0) (start₁ z (omega arith))
-            ∙ kept₁ (nodesAt n e + at D z + i) (omega arith) (omega (arith, k, ends-within z a))
+            ∙ kept₁ (nodesAt n e + at D z + i) (omega arith)
             ∙ row-at z i k ∙ ap (λ (x : List ℕ). getD x i 0) (sym (rows-are D z a))
 
     pub apart-asks : (Laid n (s .zones) (startsAt n e) (nodesAt n e) marks w₁ × ((marks + mixtureCount b ≤ length w₁) × (mixtureCount b ≤ 4096))) × ((r : ℕ) → r < length (b .mixtures) → getD (b .mixtures) r 0 < mixtureCount b)
@@ -181,16 +178,16 @@ module _ (b : Board) (q : Ask) (l₀ l : Lent) (s : Filling) (d : Fills b q s l�
 
     -- ---- finishing
 
-    module _ (w₂ : List ℕ) (t : But marks work w₁ w₂) where
+    module _ (w₂ : List ℕ) (t : But marks (marks + mixtureCount b) w₁ w₂) where
       long₂ : length w₂ ≡ length (l .words)
       long₂ = t .len ∙ p .words .len
 
       kept₂ : (j : ℕ) → top n e ≤ j → j < marks → getD w₂ j 0 ≡ getD (l .words) j 0
-      kept₂ j a c = t .same j (inl c) ∙ kept₁ j a (omega arith)
+      kept₂ j a c = t .same j (inl c) ∙ kept₁ j a
 
       owner-same : ownerIn e w₂ ≡ fillAll b (l₀ .gas) q .owner
       owner-same =
-          part-alike 0 e w₂ (l .words) long₂ (λ i a. t .same (0 + i) (inl (omega arith)) ∙ p .words .same (0 + i) (inl (omega arith)) (inl (omega arith)))
+          part-alike 0 e w₂ (l .words) long₂ (λ i a. t .same (0 + i) (inl (omega arith)) ∙ p .words .same (0 + i) (inl (omega arith)))
           ∙ owners-are D
 
       reverses : Reverses b n (reverseIn e w₂)
@@ -258,7 +255,7 @@ module _ (b : Board) (q : Ask) (l₀ l : Lent) (s : Filling) (d : Fills b q s l�
             let m : ℕ = 16 * n + 4 * e + 2 * mixtureCount b + 16 in
             drop-later (cursorAt b + n + n) m w₃ w₂ (omega arith) (u .words .rest)
             ∙ drop-alike m w₂ w₁ (t .len) (λ i a. t .same i (inr (omega (arith, a))))
-            ∙ drop-alike m w₁ (l .words) (p .words .len) (λ i a. p .words .same i (inr (omega (arith, a))) (inr (omega (arith, a))))
+            ∙ drop-alike m w₁ (l .words) (p .words .len) (λ i a. kept₁ i (omega (arith, a)))
             ∙ later-same (sizes n e) m (l₀ .words) (l .words) (omega arith) (ap (λ (v : View). v .around .restW) (D .same))
 
         floats-rest : drop (floatsRoom b) f₃ ≡ drop (floatsRoom b) (l₀ .floats)
@@ -286,7 +283,7 @@ module _ (b : Board) (q : Ask) (l₀ l : Lent) (s : Filling) (d : Fills b q s l�
 
 -- ---- the same as the code has it: where the nodes and the starts stand is answered by functions
 
-module _ {b : Board} {s : Filling} {l : Lent} (x : Filled b s l) (nodes : ℕ) (en : nodes ≡ nodesAt (turfCount b) (linkCount b)) where
+module _ {b : Board} {s : Filling} {l : Lent} (x : Filled b s l) where
   abbrev N : ℕ
   N = turfCount b
 
@@ -294,17 +291,15 @@ module _ {b : Board} {s : Filling} {l : Lent} (x : Filled b s l) (nodes : ℕ) (
   E = linkCount b
 
   pub plan-fits : (Gassed N (b .mixtures) (b .gases) (l .gas) × (Linked N (b .starts) (b .neighbours) × (linkCount b ≡ E)))
-      × (Zoned N E (s .zones) (l .words) (l .floats) × ((nodesAt N E + N + E ≤ nodes + N + E + mixtureCount b) × (nodes + N + E + mixtureCount b + E + N + N ≤ length (l .words))))
-  plan-fits = rw en (plan-asks b (x .asked) (x .lent) l s (x .fills) (x .board) (x .links) (x .area) (x .words) (x .floats))
+      × Zoned N E (s .zones) (l .words) (l .floats)
+  plan-fits = plan-asks b (x .asked) (x .lent) l s (x .fills) (x .board) (x .links) (x .area) (x .words) (x .floats)
 
-  module _ (first : ℕ) (ef : first ≡ startsAt N E) (w₁ : List ℕ) (f₁ : List Float) (p : PlansAll N E (s .zones) (nodes + N + E + mixtureCount b) (tablesOf b) (l .gas) (l .words) w₁ (l .floats) f₁) where
-    planned-at : PlansAll N E (s .zones) (nodesAt N E + N + E + mixtureCount b) (tablesOf b) (l .gas) (l .words) w₁ (l .floats) f₁
-    planned-at = subst (λ (y : ℕ). PlansAll N E (s .zones) (y + N + E + mixtureCount b) (tablesOf b) (l .gas) (l .words) w₁ (l .floats) f₁) en p
-
+  module _ (nodes : ℕ) (en : nodes ≡ nodesAt N E) (first : ℕ) (ef : first ≡ startsAt N E) (w₁ : List ℕ) (f₁ : List Float)
+      (p : PlansAll N E (s .zones) (tablesOf b) (l .gas) (l .words) w₁ (l .floats) f₁) where
     pub apart-fits : (Laid (length (b .mixtures)) (s .zones) first nodes (nodes + N + E) w₁ × ((nodes + N + E + mixtureCount b ≤ length w₁) × (mixtureCount b ≤ 4096)))
         × ((r : ℕ) → r < length (b .mixtures) → getD (b .mixtures) r 0 < mixtureCount b)
     apart-fits =
-        let a = apart-asks b (x .asked) (x .lent) l s (x .fills) (x .board) (x .links) (x .area) (x .words) (x .floats) w₁ f₁ planned-at in
+        let a = apart-asks b (x .asked) (x .lent) l s (x .fills) (x .board) (x .links) (x .area) (x .words) (x .floats) w₁ f₁ p in
         (rw (en, ef, x .board .mixes) (a .0), a .1)
 
     module _ (r : Bool) (w₂ : List ℕ) (t : Tells (mixed (b .mixtures) (b .immutable)) (s .zones) first nodes (nodes + N + E) r w₁ w₂) where
@@ -314,13 +309,13 @@ module _ {b : Board} {s : Filling} {l : Lent} (x : Filled b s l) (nodes : ℕ) (
           (subst (λ (y : ℕ). Tells (mixed (b .mixtures) (b .immutable)) (s .zones) y nodes (nodes + N + E) r w₁ w₂) ef t)
 
       pub finish-fits : Planned (lean b) (s .zones) w₂ (areas (l .gas) f₁ (l .area) (s .used))
-      finish-fits = finish-asks b (x .asked) (x .lent) l s (x .fills) (x .board) (x .links) (x .area) (x .words) (x .floats) w₁ f₁ planned-at w₂ (told .words)
+      finish-fits = finish-asks b (x .asked) (x .lent) l s (x .fills) (x .board) (x .links) (x .area) (x .words) (x .floats) w₁ f₁ p w₂ (told .words)
 
       pub played-comes : (turns w₃ : List ℕ) (g₃ f₃ : List Float) (a₃ : List ℕ) (used : ℕ) → FinishesAll (lean b) (s .zones) turns w₂ w₃ (areas (l .gas) f₁ (l .area) (s .used)) (areas g₃ f₃ a₃ used)
           → (mark : ℕ) → mark ≡ bit r → (q : Ask) (l₀ : Lent) → Fills b q s l₀ l
           → Comes b (played b (l₀ .gas) q turns (fillAll b (l₀ .gas) q)) (record { cancelled = 0; processed = s .nodes; tests = s .tests + 2; zones = s .zones; apart = mark; used = used }) l₀ (record { gas = g₃; area = a₃; words = w₃; floats = f₃ })
       played-comes turns w₃ g₃ f₃ a₃ used u mark m q l₀ d =
-          comes-played b q l₀ l s d (x .board) (x .links) (x .area) (x .words) (x .floats) w₁ f₁ planned-at w₂ (told .words) turns w₃ g₃ f₃ a₃ used u r told mark m
+          comes-played b q l₀ l s d (x .board) (x .links) (x .area) (x .words) (x .floats) w₁ f₁ p w₂ (told .words) turns w₃ g₃ f₃ a₃ used u r told mark m
 
 -- the counts are small
 pub tests-small : {b : Board} {s : Filling} {l : Lent} → Filled b s l → s .tests ≤ 4096

@@ -60,7 +60,6 @@ fn play(
     let e = neighbours.len();
     let nodes = flood_fill::nodes_at(n, e);
     let marks = nodes + n + e;
-    let work = marks + immutable.len();
     plan_all::plan_all(
         s.zones,
         mixtures,
@@ -70,7 +69,6 @@ fn play(
         neighbours,
         n,
         e,
-        work,
         words,
         floats,
     );

@@ -10,7 +10,6 @@ use Rattle.turfs.specs.Board.{Board, turfCount, linkCount}
 use Rattle.turfs.specs.Refuse.{linksFit}
 use Rattle.turfs.proofs.Accepted.{Accepted}
 use Rattle.lent.specs.Lent.{wordsRoom, floatsRoom}
-use Rattle.flood_fill.specs.Held.{nodesAt}
 use Rattle.fill_zone.proofs.Boards.{gas-holds}
 use Rattle.equalize.specs.Equalize.{Ask, fillAll}
 use Rattle.equalize.proofs.Zones.{zone-has}
@@ -20,13 +19,8 @@ use Rattle.fill_all.proofs.Words.{nodes-few, zones-are}
 use Rattle.reverse_links.specs.Reverse.{Linked}
 use Rattle.reverse_links.proofs.Accepted.{linked}
 use Rattle.plan_zone.specs.Zone.{Gassed}
-use Rattle.plan_all.specs.Zones.{workAt, Room, Zoned}
+use Rattle.plan_all.specs.Zones.{Room, Zoned}
 use Rattle.plan_all.proofs.Calls.{zoned-of}
-
--- the words have room for all that planning works with
-pub work-fits : (b : Board) (w : List ℕ) → wordsRoom b ≤ length w → workAt b + linkCount b + turfCount b + turfCount b ≤ length w
-unfolding wordsRoom
-work-fits b w h = omega (arith, h)
 
 module _ (b : Board) (q : Ask) (gas : List Float) (s : Filling) {w₀ w : List ℕ} {f₀ f : List Float} {a₀ a : List ℕ} (d : FillsAll (turfCount b) (linkCount b) (fillAll b gas q) s w₀ w f₀ f a₀ a)
     (h : Accepted b (length gas)) (links-fit : T (linksFit b)) (words-room : wordsRoom b ≤ length w) (floats-room : floatsRoom b ≤ length f) where
@@ -40,14 +34,12 @@ module _ (b : Board) (q : Ask) (gas : List Float) (s : Filling) {w₀ w : List �
   gassed = record { mixtures-n = h .mixes; within = λ r p. gas-holds h gas refl r }
 
   room : Room n e w f
-  unfolding floatsRoom
-  room = record { sizes = d .stored .sizes; words = omega (arith, work-fits b w words-room); reals = omega (arith, floats-room) }
+  unfolding wordsRoom floatsRoom
+  room = record { sizes = d .stored .sizes; words = omega (arith, words-room); reals = omega (arith, floats-room) }
 
   zoned : Zoned n e (s .zones) w f
   zoned = zoned-of b (fillAll b gas q .zones) room (d .stored .zones) (zones-are d)
       (λ z p. (d .stored .rise z p, omega (arith, d .stored .below (z + 1) (omega arith), nodes-few d))) (zone-has b h gas q)
 
-  pub plan-asks : (work : ℕ) → work ≡ workAt b
-      → (Gassed n (b .mixtures) (b .gases) gas × (Linked n (b .starts) (b .neighbours) × (linkCount b ≡ e)))
-      × (Zoned n e (s .zones) w f × ((nodesAt n e + n + e ≤ work) × (work + e + n + n ≤ length w)))
-  plan-asks work p = ((gassed, (linked b (h .starts) links-fit, refl)), (zoned, (omega (arith, p), omega (arith, p, work-fits b w words-room))))
+  pub plan-asks : (Gassed n (b .mixtures) (b .gases) gas × (Linked n (b .starts) (b .neighbours) × (linkCount b ≡ e))) × Zoned n e (s .zones) w f
+  plan-asks = ((gassed, (linked b (h .starts) links-fit, refl)), zoned)

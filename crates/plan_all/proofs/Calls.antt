@@ -12,6 +12,7 @@ use Rattle.basics.specs.Loops.{run, upFrom}
 use Rattle.basics.specs.Regions.{region}
 use Rattle.basics.proofs.Lists.{upFrom-length}
 use Rattle.basics.proofs.Regions.{cut-length}
+use Rattle.basics.proofs.Parts.{drop-alike}
 use Rattle.turfs.specs.Board.{Board, turfCount, linkCount}
 use Rattle.turfs.proofs.Line.{Line, line-short}
 use Rattle.index_set.specs.Line.{Below}
@@ -20,11 +21,11 @@ use Rattle.flood_fill.specs.Held.{sizes, nodesAt}
 use Rattle.process_zone.specs.Plan.{planZone}
 use Rattle.finalize_eq.specs.Turns.{Zone, zoneAt}
 use Rattle.equalize.specs.Equalize.{Filled, planAll}
-use Rattle.plan_state.specs.Held.{area, view}
+use Rattle.plan_state.specs.Held.{area, view, top}
 use Rattle.plan_zone.proofs.Whole.{tablesOf}
 use Rattle.fill_all.specs.Held.{floatSizes}
 use Rattle.plan_all.specs.Zones.{zoneOf, startOf, filledOf, Room, Zoned, blank, PlansAll}
-use Rattle.plan_all.proofs.Zones.{part-same, region-same}
+use Rattle.plan_all.proofs.Zones.{region-same}
 use Rattle.plan_all.proofs.Plans.{reals-rest, zone-is, plan-all-board}
 
 -- ---- before
@@ -60,29 +61,29 @@ zoned-of b {e} {zones} {w} {f} zs r few same rise has =
 
 -- ---- afterwards
 
--- the arrays that planning leaves; m words more, up to those that it works with
-pub record Stays (n e work : ℕ) (w w′ : List ℕ) (f f′ : List Float) : Type 0 where
+-- the arrays that planning leaves, and every word from the top of those that it works with on
+pub record Stays (n e : ℕ) (w w′ : List ℕ) (f f′ : List Float) : Type 0 where
   pub owner : region (sizes n e) 0 w′ ≡ region (sizes n e) 0 w
   pub found : region (sizes n e) 8 w′ ≡ region (sizes n e) 8 w
   pub cursor : region (sizes n e) 9 w′ ≡ region (sizes n e) 9 w
   pub live : region (sizes n e) 10 w′ ≡ region (sizes n e) 10 w
   pub starts : region (sizes n e) 11 w′ ≡ region (sizes n e) 11 w
   pub nodes : region (sizes n e) 12 w′ ≡ region (sizes n e) 12 w
-  pub more : (m : ℕ) → nodesAt n e + n + e + m ≤ work → take m (drop (nodesAt n e + n + e) w′) ≡ take m (drop (nodesAt n e + n + e) w)
+  pub more : drop (top n e) w′ ≡ drop (top n e) w
   pub lifted : region (floatSizes n e) 3 f′ ≡ region (floatSizes n e) 3 f
   pub moles : region (floatSizes n e) 4 f′ ≡ region (floatSizes n e) 4 f
 
-pub all-stays : {n e zones work : ℕ} {b : Board} {gas : List Float} {w w′ : List ℕ} {f f′ : List Float} → nodesAt n e + n + e ≤ work → work + e + n + n ≤ length w
-    → PlansAll n e zones work b gas w w′ f f′ → Stays n e work w w′ f f′
+pub all-stays : {n e zones : ℕ} {b : Board} {gas : List Float} {w w′ : List ℕ} {f f′ : List Float} → nodesAt n e + n + e ≤ length w
+    → PlansAll n e zones b gas w w′ f f′ → Stays n e w w′ f f′
 unfolding view
-all-stays {n} {e} {w = w} {w′} {f} {f′} past room p = record {
-  owner = region-same n e 0 (p .words) (omega arith) (omega (arith, past, room)) (λ i l k. (inl (omega (arith, k)), inl (omega (arith, k, past))));
-  found = region-same n e 8 (p .words) (omega arith) (omega (arith, past, room)) (λ i l k. (inr (omega (arith, l)), inl (omega (arith, k, past))));
-  cursor = region-same n e 9 (p .words) (omega arith) (omega (arith, past, room)) (λ i l k. (inr (omega (arith, l)), inl (omega (arith, k, past))));
-  live = region-same n e 10 (p .words) (omega arith) (omega (arith, past, room)) (λ i l k. (inr (omega (arith, l)), inl (omega (arith, k, past))));
-  starts = region-same n e 11 (p .words) (omega arith) (omega (arith, past, room)) (λ i l k. (inr (omega (arith, l)), inl (omega (arith, k, past))));
-  nodes = region-same n e 12 (p .words) (omega arith) (omega (arith, past, room)) (λ i l k. (inr (omega (arith, l)), inl (omega (arith, k, past))));
-  more = λ m q. part-same (p .words) (nodesAt n e + n + e) m (omega (arith, q, room)) (λ i l k. (inr (omega (arith, l)), inl (omega (arith, k, q))));
+all-stays {n} {e} {w = w} {w′} {f} {f′} room p = record {
+  owner = region-same n e 0 (p .words) (omega arith) (omega (arith, room)) (λ i l k. inl (omega (arith, k)));
+  found = region-same n e 8 (p .words) (omega arith) (omega (arith, room)) (λ i l k. inr (omega (arith, l)));
+  cursor = region-same n e 9 (p .words) (omega arith) (omega (arith, room)) (λ i l k. inr (omega (arith, l)));
+  live = region-same n e 10 (p .words) (omega arith) (omega (arith, room)) (λ i l k. inr (omega (arith, l)));
+  starts = region-same n e 11 (p .words) (omega arith) (omega (arith, room)) (λ i l k. inr (omega (arith, l)));
+  nodes = region-same n e 12 (p .words) (omega arith) (omega (arith, room)) (λ i l k. inr (omega (arith, l)));
+  more = drop-alike (top n e) w′ w (p .words .len) (λ i l. p .words .same i (inr l));
   lifted = ap (take e) rest;
   moles = ap (λ (r : List Float). take n (drop e r)) rest;
 }
@@ -91,8 +92,8 @@ all-stays {n} {e} {w = w} {w′} {f} {f′} past room p = record {
     rest = reals-rest n e (area w′ f′) ∙ p .reals .1 ∙ sym (reals-rest n e (area w f))
 
 -- the plan of the whole board, of what filling came to
-pub planned-filled : (b : Board) (s : Filled) {zones work : ℕ} {gas : List Float} {w w′ : List ℕ} {f f′ : List Float}
-    → PlansAll (turfCount b) (linkCount b) zones work (tablesOf b) gas w w′ f f′ → s .owner ≡ region (sizes (turfCount b) (linkCount b)) 0 w
+pub planned-filled : (b : Board) (s : Filled) {zones : ℕ} {gas : List Float} {w w′ : List ℕ} {f f′ : List Float}
+    → PlansAll (turfCount b) (linkCount b) zones (tablesOf b) gas w w′ f f′ → s .owner ≡ region (sizes (turfCount b) (linkCount b)) 0 w
     → s .zones ≡ map (zoneOf (turfCount b) (linkCount b) w f) (upFrom 0 zones) → view (turfCount b) (linkCount b) (area w′ f′) .plan ≡ planAll b gas s
 unfolding planAll
 planned-filled b s {zones} {gas = gas} {w = w} {f = f} p eo ez =

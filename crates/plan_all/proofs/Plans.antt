@@ -20,7 +20,7 @@ use Rattle.flood_fill.specs.Held.{sizes, startsAt, nodesAt}
 use Rattle.finalize_eq.specs.Turns.{Zone, zoneAt}
 use Rattle.equalize.specs.Equalize.{Filled, planAll}
 use Rattle.reverse_links.specs.Reverse.{Reverses}
-use Rattle.reverse_links.specs.Words.{Outside, ButParts}
+use Rattle.reverse_links.specs.Words.{Outside, But}
 use Rattle.plan_state.specs.Held.{Area, area, wsizes, rsizes, viewIn, View, view, Fit, Frame, top, nodesOf}
 use Rattle.plan_state.proofs.Stores.{frame-none, frame-then, owner-at}
 use Rattle.plan_state.proofs.Nodes.{rest-is}
@@ -155,18 +155,17 @@ plan-all-board b gas s =
 
 -- ---- all of it
 
-module _ {n e zones work : ℕ} {w w₁ w₂ : List ℕ} {f f₂ : List Float} (z : Zoned n e zones w f) (past : nodesAt n e + n + e ≤ work) (b₁ : ButParts e (e + e) work (work + e + n + n) w w₁)
-    (k : Blanks n e (area w₁ f) (area w₂ f₂)) where
+module _ {n e zones : ℕ} {w w₁ w₂ : List ℕ} {f f₂ : List Float} (z : Zoned n e zones w f) (b₁ : But e (e + e) w w₁) (k : Blanks n e (area w₁ f) (area w₂ f₂)) where
   -- the reverses are none of the zones' words
   found-alike : Alike n e w w₁ f f
   found-alike = record {
-    starts = region-same n e 11 b₁ (omega arith) (omega (arith, z .room .words)) (λ i l m. (inr (omega (arith, l)), inl (omega (arith, m, past))));
-    nodes = region-same n e 12 b₁ (omega arith) (omega (arith, z .room .words)) (λ i l m. (inr (omega (arith, l)), inl (omega (arith, m, past))));
+    starts = region-same n e 11 b₁ (omega arith) (omega (arith, z .room .words)) (λ i l m. inr (omega (arith, l)));
+    nodes = region-same n e 12 b₁ (omega arith) (omega (arith, z .room .words)) (λ i l m. inr (omega (arith, l)));
     moles = refl;
   }
 
   owners-stay : region (sizes n e) 0 w₁ ≡ region (sizes n e) 0 w
-  owners-stay = region-same n e 0 b₁ (omega arith) (omega (arith, z .room .words)) (λ i l m. (inl (omega (arith, m)), inl (omega (arith, m, past))))
+  owners-stay = region-same n e 0 b₁ (omega arith) (omega (arith, z .room .words)) (λ i l m. inl (omega (arith, m)))
 
   all-alike : Alike n e w w₂ f f₂
   all-alike = alike-then found-alike (frame-alike (k .frame))
@@ -193,12 +192,12 @@ module _ {n e zones work : ℕ} {w w₁ w₂ : List ℕ} {f f₂ : List Float} (
   pub planned-all : {w₃ : List ℕ} {f₃ : List Float} {b : Board} {gas : List Float} → Plans n e (planZones b gas (zoneOf n e w₂ f₂) (upFrom 0 zones)) (area w₂ f₂) (area w₃ f₃)
       → length w₃ ≡ length w₁ → length f₃ ≡ length f → turfCount b ≡ n → linkCount b ≡ e
       → ((c : Board) → c .starts ≡ b .starts → c .neighbours ≡ b .neighbours → Reverses c n (take e (drop e w₁)))
-      → PlansAll n e zones work b gas w w₃ f f₃
+      → PlansAll n e zones b gas w w₃ f f₃
   unfolding view
   planned-all {w₃} {f₃} {b} {gas} d l m en ee v = record {
     words = record {
       len = l ∙ b₁ .len;
-      same = λ i o p. word-stays (d .frame) i o ∙ b₁ .same i (⊎-elim (λ q. inl q) (λ q. inr (omega (arith, q))) o) p;
+      same = λ i o. word-stays (d .frame) i o ∙ b₁ .same i (⊎-elim (λ q. inl q) (λ q. inr (omega (arith, q))) o);
     };
     reals = (m, sym (reals-rest n e (area w₃ f₃)) ∙ since (d .frame) .restR ∙ reals-rest n e (area w₁ f));
     reverses = λ c es et. subst (Reverses c n) (sym (since (d .frame) .reverse)) (v c es et);

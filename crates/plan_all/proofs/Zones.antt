@@ -12,7 +12,7 @@ use Rattle.basics.proofs.Parts.{part-alike, take-in}
 use Rattle.index_set.specs.Line.{Below}
 use Rattle.flood_fill.specs.Held.{sizes, startsAt, nodesAt}
 use Rattle.finalize_eq.specs.Turns.{Zone}
-use Rattle.reverse_links.specs.Words.{Outside, ButParts}
+use Rattle.reverse_links.specs.Words.{Outside, But}
 use Rattle.plan_state.specs.Held.{Area, area, view, Fit, Frame, top, Nodes, nodesOf}
 use Rattle.fill_all.specs.Held.{floatSizes, molesAt, zoneIn}
 use Rattle.plan_all.specs.Zones.{zoneOf, startOf, Room, Ready, Zoned}
@@ -58,17 +58,17 @@ frame-alike {n} {e} fr = record {
   moles = ap (λ (r : List Float). take n (drop e r)) (fr .restR);
 }
 
--- ---- a part that two changed parts leave
+-- ---- a part beside the changed one
 
-pub part-same : {lo hi lo′ hi′ : ℕ} {w w′ : List ℕ} → ButParts lo hi lo′ hi′ w w′ → (at size : ℕ) → at + size ≤ length w
-    → ((i : ℕ) → at ≤ i → i < at + size → Outside lo hi i × Outside lo′ hi′ i) → take size (drop at w′) ≡ take size (drop at w)
+pub part-same : {lo hi : ℕ} {w w′ : List ℕ} → But lo hi w w′ → (at size : ℕ) → at + size ≤ length w
+    → ((i : ℕ) → at ≤ i → i < at + size → Outside lo hi i) → take size (drop at w′) ≡ take size (drop at w)
 part-same {w = w} {w′ = w′} b at size h out =
-    part-alike at size w′ w (b .len) (λ i k. let o = out (at + i) (omega arith) (omega (arith, k)) in b .same (at + i) (o .0) (o .1))
+    part-alike at size w′ w (b .len) (λ i k. b .same (at + i) (out (at + i) (omega arith) (omega (arith, k))))
 
 -- an array of the whole call, likewise
-pub region-same : {lo hi lo′ hi′ : ℕ} {w w′ : List ℕ} (n e k : ℕ) → ButParts lo hi lo′ hi′ w w′ → k < length (sizes n e)
+pub region-same : {lo hi : ℕ} {w w′ : List ℕ} (n e k : ℕ) → But lo hi w w′ → k < length (sizes n e)
     → base (sizes n e) k + getD (sizes n e) k 0 ≤ length w
-    → ((i : ℕ) → base (sizes n e) k ≤ i → i < base (sizes n e) k + getD (sizes n e) k 0 → Outside lo hi i × Outside lo′ hi′ i)
+    → ((i : ℕ) → base (sizes n e) k ≤ i → i < base (sizes n e) k + getD (sizes n e) k 0 → Outside lo hi i)
     → region (sizes n e) k w′ ≡ region (sizes n e) k w
 region-same {w = w} {w′ = w′} n e k b h l out =
     region-part (sizes n e) w′ k h ∙ part-same b (base (sizes n e) k) (getD (sizes n e) k 0) l out ∙ sym (region-part (sizes n e) w k h)

@@ -8,7 +8,7 @@ use lib.Ieee.{Float}
 use Rattle.basics.specs.Floats.{0f}
 use Rattle.basics.specs.Loops.{run, upFrom}
 use Rattle.basics.specs.Regions.{region}
-use Rattle.turfs.specs.Board.{Board, turfCount, linkCount, mixtureCount}
+use Rattle.turfs.specs.Board.{Board}
 use Rattle.index_set.specs.Line.{Below}
 use Rattle.flood_fill.specs.Held.{sizes, nodesAt, Sizes}
 use Rattle.process_zone.specs.Plan.{Plan, planZone}
@@ -16,12 +16,8 @@ use Rattle.finalize_eq.specs.Turns.{Zone}
 use Rattle.equalize.specs.Equalize.{Filled, planAll}
 use Rattle.fill_all.specs.Held.{floatSizes, molesAt, zoneIn}
 use Rattle.reverse_links.specs.Reverse.{Reverses}
-use Rattle.reverse_links.specs.Words.{ButParts}
+use Rattle.reverse_links.specs.Words.{But}
 use Rattle.plan_state.specs.Held.{Area, area, view, Fit, Frame, top}
-
--- where the search for the reverses works: behind the nodes and a word for each mixture
-abbrev pub workAt : Board → ℕ
-workAt b = nodesAt (turfCount b) (linkCount b) + turfCount b + linkCount b + mixtureCount b
 
 -- ---- the zones
 
@@ -79,10 +75,9 @@ pub record Blanks (n e : ℕ) (a a′ : Area) : Type 0 where
 abbrev pub planZones : Board → List Float → (ℕ → Zone) → List ℕ → List ℕ → Plan → Plan
 planZones b gas zone zs o p = run (λ z q. planZone b o z gas (zone z .nodes) (zone z .moles) q) zs p
 
--- All zones are planned, as `planAll` says. Every word but the reverses, those that planning works with and those that the search for the reverses works with
--- is as it was, and every float past the plan's.
-pub record PlansAll (n e zones work : ℕ) (b : Board) (gas : List Float) (w w′ : List ℕ) (f f′ : List Float) : Type 0 where
-  pub words : ButParts e (top n e) work (work + e + n + n) w w′
+-- All zones are planned, as `planAll` says. Every word but the reverses and those that planning works with is as it was, and every float past the plan's.
+pub record PlansAll (n e zones : ℕ) (b : Board) (gas : List Float) (w w′ : List ℕ) (f f′ : List Float) : Type 0 where
+  pub words : But e (top n e) w w′
   pub reals : (length f′ ≡ length f) × (drop (e + n + n) f′ ≡ drop (e + n + n) f)
   pub reverses : (c : Board) → c .starts ≡ b .starts → c .neighbours ≡ b .neighbours → Reverses c n (take e (drop e w′))
   pub plan : view n e (area w′ f′) .plan ≡ planAll b gas (filledOf n e zones w f)

@@ -1,10 +1,9 @@
 // Planning of all zones, as filling left them: the reverses once, then zone after zone.
 ghost use mathlib.Core.Path.{_≡_};
 ghost use mathlib.Core.List.{_++_};
-ghost use Prim.Native.Nat.{_+_, _≤_, _<_};
+ghost use Prim.Native.Nat.{_+_, _<_};
 ghost use lib.ListN.{length, take, drop, replicate};
 ghost use Rattle.basics.specs.Loops.{upFrom};
-ghost use Rattle.flood_fill.specs.Held.{nodesAt};
 ghost use Rattle.process_zone.specs.Plan.{planZone};
 ghost use Rattle.reverse_links.specs.Reverse.{Linked, Reverses};
 ghost use Rattle.plan_state.specs.Held.{grid, ground, area, view, Fit};
@@ -96,7 +95,7 @@ fn plan_zones(
     }
 }
 
-// All zones of a board of n turfs and e links. The e + n + n words from `work` on may be worked with.
+// All zones of a board of n turfs and e links.
 pub fn plan_all(
     zones: usize,
     mixtures: &[u32],
@@ -106,13 +105,12 @@ pub fn plan_all(
     neighbours: &[u32],
     n: usize,
     e: usize,
-    work: usize,
     words: &mut [u32],
     reals: &mut [f32],
 )
     requires { ⌜ Gassed n (now mixtures) gases (now gas) × (Linked n (now starts) (now neighbours) × (length (now neighbours) ≡ e)) ⌝ }
-    requires { ⌜ Zoned n e zones (now words) (now reals) × ((nodesAt n e + n + e ≤ work) × (work + e + n + n ≤ length (now words))) ⌝ }
-    ensures { λ _. ⌜ PlansAll n e zones work (ground n (now (starts .entry)) (now (neighbours .entry)) (now (mixtures .entry)) gases) (now (gas .entry)) (now (words .entry)) (now (words .exit)) (now (reals .entry)) (now (reals .exit)) ⌝ }
+    requires { ⌜ Zoned n e zones (now words) (now reals) ⌝ }
+    ensures { λ _. ⌜ PlansAll n e zones (ground n (now (starts .entry)) (now (neighbours .entry)) (now (mixtures .entry)) gases) (now (gas .entry)) (now (words .entry)) (now (words .exit)) (now (reals .entry)) (now (reals .exit)) ⌝ }
 {
     reverse_links::find_reverses(starts, neighbours, n, e, words);
     clear_plan(n, e, words, reals);

@@ -7,7 +7,7 @@ use mathlib.Core.Logic.{inl, inr, ⊎-elim}
 use mathlib.Core.List.{List}
 use lib.ListN.{length, getD, set, length-set}
 use lib.Seq.{getD-set-same, getD-set-other}
-use Rattle.reverse_links.specs.Words.{But, ButParts}
+use Rattle.reverse_links.specs.Words.{But}
 
 pub but-none : {lo hi : ℕ} {w : List ℕ} → But lo hi w w
 but-none = record { len = refl; same = λ i o. refl }
@@ -23,10 +23,6 @@ but-then l m b c = record {
   len = c .len ∙ b .len;
   same = λ i o. c .same i (⊎-elim (λ q. inl (omega (arith, q, l))) (λ q. inr (omega (arith, q, m))) o) ∙ b .same i o;
 }
-
--- what stays but for one part stays but for two
-pub but-parts : {lo hi lo′ hi′ : ℕ} {w w′ : List ℕ} → But lo hi w w′ → ButParts lo hi lo′ hi′ w w′
-but-parts b = record { len = b .len; same = λ i o p. b .same i o }
 
 -- what holds of every place below i, and at i, holds of every place below i + 1
 pub one-more : {P : ℕ → Type 0} (i : ℕ) → ((j : ℕ) → j < i → P j) → P i → (j : ℕ) → j < i + 1 → P j

@@ -17,11 +17,6 @@ pub record But (lo hi : ℕ) (w w′ : List ℕ) : Type 0 where
   pub len : length w′ ≡ length w
   pub same : (i : ℕ) → Outside lo hi i → getD w′ i 0 ≡ getD w i 0
 
--- the words of two parts may be others, and all else is as it was
-pub record ButParts (lo hi lo′ hi′ : ℕ) (w w′ : List ℕ) : Type 0 where
-  pub len : length w′ ≡ length w
-  pub same : (i : ℕ) → Outside lo hi i → Outside lo′ hi′ i → getD w′ i 0 ≡ getD w i 0
-
 -- the link from `from` up to `to` that ends at the row s, as a word
 abbrev pub found : List ℕ → ℕ → ℕ → ℕ → ℕ
 found neighbours from to s = wordOf (first (λ j. eqb (getD neighbours j 0) s) (upFrom from (to - from)))

@@ -1,5 +1,5 @@
 -- A part on its own: refused as equalize's number says, when nothing is changed; else its own promise, on tables that the refusals let pass. Assumes nothing.
-use Prim.Native.Nat.{ℕ, _+_, _≤_}
+use Prim.Native.Nat.{ℕ}
 use native.Mathlib.Omega.{arith}
 use native.Mathlib.Decide.{ℕ-discrete}
 use mathlib.Core.Path.{_≡_, refl, _∙_, sym}
@@ -7,15 +7,13 @@ use mathlib.Core.List.{List, []}
 use mathlib.Core.Bool.{true, false, true≢false}
 use lib.Ieee.{Float}
 use lib.ListN.{length}
-use Rattle.turfs.specs.Board.{Board, turfCount, linkCount, mixtureCount}
-use Rattle.turfs.proofs.Accepted.{Accepted}
+use Rattle.turfs.specs.Board.{Board, turfCount, linkCount}
 use Rattle.lent.specs.Lent.{Lent, refusal}
 use Rattle.lent.specs.Given.{lent}
-use Rattle.flood_fill.specs.Held.{nodesAt, Sizes}
 use Rattle.reverse_links.specs.Reverse.{Linked}
 use Rattle.plan_zone.specs.Zone.{Gassed}
 use Rattle.plan_zone.proofs.Whole.{tablesOf}
-use Rattle.plan_all.specs.Zones.{workAt, Zoned, PlansAll}
+use Rattle.plan_all.specs.Zones.{Zoned, PlansAll}
 use Rattle.plan_all.proofs.Asked.{plan-asks}
 use Rattle.equalize.specs.Equalize.{Ask, fillAll}
 use Rattle.equalize.specs.Result.{equalizeNumber}
@@ -65,26 +63,19 @@ module _ (b : Board) (q : Ask) (l : Lent) where
     passes : equalizeNumber b q [] l ≡ 0
     passes = sym (f .refusal) ∙ z
 
-    done-board : Accepted b (length (l .gas))
-    done-board = let-pass b q [] l passes .board
-
-    pub work-asks : Sizes (turfCount b) (linkCount b) × (mixtureCount b ≤ 4096)
-    work-asks = (record { turfs = done-board .turfs .1; links = done-board .links }, done-board .mixtures .1)
-
-    pub plan-ready : length (left .words) ≡ length (l .words) → length (left .floats) ≡ length (l .floats) → (work : ℕ) → work ≡ workAt b
+    pub plan-ready : length (left .words) ≡ length (l .words) → length (left .floats) ≡ length (l .floats)
         → (Gassed (turfCount b) (b .mixtures) (b .gases) (l .gas) × (Linked (turfCount b) (b .starts) (b .neighbours) × (linkCount b ≡ linkCount b)))
-        × (Zoned (turfCount b) (linkCount b) (s .zones) (left .words) (left .floats)
-        × ((nodesAt (turfCount b) (linkCount b) + turfCount b + linkCount b ≤ work) × (work + linkCount b + turfCount b + turfCount b ≤ length (left .words))))
+        × Zoned (turfCount b) (linkCount b) (s .zones) (left .words) (left .floats)
     plan-ready lw lf =
         let p = let-pass b q [] l passes in
         plan-asks b q (l .gas) s (f .done z) (p .board) (let-links b q [] l passes) (omega (arith, lw, p .words)) (omega (arith, lf, p .floats))
 
-    pub planned-plans : s .cancelled ≡ false → {w : List ℕ} {r : List Float} (work : ℕ) → work ≡ workAt b
-        → PlansAll (turfCount b) (linkCount b) (s .zones) work (tablesOf b) (l .gas) (left .words) w (left .floats) r → Plans b q l (lent (l .gas) (left .area) w r) number s
-    planned-plans c work e r = record {
+    pub planned-plans : s .cancelled ≡ false → {w : List ℕ} {r : List Float}
+        → PlansAll (turfCount b) (linkCount b) (s .zones) (tablesOf b) (l .gas) (left .words) w (left .floats) r → Plans b q l (lent (l .gas) (left .area) w r) number s
+    planned-plans c r = record {
       left = left;
       fills = f;
       refused = λ n. absurd (n z);
       cancelled = λ k. absurd (true≢false (sym k ∙ c));
-      planned = λ _ _. plan-comes b q l left s (f .done z) work e refl r;
+      planned = λ _ _. plan-comes b q l left s (f .done z) refl r;
     }

@@ -9,7 +9,7 @@ use Rattle.fill_all.specs.Held.{FillsAll}
 use Rattle.fill_all.specs.declared.Filling.{Filling}
 use Rattle.fill_all.proofs.Words.{zones-are, owners-are}
 use Rattle.equalize.specs.Equalize.{Ask, fillAll}
-use Rattle.plan_all.specs.Zones.{workAt, PlansAll}
+use Rattle.plan_all.specs.Zones.{PlansAll}
 use Rattle.stages.specs.Stages.{Planned}
 
 module _ (b : Board) (q : Ask) (l m : Lent) (s : Filling)
@@ -20,12 +20,12 @@ module _ (b : Board) (q : Ask) (l m : Lent) (s : Filling)
   abbrev e : ℕ
   e = linkCount b
 
-  pub plan-comes : {l′ : Lent} (work : ℕ) → work ≡ workAt b → l′ .area ≡ m .area
-      → PlansAll n e (s .zones) work (tablesOf b) (l .gas) (m .words) (l′ .words) (m .floats) (l′ .floats) → Planned b q (l .gas) m l′
-  plan-comes work p a r = record {
+  pub plan-comes : {l′ : Lent} → l′ .area ≡ m .area
+      → PlansAll n e (s .zones) (tablesOf b) (l .gas) (m .words) (l′ .words) (m .floats) (l′ .floats) → Planned b q (l .gas) m l′
+  plan-comes a r = record {
     plan = planned-filled b (fillAll b (l .gas) q) r (sym (owners-are d)) (zones-are d);
     reverses = r .reverses b refl refl;
-    words = rw (sym p) (r .words);
+    words = r .words;
     floats = r .reals;
     area = a;
   }

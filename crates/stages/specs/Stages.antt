@@ -8,13 +8,12 @@ use lib.Ieee.{Float}
 use Rattle.turfs.specs.Board.{Board, turfCount, linkCount}
 use Rattle.lent.specs.Lent.{Lent}
 use Rattle.reverse_links.specs.Reverse.{Reverses}
-use Rattle.reverse_links.specs.Words.{ButParts}
+use Rattle.reverse_links.specs.Words.{But}
 use Rattle.plan_state.specs.Held.{area, view, top}
 use Rattle.equalize.specs.Equalize.{Ask, fillAll, planAll, bit}
 use Rattle.equalize.specs.Result.{equalizeNumber}
 use Rattle.fill_all.specs.Held.{start, FillsAll}
 use Rattle.fill_all.specs.declared.Filling.{Filling}
-use Rattle.plan_all.specs.Zones.{workAt}
 
 -- filling alone, with equalize's refusals for no turns
 pub record Fills (b : Board) (q : Ask) (l l′ : Lent) (number : ℕ) (s : Filling) : Type 0 where
@@ -46,7 +45,7 @@ pub record FillAnswers (b : Board) (q : Ask) (l l′ : Lent) (number : ℕ) (ans
 pub record Planned (b : Board) (q : Ask) (gas : List Float) (m l′ : Lent) : Type 0 where
   pub plan : view (turfCount b) (linkCount b) (area (l′ .words) (l′ .floats)) .plan ≡ planAll b gas (fillAll b gas q)
   pub reverses : Reverses b (turfCount b) (take (linkCount b) (drop (linkCount b) (l′ .words)))
-  pub words : ButParts (linkCount b) (top (turfCount b) (linkCount b)) (workAt b) (workAt b + linkCount b + turfCount b + turfCount b) (m .words) (l′ .words)
+  pub words : But (linkCount b) (top (turfCount b) (linkCount b)) (m .words) (l′ .words)
   pub floats : (length (l′ .floats) ≡ length (m .floats)) × (drop (linkCount b + turfCount b + turfCount b) (l′ .floats) ≡ drop (linkCount b + turfCount b + turfCount b) (m .floats))
   pub area : l′ .area ≡ m .area
 

@@ -3,10 +3,9 @@ use equalize::bit;
 use fill_all::Filling;
 ghost use mathlib.Core.Path.{_≡_};
 ghost use mathlib.Core.List.{[]};
-ghost use Prim.Native.Nat.{ℕ, _+_, _≤_};
+ghost use Prim.Native.Nat.{ℕ};
 ghost use Rattle.turfs.specs.Tables.{board};
 ghost use Rattle.lent.specs.Given.{lent};
-ghost use Rattle.flood_fill.specs.Held.{nodesAt, Sizes};
 ghost use Rattle.equalize.specs.Result.{equalizeNumber};
 ghost use Rattle.fill_all.specs.Held.{ask};
 ghost use Rattle.stages.specs.Stages.{Fills, Few, fillNumbers, FillAnswers, Plans, PlanAnswers};
@@ -28,14 +27,6 @@ fn write(a: FillAnswer, answer: &mut [u32; 6])
     let tests = s.tests as u32;
     let used = s.used as u32;
     *answer = [a.number, bit(s.cancelled), zones, nodes, tests, used];
-}
-
-// Where planning works with words, on a board of n turfs, e links and m mixtures: behind the nodes and a word for each mixture.
-fn work_at(n: usize, e: usize, m: usize) -> usize
-    requires { ⌜ Sizes n e × (m ≤ 4096) ⌝ }
-    ensures { λ r. ⌜ r ≡ nodesAt n e + n + e + m ⌝ }
-{
-    flood_fill::nodes_at(n, e) + n + e + m
 }
 
 // Equalize's refusals, for no turns.
@@ -199,7 +190,6 @@ pub fn plan(
     }
     let n = ids.len();
     let e = neighbours.len();
-    let work = work_at(n, e, immutable.len());
     plan_all::plan_all(
         a.filling.zones,
         mixtures,
@@ -209,7 +199,6 @@ pub fn plan(
         neighbours,
         n,
         e,
-        work,
         words,
         floats,
     );

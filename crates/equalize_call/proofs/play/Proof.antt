@@ -25,13 +25,9 @@ add-marks c = search needs
 add-marks-2 : tie.Need-add-marks-2
 add-marks-2 c = search needs
 
--- src/lib.rt:67:16
-add-work : tie.Need-add-work
-add-work c = search needs
-
 -- src/lib.rt:68:5
 plan-all-requires : tie.Need-plan-all-requires
-plan-all-requires c κs = plan-fits (c .before .before .before .before .before .before .before .before .before .before .before .before .before .before .before .before .before .pre) _ (c .before .before .before .nodes-at .ensures)
+plan-all-requires c κs = plan-fits (c .before .before .before .before .before .before .before .before .before .before .before .before .before .before .before .before .before .pre)
 
 -- src/lib.rt:81:9
 starts-at-requires : tie.Need-starts-at-requires
@@ -46,8 +42,8 @@ finish-all-requires : tie.Need-finish-all-requires
 finish-all-requires c κs = finish-fits (c .before .before .before .before .before .before .before .before .before .before .before .before .before .before .before .before .before .before .before .before .before .before .before .before .before .before .before .before .before .before .before .pre) _ (c .before .before .before .before .before .before .before .before .before .before .before .before .before .before .before .before .before .nodes-at .ensures) _ (c .before .before .before .before .before .before .before .before .starts-at .ensures) _ _ (c .before .before .before .before .before .before .before .before .before .before .before .before .before .plan-all .ensures) _ _ (c .before .before .before .before .before .before .apart .ensures)
 
 -- src/lib.rt:101:16
-add-t24 : tie.Need-add-t24
-add-t24 c = omega (arith, tests-small (c .before .before .before .before .before .before .before .before .before .before .before .before .before .before .before .before .before .before .before .before .before .before .before .before .before .before .before .before .before .before .before .before .before .before .before .before .before .before .before .before .before .pre))
+add-t23 : tie.Need-add-t23
+add-t23 c = omega (arith, tests-small (c .before .before .before .before .before .before .before .before .before .before .before .before .before .before .before .before .before .before .before .before .before .before .before .before .before .before .before .before .before .before .before .before .before .before .before .before .before .before .before .before .before .pre))
 
 -- src/lib.rt:103:16
 bit-requires : tie.Need-bit-requires
@@ -80,12 +76,11 @@ play-spec =
     nodes-at-requires
     add-marks
     add-marks-2
-    add-work
     plan-all-requires
     starts-at-requires
     apart-requires
     finish-all-requires
-    add-t24
+    add-t23
     bit-requires
     same-length
     same-length-2
