@@ -338,13 +338,6 @@ module _ (b : Board) (zs : List Zone) (z from to at : ℕ) where
 
 -- ---- the start, and zone after zone
 
--- the marks came back as zeros, and all else as it was
-pub marks-cleared : (at m : ℕ) (w : List ℕ) {w′ : List ℕ} → at + m ≤ length w → w′ ≡ take at w ++ (replicate m 0 ++ drop m (drop at w)) → But at (at + m) w w′ × ((i : ℕ) → i < m → getD w′ (at + i) 0 ≡ 0)
-marks-cleared at m w h e = (
-  record { len = ap length e ∙ cleared-length at m w h; same = λ i o. ap (λ (l : List ℕ). getD l i 0) e ∙ cleared-far at m w h i o },
-  λ i k. ap (λ (l : List ℕ). getD l (at + i) 0) e ∙ cleared-at at m w h i k,
-)
-
 module _ {n zones first base at : ℕ} {hi : ℕ} {w₀ w : List ℕ} (h : Laid n zones first base at w₀) (k : But at hi w₀ w) (z : ℕ) (l : z < zones) where
   pub start-now : getD w (first + z) 0 ≡ getD w₀ (first + z) 0
   start-now = k .same (first + z) (inl (omega (arith, h .starts)))

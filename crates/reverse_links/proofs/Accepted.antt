@@ -2,49 +2,23 @@
 use Prim.Native.Nat.{ℕ, zero, suc, _+_, _-_, _≤_, _<_}
 use native.Mathlib.Omega.{arith}
 use native.Mathlib.Numerals.{add-one}
-use native.Mathlib.Nat.{not-suc-le-zero, le-of-suc-le-suc, zero-add}
+use native.Mathlib.Nat.{not-suc-le-zero, le-of-suc-le-suc, le-of-eq, zero-add}
+use native.Mathlib.Decide.{ℕ-discrete}
 use mathlib.Core.Path.{_≡_, refl, ap, _∙_, sym, subst}
 use mathlib.Core.Logic.{_≢_}
 use mathlib.Core.List.{List, [], _∷_}
 use mathlib.Core.Bool.{Bool, true, false, not, _&&_, _||_}
-use lib.Dec.{T, eqb, ltb, leb, eqb→eq, leb→le, ltb→lt, eqb-refl}
+use lib.Dec.{T, eqb, ltb, eqb→eq, ltb→lt}
+use lib.Ieee.Bits.{is-true}
 use lib.ListN.{length, getD, take, drop, length-drop}
 use lib.Seq.{getD-take, getD-drop, length-take-le}
 use Rattle.basics.specs.Loops.{every, allOf, upFrom, member}
 use Rattle.basics.proofs.Loops.{All, All-getD, every-all, and-left, and-right, all-of}
+use Rattle.basics.proofs.Lists.{at-member}
 use Rattle.turfs.specs.Board.{Board, turfCount, linkCount, neighboursOf, degree}
-use Rattle.turfs.specs.Refuse.{pairwise, rising, distinct, rowFits, linksFit}
+use Rattle.turfs.specs.Refuse.{rising, distinct, rowFits, linksFit}
+use Rattle.turfs.proofs.Order.{rising-to}
 use Rattle.reverse_links.specs.Reverse.{InRow, Linked}
-
-rises-at : (xs : List ℕ) (i : ℕ) → T (rising xs) → i + 1 < length xs → getD xs i 0 ≤ getD xs (i + 1) 0
-unfolding pairwise
-rises-at [] i t l = absurd (omega (arith, l))
-rises-at (x ∷ []) i t l = absurd (omega (arith, l))
-rises-at (x ∷ y ∷ ys) zero t l = leb→le x y (and-left (leb x y) (rising (y ∷ ys)) t)
-rises-at (x ∷ y ∷ ys) (suc i) t l =
-    let e : suc i + 1 ≡ suc (i + 1) = omega arith in
-    rw e (rises-at (y ∷ ys) i (and-right (leb x y) (rising (y ∷ ys)) t) (omega arith))
-
-rises-to : (xs : List ℕ) (i d : ℕ) → T (rising xs) → i + d < length xs → getD xs i 0 ≤ getD xs (i + d) 0
-rises-to xs i zero t l = let e : i + zero ≡ i = omega arith in rw e (omega arith)
-rises-to xs i (suc d) t l =
-    let e : i + suc d ≡ i + d + 1 = omega arith in
-    rw e (omega (arith, rises-to xs i d t (omega arith), rises-at xs (i + d) t (omega arith)))
-
--- an element that stands in a list is a member
-at-member : (xs : List ℕ) (i : ℕ) → i < length xs → T (member (getD xs i 0) xs)
-unfolding member
-at-member [] i h = absurd (not-suc-le-zero h)
-at-member (x ∷ xs) zero h = left (eqb x x) (member x xs) (eqb-refl x)
-  where
-    left : (s t : Bool) → T s → T (s || t)
-    left true t h = tt
-    left false t h = absurd h
-at-member (x ∷ xs) (suc i) h = right (eqb (getD xs i 0) x) (member (getD xs i 0) xs) (at-member xs i (le-of-suc-le-suc h))
-  where
-    right : (s t : Bool) → T t → T (s || t)
-    right true t h = tt
-    right false t h = h
 
 not-both : (b : Bool) → T (not b) → T b → ⊥
 not-both true n t = n
@@ -90,14 +64,11 @@ unfolding linksFit
 linked b len fits =
     let n : ℕ = turfCount b in
     let all = all-of _ fits in
-    let rise = all .0 in
+    let rise : rising (b .starts) ≡ true = is-true (rising (b .starts)) (all .0) in
     let zero₁ : getD (b .starts) 0 0 ≡ 0 = eqb→eq (getD (b .starts) 0 0) 0 (all .1 .0) in
     let last : getD (b .starts) n 0 ≡ linkCount b = eqb→eq (getD (b .starts) n 0) (linkCount b) (all .1 .1 .0) in
-    let up : (r : ℕ) → r < n → getD (b .starts) r 0 ≤ getD (b .starts) (r + 1) 0 = λ r l. rises-at (b .starts) r rise (omega (arith, len, l)) in
-    let in-links : (r : ℕ) → r < n → getD (b .starts) (r + 1) 0 ≤ linkCount b =
-    λ r l.
-    let e : r + 1 + (n - (r + 1)) ≡ n = omega (arith, l) in
-    rw (← last) (rw e at (rises-to (b .starts) (r + 1) (n - (r + 1)) rise (omega (arith, len, l)))) in
+    let up : (r : ℕ) → r < n → getD (b .starts) r 0 ≤ getD (b .starts) (r + 1) 0 = λ r l. rising-to (b .starts) r (r + 1) rise (omega arith) (omega (arith, len, l)) in
+    let in-links : (r : ℕ) → r < n → getD (b .starts) (r + 1) 0 ≤ linkCount b = λ r l. up-to r l rise last (ℕ-discrete (r + 1) n) in
     record {
       starts-n = len;
       zero = zero₁;
@@ -107,3 +78,7 @@ linked b len fits =
       rows = λ k l. ltb→lt (getD (b .neighbours) k 0) n (All-getD (λ a. T (ltb a n)) (b .neighbours) k 0 (every-all (λ a. ltb a n) (b .neighbours) (all .1 .1 .1 .0)) l);
       once = λ r k j h i i′ e. row-once b r (up r h) (in-links r h) (subst (λ (q : ℕ). T (rowFits b q)) (zero-add r) (up-at (λ q. T (rowFits b q)) 0 n r (every-all (rowFits b) (upFrom 0 n) (all .1 .1 .1 .1 .1 .0)) h)) k j i i′ e;
     }
+  where
+    up-to : (r : ℕ) → r < turfCount b → rising (b .starts) ≡ true → getD (b .starts) (turfCount b) 0 ≡ linkCount b → Dec (r + 1 ≡ turfCount b) → getD (b .starts) (r + 1) 0 ≤ linkCount b
+    up-to r l rise last (yes q) = le-of-eq (ap (λ (k : ℕ). getD (b .starts) k 0) q ∙ last)
+    up-to r l rise last (no q) = omega (arith, last, rising-to (b .starts) (r + 1) (turfCount b) rise (omega (arith, l, q)) (omega (arith, len)))

@@ -7,18 +7,6 @@ ghost use Rattle.turfs.specs.Board.{Board};
 ghost use Rattle.reverse_links.specs.Reverse.{InRow, Linked, Reverses};
 ghost use Rattle.reverse_links.specs.Words.{But, found, Paired};
 
-// Sets the n words from `at` on to zero.
-fn clear_words(at: usize, n: usize, words: &mut [u32])
-    requires { ⌜ at + n ≤ length (now words) ⌝ }
-    ensures { λ _. ⌜ But at (at + n) (now (words .entry)) (now (words .exit)) × ((i : ℕ) → i < n → getD (now (words .exit)) (at + i) 0 ≡ 0) ⌝ }
-{
-    let mut i = 0;
-    while i < n {
-        words[at + i] = 0;
-        i += 1;
-    }
-}
-
 // The first link from `from` to `to` that ends at the turf r, as a word.
 fn look_back(from: usize, to: usize, r: u32, neighbours: &[u32]) -> u32
     requires { ⌜ (to ≤ length (now neighbours)) × (to ≤ 24576) ⌝ }
@@ -100,6 +88,6 @@ pub fn find_reverses(starts: &[u32], neighbours: &[u32], n: usize, e: usize, wor
     requires { ⌜ Linked n (now starts) (now neighbours) × ((length (now neighbours) ≡ e) × ((e ≤ 24576) × ((n ≤ 4096) × (e + e ≤ length (now words))))) ⌝ }
     ensures { λ _. ⌜ But e (e + e) (now (words .entry)) (now (words .exit)) × ((b : Board) → b .starts ≡ now (starts .entry) → b .neighbours ≡ now (neighbours .entry) → Reverses b n (take e (drop e (now (words .exit))))) ⌝ }
 {
-    clear_words(e, e, words);
+    basics::clear_part(words, e, e);
     pair_rows(starts, neighbours, n, e, words);
 }
