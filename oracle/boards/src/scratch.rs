@@ -143,10 +143,7 @@ fn zones_differ(board: &Board, played: &Played, left: &Outcome) -> Option<&'stat
 /// The words and the floats that planning leaves as filling left them.
 fn unplanned(board: &Board, left: &Outcome) -> (Vec<usize>, Vec<usize>) {
     let (words, floats) = (word_arrays(board, left.words.len()), float_arrays(board, left.floats.len()));
-    let (n, e, rest) = (board.ids.len(), board.neighbours.len(), words.len() - 1);
-    let work = words[rest].start + board.immutable.len();
-    let kept = (0..rest).filter(|array| !PLAN_WORDS.contains(array)).flat_map(|array| words[array].clone());
-    let word = kept.chain(words[rest].start..work).chain(work + e + n + n..left.words.len());
+    let word = (0..words.len()).filter(|array| !PLAN_WORDS.contains(array)).flat_map(|array| words[array].clone());
     let float = (PLAN_FLOATS.end..floats.len()).flat_map(|array| floats[array].clone());
     (word.collect(), float.collect())
 }
