@@ -30,34 +30,44 @@ pub fn filling() {
     }
 }
 
-/// How long filling takes, and filling and planning. The scratch is what the run before left.
-fn run_planning(case: &Case, lent: &mut Lent) -> (Duration, Duration) {
+/// How long filling takes, and filling and planning, a call, over so many calls of each. The scratch is what the run before left.
+fn run_planning(case: &Case, lent: &mut Lent, calls: u32) -> (Duration, Duration) {
     let (board, ask) = (&case.board, asked(case));
     let begun = own();
-    let number = call!(stages_fill, board, lent, *const f32, ask.hot.as_ptr(), ask.hot.len(), ask.threshold, ask.limit, ask.allowance);
+    for _ in 0..calls {
+        let number = call!(stages_fill, board, lent, *const f32, ask.hot.as_ptr(), ask.hot.len(), ask.threshold, ask.limit, ask.allowance);
+        assert_eq!(number, 0);
+    }
     let filled = own();
-    let same = call!(stages_plan, board, lent, *const f32, ask.hot.as_ptr(), ask.hot.len(), ask.threshold, ask.limit, ask.allowance);
+    for _ in 0..calls {
+        let number = call!(stages_plan, board, lent, *const f32, ask.hot.as_ptr(), ask.hot.len(), ask.threshold, ask.limit, ask.allowance);
+        assert_eq!(number, 0);
+    }
     let planned = own();
-    assert_eq!((number, same), (0, 0));
-    (filled - begun, planned - filled)
+    ((filled - begun) / calls, (planned - filled) / calls)
 }
 
 /// Planning of all zones: the text's, from the first zone's start to the last one's end, and the proved one's, which is filling and planning
-/// less filling alone. Of each the least time of the processor, over runs in turns for some seconds a board. The boards are those whose name
+/// less filling alone; `lost` where that difference is within the clock's noise. Of each the least time of the processor, over runs in turns for some seconds a board; on small
+/// boards the proved side's is that of many calls, since one is no longer than a reading of the clock. The boards are those whose name
 /// has this in it.
 pub fn planning(part: &str) {
     println!("{:36} {:>13} {:>13} {:>7}", "board", "text ns", "proved ns", "times");
     for (name, case) in boards::bench::boards().into_iter().filter(|(name, _)| name.contains(part)) {
         let mut lent = Lent::new(&case, 6);
         let (mut text, mut fill, mut both) = (Duration::MAX, Duration::MAX, Duration::MAX);
+        let calls = 1 + 8_192 / (case.board.ids.len() + case.board.neighbours.len()) as u32;
         let (begun, mut rounds) = (Instant::now(), 0);
         while rounds < 12 || begun.elapsed() < Duration::from_secs(5) {
             text = text.min(filled::play::time_planning(&case.board, asked(&case), 1));
-            let ours = run_planning(&case, &mut lent);
+            let ours = run_planning(&case, &mut lent, calls);
             (fill, both) = (fill.min(ours.0), both.min(ours.1));
             rounds += 1;
         }
-        let (text, ours) = (text.as_nanos(), both.saturating_sub(fill).as_nanos().max(1));
-        println!("{name:36} {text:13} {ours:13} {:7.1}", text as f64 / ours as f64);
+        let text = text.as_nanos();
+        match both.saturating_sub(fill).as_nanos() {
+            0 => println!("{name:36} {text:13} {:>13} {:>7}", "lost", "-"),
+            ours => println!("{name:36} {text:13} {ours:13} {:7.1}", text as f64 / ours as f64),
+        }
     }
 }
