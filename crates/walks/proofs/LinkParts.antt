@@ -16,6 +16,7 @@ use Rattle.index_set.specs.Line.{Below}
 use Rattle.index_set.proofs.Queue.{Below-take, Below-drop, Below-of}
 use Rattle.walks.specs.Walk.{Walk, walkLink, spread}
 use Rattle.walks.specs.Reached.{State, walkOf, links, Near, grid, Linked}
+use Rattle.walks.specs.Worked as worked  -- checked before the laws
 
 -- a loop from the start
 pub run-start : {S : Type 0} (f : ℕ → S → S) (e : ℕ) (s : S) → run f (upFrom 0 (e - 0)) s ≡ run f (upFrom 0 e) s
