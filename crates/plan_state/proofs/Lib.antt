@@ -1,3 +1,4 @@
+pub mod Pairs
 pub mod Stores
 pub mod Weights
 pub mod Links

@@ -56,7 +56,7 @@ reverses-kept {m = m} {b = b} v f = subst (Reverses b m) (sym (f .reverse)) v
 pub rest-is : (n e : ℕ) (a : Area) → view n e a .restW ≡ drop (top n e) (a .words)
 unfolding view
 rest-is n e a =
-    let k : e + (e + (n + (n + (n + (n + (n + (n + 0))))))) ≡ e + e + n + n + n + n + n + n = omega arith in
+    let k : e + (e + (n + n + (n + (n + (n + (n + 0)))))) ≡ e + e + n + n + n + n + n + n = omega arith in
     cut-rest (wsizes n e) (a .words) ∙ ap (λ (m : ℕ). drop m (a .words)) k
 
 module _ {n e first count : ℕ} {a : Area} (h : Nodes n e first count a) where

@@ -10,7 +10,9 @@ use Rattle.basics.specs.Regions.{cut, region, base}
 use Rattle.basics.proofs.Regions.{cut-set, cut-get, cut-length}
 use Rattle.process_zone.specs.Plan.{Plan, store, load, withDelta, withAmount}
 use Rattle.process_zone.specs.declared.MonstermosInfo.{MonstermosInfo}
+use Rattle.plan_state.specs.Pairs.{firsts, seconds}
 use Rattle.plan_state.specs.Held.{Area, area, wsizes, rsizes, View, viewIn, view, Fit, onPlan, Does, Frame}
+use Rattle.plan_state.proofs.Pairs.{firsts-get, seconds-get, firsts-set, seconds-set, firsts-keep, seconds-keep, firsts-length, seconds-length}
 
 -- ---- a plan with one number set anew
 
@@ -22,6 +24,9 @@ setAmount r x s = record { weight = s .weight; delta = s .delta; amount = set (s
 
 abbrev pub setDirection : ℕ → ℕ → Plan → Plan
 setDirection r x s = record { weight = s .weight; delta = s .delta; amount = s .amount; direction = set (s .direction) r x; fast = s .fast }
+
+abbrev pub setFast : ℕ → ℕ → Plan → Plan
+setFast r x s = record { weight = s .weight; delta = s .delta; amount = s .amount; direction = s .direction; fast = set (s .fast) r x }
 
 -- ---- steps one after the other
 
@@ -59,35 +64,39 @@ does-frame d = record {
 -- ---- what the code reads
 
 module _ (n e row : ℕ) (w : List ℕ) (f : List Float) (r : row < n) where
-  pub delta-at : getD f (e + row) nan ≡ getD (view n e (area w f) .plan .delta) row nan
+  pub delta-at : getD f (e + row + row) nan ≡ getD (view n e (area w f) .plan .delta) row nan
   unfolding view
-  delta-at = cut-get (rsizes n e) f nan 1 row (e + row) (omega arith) r (omega arith)
+  delta-at = cut-get (rsizes n e) f nan 1 (row + row) (e + row + row) (omega arith) (omega arith) (omega arith) ∙ firsts-get (region (rsizes n e) 1 f) nan row (row + row) refl
 
-  pub amount-at : getD f (e + n + row) nan ≡ getD (view n e (area w f) .plan .amount) row nan
+  pub amount-at : getD f (e + row + row + 1) nan ≡ getD (view n e (area w f) .plan .amount) row nan
   unfolding view
-  amount-at = cut-get (rsizes n e) f nan 2 row (e + n + row) (omega arith) r (omega arith)
+  amount-at =
+      cut-get (rsizes n e) f nan 1 (row + row + 1) (e + row + row + 1) (omega arith) (omega arith) (omega arith)
+      ∙ seconds-get (region (rsizes n e) 1 f) nan row (row + row + 1) refl
 
-  pub direction-at : getD w (e + e + row) 0 ≡ getD (view n e (area w f) .plan .direction) row 0
+  pub direction-at : getD w (e + e + row + row) 0 ≡ getD (view n e (area w f) .plan .direction) row 0
   unfolding view
-  direction-at = cut-get (wsizes n e) w 0 2 row (e + e + row) (omega arith) r (omega arith)
+  direction-at = cut-get (wsizes n e) w 0 2 (row + row) (e + e + row + row) (omega arith) (omega arith) (omega arith) ∙ firsts-get (region (wsizes n e) 2 w) 0 row (row + row) refl
 
-  pub via-at : getD w (e + e + n + row) 0 ≡ getD (view n e (area w f) .via) row 0
+  pub via-at : getD w (e + e + row + row + 1) 0 ≡ getD (view n e (area w f) .via) row 0
   unfolding view
-  via-at = cut-get (wsizes n e) w 0 3 row (e + e + n + row) (omega arith) r (omega arith)
+  via-at =
+      cut-get (wsizes n e) w 0 2 (row + row + 1) (e + e + row + row + 1) (omega arith) (omega arith) (omega arith)
+      ∙ seconds-get (region (wsizes n e) 2 w) 0 row (row + row + 1) refl
 
   pub fast-at : getD w (e + e + n + n + row) 0 ≡ getD (view n e (area w f) .plan .fast) row 0
   unfolding view
-  fast-at = cut-get (wsizes n e) w 0 4 row (e + e + n + n + row) (omega arith) r (omega arith)
+  fast-at = cut-get (wsizes n e) w 0 3 row (e + e + n + n + row) (omega arith) r (omega arith)
 
   pub queue-at : getD w (e + e + n + n + n + row) 0 ≡ getD (view n e (area w f) .queue) row 0
   unfolding view
-  queue-at = cut-get (wsizes n e) w 0 5 row (e + e + n + n + n + row) (omega arith) r (omega arith)
+  queue-at = cut-get (wsizes n e) w 0 4 row (e + e + n + n + n + row) (omega arith) r (omega arith)
 
   pub list-at : getD w (e + e + n + n + n + n + n + row) 0 ≡ getD (view n e (area w f) .list) row 0
   unfolding view
-  list-at = cut-get (wsizes n e) w 0 7 row (e + e + n + n + n + n + n + row) (omega arith) r (omega arith)
+  list-at = cut-get (wsizes n e) w 0 6 row (e + e + n + n + n + n + n + row) (omega arith) r (omega arith)
 
-  pub loaded : record { delta = getD f (e + row) nan; amount = getD f (e + n + row) nan; direction = getD w (e + e + row) 0; fast = getD w (e + e + n + n + row) 0 }
+  pub loaded : record { delta = getD f (e + row + row) nan; amount = getD f (e + row + row + 1) nan; direction = getD w (e + e + row + row) 0; fast = getD w (e + e + n + n + row) 0 }
       ≡ load (view n e (area w f) .plan) row
   loaded = rw (delta-at, amount-at, direction-at, fast-at)
 
@@ -100,52 +109,102 @@ module _ (n e k : ℕ) (w : List ℕ) (f : List Float) (r : k < e) where
   unfolding view
   reverse-at = cut-get (wsizes n e) w 0 1 k (e + k) (omega arith) r (omega arith)
 
-pub direction-length : (n e : ℕ) (a : Area) → Fit n e a → length (view n e a .plan .direction) ≡ n
-unfolding view
-direction-length n e a h = cut-length (wsizes n e) (a .words) 2 (omega arith) (omega (arith, h .words))
+-- ---- how long the arrays are
+
+module _ (n e : ℕ) (a : Area) (h : Fit n e a) where
+  pub direction-length : length (view n e a .plan .direction) ≡ n
+  unfolding view
+  direction-length = firsts-length n _ (cut-length (wsizes n e) (a .words) 2 (omega arith) (omega (arith, h .words)))
+
+  pub via-length : length (view n e a .via) ≡ n
+  unfolding view
+  via-length = seconds-length n _ (cut-length (wsizes n e) (a .words) 2 (omega arith) (omega (arith, h .words)))
+
+  pub amount-length : length (view n e a .plan .amount) ≡ n
+  unfolding view
+  amount-length = seconds-length n _ (cut-length (rsizes n e) (a .reals) 1 (omega arith) (omega (arith, h .reals)))
 
 -- ---- what the code stores
 
--- two stores in two arrays
-pub both : {A : Type 0} (sizes : List ℕ) (k j row : ℕ) (v : List A) (x y : A) → k < length sizes → j < length sizes → row < getD sizes k 0 → row < getD sizes j 0
-    → (at at′ : ℕ) → at ≡ base sizes k + row → at′ ≡ base sizes j + row
-    → cut sizes (set (set v at x) at′ y) ≡ set (set (cut sizes v) k (set (region sizes k v) row x)) j (set (getD (set (cut sizes v) k (set (region sizes k v) row x)) j []) row y)
-both sizes k j row v x y h h′ hk hk′ at at′ ea ea′ =
-    cut-set sizes (set v at x) j row y at′ h′ hk′ ea′
-    ∙ ap (λ rs. set rs j (set (getD rs j []) row y)) (cut-set sizes v k row x at h hk ea)
+-- the view with these halves of its pairs
+abbrev pub paired : View → List ℕ → List ℕ → List Float → List Float → View
+paired v direction via delta amount = record {
+  owner = v .owner;
+  reverse = v .reverse;
+  plan = record { weight = v .plan .weight; delta = delta; amount = amount; direction = direction; fast = v .plan .fast };
+  via = via;
+  queue = v .queue;
+  places = v .places;
+  list = v .list;
+  restW = v .restW;
+  restR = v .restR;
+}
+
+module _ (n e row : ℕ) (w : List ℕ) (f : List Float) (r : row < n) where
+  abbrev v : View
+  v = view n e (area w f)
+
+  delta-view : (x : Float) → view n e (area w (set f (e + row + row) x)) ≡ paired v (v .plan .direction) (v .via) (set (v .plan .delta) row x) (v .plan .amount)
+  unfolding view
+  delta-view x =
+      ap (viewIn (cut (wsizes n e) w)) (cut-set (rsizes n e) f 1 (row + row) x (e + row + row) (omega arith) (omega arith) (omega arith))
+      ∙ ap₂ (paired v (v .plan .direction) (v .via)) (firsts-set (region (rsizes n e) 1 f) x row (row + row) refl) (seconds-keep (region (rsizes n e) 1 f) x row (row + row) refl)
+
+  amount-view : (x : Float) → view n e (area w (set f (e + row + row + 1) x)) ≡ paired v (v .plan .direction) (v .via) (v .plan .delta) (set (v .plan .amount) row x)
+  unfolding view
+  amount-view x =
+      ap (viewIn (cut (wsizes n e) w)) (cut-set (rsizes n e) f 1 (row + row + 1) x (e + row + row + 1) (omega arith) (omega arith) (omega arith))
+      ∙ ap₂ (paired v (v .plan .direction) (v .via)) (firsts-keep (region (rsizes n e) 1 f) x row (row + row + 1) refl) (seconds-set (region (rsizes n e) 1 f) x row (row + row + 1) refl)
+
+  direction-view : (x : ℕ) → view n e (area (set w (e + e + row + row) x) f) ≡ paired v (set (v .plan .direction) row x) (v .via) (v .plan .delta) (v .plan .amount)
+  unfolding view
+  direction-view x =
+      ap (λ ws. viewIn ws (cut (rsizes n e) f)) (cut-set (wsizes n e) w 2 (row + row) x (e + e + row + row) (omega arith) (omega arith) (omega arith))
+      ∙ ap₂ (λ (d u : List ℕ). paired v d u (v .plan .delta) (v .plan .amount)) (firsts-set (region (wsizes n e) 2 w) x row (row + row) refl) (seconds-keep (region (wsizes n e) 2 w) x row (row + row) refl)
+
+  pub via-view : (x : ℕ) → view n e (area (set w (e + e + row + row + 1) x) f) ≡ paired v (v .plan .direction) (set (v .via) row x) (v .plan .delta) (v .plan .amount)
+  unfolding view
+  via-view x =
+      ap (λ ws. viewIn ws (cut (rsizes n e) f)) (cut-set (wsizes n e) w 2 (row + row + 1) x (e + e + row + row + 1) (omega arith) (omega arith) (omega arith))
+      ∙ ap₂ (λ (d u : List ℕ). paired v d u (v .plan .delta) (v .plan .amount)) (firsts-keep (region (wsizes n e) 2 w) x row (row + row + 1) refl) (seconds-set (region (wsizes n e) 2 w) x row (row + row + 1) refl)
+
+  fast-view : (x : ℕ) → view n e (area (set w (e + e + n + n + row) x) f) ≡ onPlan (λ o p. setFast row x p) v
+  unfolding view
+  fast-view x = ap (λ ws. viewIn ws (cut (rsizes n e) f)) (cut-set (wsizes n e) w 3 row x (e + e + n + n + row) (omega arith) r (omega arith))
+
+module _ (n e row : ℕ) (w : List ℕ) (f : List Float) (r : row < n) (h : Fit n e (area w f)) where
+  pub amount-set : (x : Float) → Does n e (λ o p. setAmount row x p) (area w f) (area w (set f (e + row + row + 1) x))
+  amount-set x = record {
+    fit = record { words = h .words; reals = simp length-set (h .reals); turfs = h .turfs; links = h .links };
+    same = amount-view n e row w f r x;
+  }
+
+  pub delta-set : (x : Float) → Does n e (λ o p. setDelta row x p) (area w f) (area w (set f (e + row + row) x))
+  delta-set x = record {
+    fit = record { words = h .words; reals = simp length-set (h .reals); turfs = h .turfs; links = h .links };
+    same = delta-view n e row w f r x;
+  }
+
+  pub direction-set : (x : ℕ) → Does n e (λ o p. setDirection row x p) (area w f) (area (set w (e + e + row + row) x) f)
+  direction-set x = record {
+    fit = record { words = simp length-set (h .words); reals = h .reals; turfs = h .turfs; links = h .links };
+    same = direction-view n e row w f r x;
+  }
+
+  fast-set : (x : ℕ) → Does n e (λ o p. setFast row x p) (area w f) (area (set w (e + e + n + n + row) x) f)
+  fast-set x = record {
+    fit = record { words = simp length-set (h .words); reals = h .reals; turfs = h .turfs; links = h .links };
+    same = fast-view n e row w f r x;
+  }
 
 module _ (n e row : ℕ) (w : List ℕ) (f : List Float) (r : row < n) (h : Fit n e (area w f)) where
   pub stored : (i : MonstermosInfo) → Does n e (λ o p. store p row i) (area w f)
-      (area (set (set w (e + e + row) (i .direction)) (e + e + n + n + row) (i .fast)) (set (set f (e + row) (i .delta)) (e + n + row) (i .amount)))
-  unfolding view
+      (area (set (set w (e + e + row + row) (i .direction)) (e + e + n + n + row) (i .fast)) (set (set f (e + row + row) (i .delta)) (e + row + row + 1) (i .amount)))
   stored i =
-      let a = both (wsizes n e) 2 4 row w (i .direction) (i .fast) (omega arith) (omega arith) r r (e + e + row) (e + e + n + n + row) (omega arith) (omega arith) in
-      let b = both (rsizes n e) 1 2 row f (i .delta) (i .amount) (omega arith) (omega arith) r r (e + row) (e + n + row) (omega arith) (omega arith) in
-      record {
-        fit = record { words = simp length-set (h .words); reals = simp length-set (h .reals); turfs = h .turfs; links = h .links };
-        same = ap₂ viewIn a b;
-      }
-
-  pub amount-set : (x : Float) → Does n e (λ o p. setAmount row x p) (area w f) (area w (set f (e + n + row) x))
-  unfolding view
-  amount-set x = record {
-    fit = record { words = h .words; reals = simp length-set (h .reals); turfs = h .turfs; links = h .links };
-    same = ap (viewIn (cut (wsizes n e) w)) (cut-set (rsizes n e) f 2 row x (e + n + row) (omega arith) r (omega arith));
-  }
-
-  pub delta-set : (x : Float) → Does n e (λ o p. setDelta row x p) (area w f) (area w (set f (e + row) x))
-  unfolding view
-  delta-set x = record {
-    fit = record { words = h .words; reals = simp length-set (h .reals); turfs = h .turfs; links = h .links };
-    same = ap (viewIn (cut (wsizes n e) w)) (cut-set (rsizes n e) f 1 row x (e + row) (omega arith) r (omega arith));
-  }
-
-  pub direction-set : (x : ℕ) → Does n e (λ o p. setDirection row x p) (area w f) (area (set w (e + e + row) x) f)
-  unfolding view
-  direction-set x = record {
-    fit = record { words = simp length-set (h .words); reals = h .reals; turfs = h .turfs; links = h .links };
-    same = ap (λ ws. viewIn ws (cut (rsizes n e) f)) (cut-set (wsizes n e) w 2 row x (e + e + row) (omega arith) r (omega arith));
-  }
+      let d = delta-set n e row w f r h (i .delta) in
+      let a = does-then _ d (amount-set n e row w _ r (d .fit) (i .amount)) in
+      let g = does-then _ a (direction-set n e row w _ r (a .fit) (i .direction)) in
+      does-then _ g (fast-set n e row _ _ r (g .fit) (i .fast))
 
 -- ---- a store of what is there changes nothing
 

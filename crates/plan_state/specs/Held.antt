@@ -8,6 +8,7 @@ use Rattle.basics.specs.Regions.{cut}
 use Rattle.turfs.specs.Board.{Board}
 use Rattle.process_zone.specs.Plan.{Plan}
 use Rattle.index_set.specs.Line.{Below}
+use Rattle.plan_state.specs.Pairs.{firsts, seconds}
 
 -- the tables that planning looks at, of n turfs
 abbrev pub ground : ℕ → List ℕ → List ℕ → List ℕ → ℕ → Board
@@ -35,14 +36,14 @@ pub record Area : Type 0 where
 abbrev pub area : List ℕ → List Float → Area
 area w f = record { words = w; reals = f }
 
--- words: by link, the zone that owns it and its reverse; by row, the direction, the link over which the turf was met, the fast mark, the queue of a
--- search, each row's place in it, the list of givers or takers
+-- words: by link, the zone that owns it and its reverse; by row, the pair of the direction and the link over which the turf was met, the fast mark,
+-- the queue of a search, each row's place in it, the list of givers or takers
 abbrev pub wsizes : ℕ → ℕ → List ℕ
-wsizes n e = e ∷ e ∷ n ∷ n ∷ n ∷ n ∷ n ∷ n ∷ []
+wsizes n e = e ∷ e ∷ (n + n) ∷ n ∷ n ∷ n ∷ n ∷ []
 
--- reals: by link, the weight; by row, the delta and the amount
+-- reals: by link, the weight; by row, the pair of the delta and the amount
 abbrev pub rsizes : ℕ → ℕ → List ℕ
-rsizes n e = e ∷ n ∷ n ∷ []
+rsizes n e = e ∷ (n + n) ∷ []
 
 -- all that the two areas hold
 pub record View : Type 0 where
@@ -60,13 +61,13 @@ abbrev pub viewIn : List (List ℕ) → List (List Float) → View
 viewIn ws rs = record {
   owner = getD ws 0 [];
   reverse = getD ws 1 [];
-  plan = record { weight = getD rs 0 []; delta = getD rs 1 []; amount = getD rs 2 []; direction = getD ws 2 []; fast = getD ws 4 [] };
-  via = getD ws 3 [];
-  queue = getD ws 5 [];
-  places = getD ws 6 [];
-  list = getD ws 7 [];
-  restW = getD ws 8 [];
-  restR = getD rs 3 [];
+  plan = record { weight = getD rs 0 []; delta = firsts (getD rs 1 []); amount = seconds (getD rs 1 []); direction = firsts (getD ws 2 []); fast = getD ws 3 [] };
+  via = seconds (getD ws 2 []);
+  queue = getD ws 4 [];
+  places = getD ws 5 [];
+  list = getD ws 6 [];
+  restW = getD ws 7 [];
+  restR = getD rs 2 [];
 }
 
 unfoldable pub view : ℕ → ℕ → Area → View

@@ -1,6 +1,6 @@
 // A turf's planning state and the weights of a zone's edges, in the two work areas that a call is lent. Of n turfs and e links, the words hold
-// by link the owner and the reverse, then by row the direction, the link over which the turf was met, the fast mark, a queue, the places in it and a
-// list; the reals hold by link the weight, then by row the delta and the amount.
+// by link the owner and the reverse, then by row the direction and the link over which the turf was met, side by side, the fast mark, a queue, the
+// places in it and a list; the reals hold by link the weight, then by row the delta and the amount, side by side.
 ghost use mathlib.Core.Path.{_≡_};
 ghost use Prim.Native.Nat.{_+_, _≤_, _<_};
 ghost use lib.ListN.{length, getD, take, drop};
@@ -27,9 +27,9 @@ pub fn load(row: usize, n: usize, e: usize, words: &[u32], reals: &[f32]) -> Mon
     ensures { λ r. ⌜ r ≡ load (view n e (area (now (words .entry)) (now (reals .entry))) .plan) row ⌝ }
 {
     MonstermosInfo {
-        delta: reals[e + row],
-        amount: reals[e + n + row],
-        direction: words[e + e + row],
+        delta: reals[e + row + row],
+        amount: reals[e + row + row + 1],
+        direction: words[e + e + row + row],
         fast: words[e + e + n + n + row],
     }
 }
@@ -46,9 +46,9 @@ pub fn store(
     requires { ⌜ Fit n e (area (now words) (now reals)) × (row < n) ⌝ }
     ensures { λ _. ⌜ Does n e (λ o p. store p row info) (area (now (words .entry)) (now (reals .entry))) (area (now (words .exit)) (now (reals .exit))) ⌝ }
 {
-    reals[e + row] = info.delta;
-    reals[e + n + row] = info.amount;
-    words[e + e + row] = info.direction;
+    reals[e + row + row] = info.delta;
+    reals[e + row + row + 1] = info.amount;
+    words[e + e + row + row] = info.direction;
     words[e + e + n + n + row] = info.fast;
 }
 

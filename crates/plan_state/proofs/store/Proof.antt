@@ -1,4 +1,4 @@
--- Each number is stored in its own array, and the others stay. Assumes nothing.
+-- Each number is stored in its own place, and the others stay. Assumes nothing.
 use native.Mathlib.Omega.{arith}
 use lib.ListN.{length-set}
 use Rattle.plan_state.proofs.Stores.{stored}
@@ -9,17 +9,23 @@ use Rattle.plan_state.proofs.store.Tie as tie
 add-reals : tie.Need-add-reals
 add-reals c = search needs
 
+add-reals-2 : tie.Need-add-reals-2
+add-reals-2 c = search needs
+
 mul-reals : tie.Need-mul-reals
 mul-reals c = search needs
 
 slice-write-reals : tie.Need-slice-write-reals
 slice-write-reals c = search needs
 
-add-reals-2 : tie.Need-add-reals-2
-add-reals-2 c = search needs
-
 add-reals-3 : tie.Need-add-reals-3
 add-reals-3 c = search needs
+
+add-reals-4 : tie.Need-add-reals-4
+add-reals-4 c = search needs
+
+add-reals-5 : tie.Need-add-reals-5
+add-reals-5 c = search needs
 
 mul-reals-2 : tie.Need-mul-reals-2
 mul-reals-2 c = search needs
@@ -33,14 +39,14 @@ add-words c = search needs
 add-words-2 : tie.Need-add-words-2
 add-words-2 c = search needs
 
+add-words-3 : tie.Need-add-words-3
+add-words-3 c = search needs
+
 mul-words : tie.Need-mul-words
 mul-words c = search needs
 
 slice-write-words : tie.Need-slice-write-words
 slice-write-words c = search needs
-
-add-words-3 : tie.Need-add-words-3
-add-words-3 c = search needs
 
 add-words-4 : tie.Need-add-words-4
 add-words-4 c = search needs
@@ -50,6 +56,9 @@ add-words-5 c = search needs
 
 add-words-6 : tie.Need-add-words-6
 add-words-6 c = search needs
+
+add-words-7 : tie.Need-add-words-7
+add-words-7 c = search needs
 
 mul-words-2 : tie.Need-mul-words-2
 mul-words-2 c = search needs
@@ -71,20 +80,23 @@ store-spec =
     tie.close
     (tie.spec
     add-reals
+    add-reals-2
     mul-reals
     slice-write-reals
-    add-reals-2
     add-reals-3
+    add-reals-4
+    add-reals-5
     mul-reals-2
     slice-write-reals-2
     add-words
     add-words-2
+    add-words-3
     mul-words
     slice-write-words
-    add-words-3
     add-words-4
     add-words-5
     add-words-6
+    add-words-7
     mul-words-2
     slice-write-words-2
     same-length
