@@ -117,8 +117,8 @@ shared b o z r s i ks =
 fast-is : (n e : ℕ) (w : List ℕ) (f : List Float) → take n (drop (e + e + n + n) w) ≡ view n e (area w f) .plan .fast
 unfolding view
 fast-is n e w f =
-    let q : e + e + n + n ≡ e + (e + (n + (n + 0))) = omega arith in
-    ap (λ (m : ℕ). take n (drop m w)) q ∙ sym (region-part (wsizes n e) w 4 (omega arith))
+    let q : e + e + n + n ≡ e + (e + (n + n + 0)) = omega arith in
+    ap (λ (m : ℕ). take n (drop m w)) q ∙ sym (region-part (wsizes n e) w 3 (omega arith))
 
 owner-is : (n e : ℕ) (w : List ℕ) (f : List Float) → take e w ≡ view n e (area w f) .owner
 unfolding view

@@ -23,17 +23,17 @@ use Rattle.plan_fast.specs.Steps.{tallyStep, moveAt, fastVia}
 module _ (n e r a : ℕ) (there back : Spot) (x : Float) (w : List ℕ) (f f′ : List Float) (h : Fit n e (area w f)) (hr : r < n) (ha : a < n)
     (ht : Found (λ k. k < e) there) (hb : Found (λ k. k < e) back) (s : f′ ≡ adjustAt there back x f) where
   pub moved : Does n e (λ o p. moveAt there back r x a p) (area w f)
-      (area w (set (set f′ (e + r) (getD f′ (e + r) nan -f x)) (e + a) (getD (set f′ (e + r) (getD f′ (e + r) nan -f x)) (e + a) nan +f x)))
+      (area w (set (set f′ (e + r + r) (getD f′ (e + r + r) nan -f x)) (e + a + a) (getD (set f′ (e + r + r) (getD f′ (e + r + r) nan -f x)) (e + a + a) nan +f x)))
   unfolding moveAt
   moved =
-      let y : Float = getD f′ (e + r) nan -f x in
-      let f″ : List Float = set f′ (e + r) y in
-      let u : Float = getD f″ (e + a) nan +f x in
+      let y : Float = getD f′ (e + r + r) nan -f x in
+      let f″ : List Float = set f′ (e + r + r) y in
+      let u : Float = getD f″ (e + a + a) nan +f x in
       let d₁ = adjusted n e there back x w f f′ ht hb s h in
       let d₂ = delta-set n e r w f′ hr (d₁ .fit) y in
       let d₃ = delta-set n e a w f″ ha (d₂ .fit) u in
-      let ey : getD f′ (e + r) nan ≡ getD (view n e (area w f) .plan .delta) r nan = delta-at n e r w f′ hr ∙ ap (λ (v : View). getD (v .plan .delta) r nan) (d₁ .same) in
-      let eu : getD f″ (e + a) nan ≡ getD (set (view n e (area w f) .plan .delta) r y) a nan =
+      let ey : getD f′ (e + r + r) nan ≡ getD (view n e (area w f) .plan .delta) r nan = delta-at n e r w f′ hr ∙ ap (λ (v : View). getD (v .plan .delta) r nan) (d₁ .same) in
+      let eu : getD f″ (e + a + a) nan ≡ getD (set (view n e (area w f) .plan .delta) r y) a nan =
       delta-at n e a w f″ ha ∙ ap (λ (v : View). getD (v .plan .delta) a nan) (d₂ .same) ∙ ap (λ (v : View). getD (set (v .plan .delta) r y) a nan) (d₁ .same) in
       does-as (does-then _ (does-then _ d₁ d₂) d₃) (rw (eu, ey))
 

@@ -62,8 +62,10 @@ fn fast_move(
     ensures { λ _. ⌜ Does n e (λ o p. moveAt there back r x a p) (area (now (words .entry)) (now (reals .entry))) (area (now (words .exit)) (now (reals .exit))) ⌝ }
 {
     adjust_eq_movement(there, back, x, reals);
-    reals[e + r] = reals[e + r] - x;
-    reals[e + a] = reals[e + a] + x;
+    let from = e + r + r;
+    let to = e + a + a;
+    reals[from] = reals[from] - x;
+    reals[to] = reals[to] + x;
 }
 
 // The link k of the turf r, which ends at the row a: x moves if the turf there has no fast mark.

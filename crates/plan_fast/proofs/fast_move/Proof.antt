@@ -6,12 +6,22 @@ use Rattle.plan_fast.proofs.Moves.{moved}
 use borrow.Author.Needs.{needs}
 use Rattle.plan_fast.proofs.fast_move.Statement.{statement}
 use Rattle.plan_fast.proofs.fast_move.Tie as tie
+use Rattle.plan_state.proofs.adjust_eq_movement.Reads as adjust-eq-movement-reads
 
 adjust-eq-movement-requires : tie.Need-adjust-eq-movement-requires
 adjust-eq-movement-requires c κs = (found-more _ _ (c .before .before .before .args .there) (omega (arith, c .before .before .before .pre .0 .0 .reals)) (c .before .before .before .pre .1 .0), found-more _ _ (c .before .before .before .args .back) (omega (arith, c .before .before .before .pre .0 .0 .reals)) (c .before .before .before .pre .1 .1))
 
-add-reals : tie.Need-add-reals
-add-reals c = search needs
+add-from : tie.Need-add-from
+add-from c = search needs
+
+add-from-2 : tie.Need-add-from-2
+add-from-2 c = search needs
+
+add-to : tie.Need-add-to
+add-to c = search needs
+
+add-to-2 : tie.Need-add-to-2
+add-to-2 c = search needs
 
 mul-reals : tie.Need-mul-reals
 mul-reals c = search needs
@@ -19,26 +29,17 @@ mul-reals c = search needs
 slice-read-reals : tie.Need-slice-read-reals
 slice-read-reals c = search needs
 
-add-reals-2 : tie.Need-add-reals-2
-add-reals-2 c = search needs
-
 mul-reals-2 : tie.Need-mul-reals-2
 mul-reals-2 c = search needs
 
 slice-write-reals : tie.Need-slice-write-reals
 slice-write-reals c = search needs
 
-add-reals-3 : tie.Need-add-reals-3
-add-reals-3 c = search needs
-
 mul-reals-3 : tie.Need-mul-reals-3
 mul-reals-3 c = search needs
 
 slice-read-reals-2 : tie.Need-slice-read-reals-2
 slice-read-reals-2 c = simp length-set (omega arith)
-
-add-reals-4 : tie.Need-add-reals-4
-add-reals-4 c = search needs
 
 mul-reals-4 : tie.Need-mul-reals-4
 mul-reals-4 c = search needs
@@ -57,16 +58,16 @@ fast-move-spec =
     tie.close
     (tie.spec
     adjust-eq-movement-requires
-    add-reals
+    add-from
+    add-from-2
+    add-to
+    add-to-2
     mul-reals
     slice-read-reals
-    add-reals-2
     mul-reals-2
     slice-write-reals
-    add-reals-3
     mul-reals-3
     slice-read-reals-2
-    add-reals-4
     mul-reals-4
     slice-write-reals-2
     same-length
