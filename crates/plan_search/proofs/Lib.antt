@@ -4,6 +4,7 @@ pub mod Trades
 pub mod Drains
 pub mod Seeks
 pub mod Rows
+pub mod Passes
 pub mod Search
 pub mod Nears
 pub mod Skips

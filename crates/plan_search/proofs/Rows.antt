@@ -1,7 +1,7 @@
 -- The links of one turf in a search: a loop over its part of the link list is a loop over its edges, and a settled turf ends it. Assumes nothing.
 use Prim.Native.Nat.{ℕ, zero, suc, _+_, _-_, _≤_, _<_}
 use native.Mathlib.Omega.{arith}
-use native.Mathlib.Nat.{add-zero}
+use native.Mathlib.Nat.{add-zero, sub-zero}
 use mathlib.Core.Path.{_≡_, refl, ap, _∙_, sym, subst}
 use mathlib.Core.List.{List, [], _∷_}
 use mathlib.Core.Bool.{Bool, true, false, cond}
@@ -9,7 +9,7 @@ use lib.Dec.{eqb}
 use lib.ListN.{length, getD, take, drop}
 use lib.Ieee.{Float, nan}
 use Rattle.basics.specs.Loops.{run, upFrom}
-use Rattle.basics.proofs.Loops.{run-keep, run-up, run-still, All-any}
+use Rattle.basics.proofs.Loops.{run-append, run-keep, run-up, up-append, run-still, All-any}
 use Rattle.basics.proofs.Parts.{part, part-at}
 use Rattle.turfs.specs.Board.{linksOf}
 use Rattle.process_zone.specs.Edges.{edgesOf}
@@ -19,9 +19,9 @@ use Rattle.reverse_links.specs.Reverse.{InRow, Linked}
 use Rattle.plan_state.specs.Held.{grid, Area, area, View, view}
 use Rattle.plan_state.proofs.Stores.{frame-then, delta-at}
 use Rattle.plan_state.proofs.Parts.{part-run, part-length}
-use Rattle.plan_search.specs.Search.{Seeking, seekOf, Leaves, Sought, Leads, AllMet, KeepsMet}
+use Rattle.plan_search.specs.Search.{Seeking, seekOf, Leaves, Sought, Leads, AllMet, KeepsMet, KeepsIdle, Passes}
 use Rattle.plan_search.specs.Steps.{alongPart}
-use Rattle.plan_search.proofs.Seeks.{leaves-none, to-settled}
+use Rattle.plan_search.proofs.Seeks.{leaves-none, keeps-none, idle-none, idle-then, to-settled}
 
 -- ---- in a loop: what is left to do, f, from here on comes to what the whole, f₀, comes to from the start
 
@@ -63,6 +63,55 @@ keeps-next {n} {r = r} {from} {part} i h k l = record {
   where
     one : (starts neighbours : List ℕ) (j : ℕ) → j < 1 → Leads n starts neighbours r (from + i) (getD part i 0) → Leads n starts neighbours r (from + i + j) (getD (getD part i 0 ∷ []) j 0)
     one starts neighbours j g t = let q : j ≡ 0 = omega arith in rw (q, add-zero) t
+
+pub keeps-then : {n e z r from : ℕ} {part : List ℕ} {c c′ c″ : ℕ} {A B C : Area} → KeepsMet n e z r from part c c′ A B → KeepsMet n e z r from part c′ c″ B C
+    → KeepsMet n e z r from part c c″ A C
+keeps-then k l = record { keeps = λ starts neighbours t m. l .keeps starts neighbours t (k .keeps starts neighbours t m) }
+
+-- a loop over the numbers from i up to e, by way of j
+pub run-between : {S : Type 0} (f : ℕ → S → S) (i j e : ℕ) (s : S) → i ≤ j → j ≤ e → run f (upFrom i (e - i)) s ≡ run f (upFrom j (e - j)) (run f (upFrom i (j - i)) s)
+run-between f i j e s h l =
+    let k : e - i ≡ (j - i) + (e - j) = omega arith in
+    let q : i + (j - i) ≡ j = omega arith in
+    ap (λ (m : ℕ). run f (upFrom i m) s) k
+    ∙ ap (λ (xs : List ℕ). run f xs s) (up-append i (j - i) (e - j))
+    ∙ run-append f (upFrom i (j - i)) (upFrom (i + (j - i)) (e - j)) s
+    ∙ ap (λ (m : ℕ). run f (upFrom m (e - j)) (run f (upFrom i (j - i)) s)) q
+
+-- ---- the loop over a row's links: those from i on are left, and g, the turf in hand, isn't settled
+
+pub record Row (side : Side) (g r : ℕ) (part : List ℕ) (from z n e count first c f i : ℕ) (a a′ : Area) : Type 0 where
+  pub on : Onward n e (λ o s. run (alongPart side g r part from z o) (upFrom i (length part - i)) s) (λ o s. run (alongPart side g r part from z o) (upFrom 0 (length part)) s) count c a a′
+  pub met : KeepsMet n e z r from part count c a a′
+  pub idle : KeepsIdle n e count first c f a a′
+  pub unsettled : settled side (getD (a′ .reals) (e + g) nan) ≡ false
+
+pub row-start : {side : Side} {g r : ℕ} {part : List ℕ} {from z n e count first : ℕ} {A : Area} → Seeking n e count A → settled side (getD (A .reals) (e + g) nan) ≡ false
+    → Row side g r part from z n e count first count first 0 A A
+row-start h t = record { on = onward-start h (λ o s. rw sub-zero); met = keeps-none; idle = idle-none; unsettled = t }
+
+-- the links up to j, with nothing to trade
+pub row-passes : {side : Side} {g r : ℕ} {part : List ℕ} {from z n e count first c c′ f i j : ℕ} {A B C : Area} → Row side g r part from z n e count first c f i A B → g < n
+    → i ≤ j → j ≤ length part → Passes side n e (λ b o s. run (alongPart side b r part from z o) (upFrom i (j - i)) s) z r from part c c′ B C
+    → Row side g r part from z n e count first c′ f j A C
+row-passes {side} {g} {r} {part} {from} {z} {i = i} {j = j} t hg l m p = record {
+  on = onward-next _ _ (t .on) (p .sought g hg (t .unsettled)) (λ o s. run-between (alongPart side g r part from z o) i j (length part) s l m);
+  met = keeps-then (t .met) (p .met);
+  idle = idle-then (t .idle) (p .idle _);
+  unsettled = ap (settled side) (p .deltas g hg) ∙ t .unsettled;
+}
+
+-- one link
+pub row-next : {side : Side} {g r : ℕ} {part : List ℕ} {from z n e count first c c′ f f′ i : ℕ} {A B C : Area} → Row side g r part from z n e count first c f i A B → i < length part
+    → Sought n e (λ o s. cond (eqb (getD o (from + i) 0) (z + 1)) (seekTo side g r (getD part i 0) s) s) c c′ B C → KeepsMet n e z r (from + i) (getD part i 0 ∷ []) c c′ B C
+    → KeepsIdle n e c f c′ f′ B C → settled side (getD (C .reals) (e + g) nan) ≡ false → Row side g r part from z n e count first c′ f′ (i + 1) A C
+unfolding alongPart
+row-next {side} {g} {r} {part} {from} {z} {i = i} t l d k m u = record {
+  on = onward-next _ _ (t .on) d (λ o s. run-up (alongPart side g r part from z o) i (length part) s l);
+  met = keeps-next i l (t .met) k;
+  idle = idle-then (t .idle) m;
+  unsettled = u;
+}
 
 -- ---- a settled turf
 

@@ -122,12 +122,12 @@ module _ (side : Side) (g r k a z n e count : ℕ) (w : List ℕ) (f : List Floa
       line = subst (λ (p : List ℕ). Line n count (array n queue w) p) places-is (subst (λ (q : List ℕ). Line n count q (view n e (area w f) .places)) queue-is (h .line));
     }
 
-    module _ (o : getD w k 0 ≡ z + 1) (t : settled side (getD f (e + g) nan) ≡ false) where
+    module _ (o : getD w k 0 ≡ z + 1) where
       ours : (s : Seek) → seekTo side g r a s ≡ linked side g r k a z (view n e (area w f) .owner) s
       ours s = rw (eq-eqb _ _ (sym (owner-at n e k w f hk) ∙ o))
 
-      pub link-queued : true ≡ member a (take count (array n queue w)) → Sought n e (linked side g r k a z) count count (area w f) (area w f)
-      link-queued m =
+      pub link-queued : settled side (getD f (e + g) nan) ≡ false → true ≡ member a (take count (array n queue w)) → Sought n e (linked side g r k a z) count count (area w f) (area w f)
+      link-queued t m =
           sought-none (linked side g r k a z) h
           (λ looked. to-queued side g r a _ (rw (delta-at n e g w f hg) at t) (ap (λ (q : List ℕ). member a (take count q)) queue-is ∙ sym m) ∙ ours _)
 
@@ -173,10 +173,14 @@ module _ (side : Side) (g r k a z n e count : ℕ) (w : List ℕ) (f : List Floa
             after : view n e A ≡ onPlan (λ o p. meet side g r a p) pushed
             after = d .same ∙ ap (onPlan (λ o p. meet side g r a p)) push-view
 
-            pub link-new : Sought n e (linked side g r k a z) count (count + 1) (area w f) A
+            pub link-seeking : Seeking n e (count + 1) A
             unfolding pushed
-            link-new = record {
-              seeking = record { fit = d .fit; line = subst (λ (v : View). Line n (count + 1) (v .queue) (v .places)) (sym after) (line-more (h .line) a ha new) };
+            link-seeking = record { fit = d .fit; line = subst (λ (v : View). Line n (count + 1) (v .queue) (v .places)) (sym after) (line-more (h .line) a ha new) }
+
+            pub link-new : settled side (getD f (e + g) nan) ≡ false → Sought n e (linked side g r k a z) count (count + 1) (area w f) A
+            unfolding pushed
+            link-new t = record {
+              seeking = link-seeking;
               rest = record {
                 frame = record {
                   owner = ap (λ (v : View). v .owner) after;
@@ -270,25 +274,28 @@ module _ (side : Side) (g r k a z n e count : ℕ) (w : List ℕ) (f : List Floa
                     let same = ap (λ (p : Plan). getD (p .amount) (getD (v .queue) i 0) nan) plan-after ∙ meet-others side g r a (getD (v .queue) i 0) (v .plan) (omega (arith, long-amount)) other in
                     rw row (ap (λ (x : Float). ne x 0f) same ∙ m i l (omega (arith, before)))
 
-            -- a turf in hand that didn't trade isn't settled
-            pub link-open : (traded : Bool) → traded ≡ wants side (getD (view n e (area (set w′ (e + e + n + a) k) f) .plan .delta) a nan)
-                → (w₂ : List ℕ) (f₂ : List Float) → A ≡ area w₂ f₂ → (done : Bool) → done ≡ cond traded (settled side (getD f₂ (e + g) nan)) false → done ≡ settled side (getD f₂ (e + g) nan)
+            -- a turf that doesn't want leaves every delta as it is
+            pub link-deltas : wants side (getD (view n e (area w f) .plan .delta) a nan) ≡ false → (w₂ : List ℕ) (f₂ : List Float) → A ≡ area w₂ f₂
+                → (b : ℕ) → b < n → getD f₂ (e + b) nan ≡ getD f (e + b) nan
             unfolding pushed point
-            link-open traded et w₂ f₂ ea done ed = go traded refl
+            link-deltas u w₂ f₂ ea b hb =
+                delta-at n e b w₂ f₂ hb
+                ∙ ap (λ (x : Area). getD (view n e x .plan .delta) b nan) (sym ea)
+                ∙ ap (λ (x : View). getD (x .plan .delta) b nan) after
+                ∙ ap (λ (x : Plan). getD (x .delta) b nan) (sym (meet-none side g r a (view n e (area w f) .plan) u))
+                ∙ sym (delta-at n e b w f hb)
+
+            -- a turf in hand that didn't trade isn't settled
+            pub link-open : settled side (getD f (e + g) nan) ≡ false → (traded : Bool) → traded ≡ wants side (getD (view n e (area (set w′ (e + e + n + a) k) f) .plan .delta) a nan)
+                → (w₂ : List ℕ) (f₂ : List Float) → A ≡ area w₂ f₂ → (done : Bool) → done ≡ cond traded (settled side (getD f₂ (e + g) nan)) false → done ≡ settled side (getD f₂ (e + g) nan)
+            unfolding pushed
+            link-open t traded et w₂ f₂ ea done ed = go traded refl
               where
-                v : View
-                v = view n e (area w f)
-
-                plan-after : view n e (area w₂ f₂) .plan ≡ meet side g r a (v .plan)
-                plan-after = ap (λ (x : Area). view n e x .plan) (sym ea) ∙ ap (λ (x : View). x .plan) after
-
-                delta-same : view n e (area (set w′ (e + e + n + a) k) f) .plan .delta ≡ v .plan .delta
+                delta-same : view n e (area (set w′ (e + e + n + a) k) f) .plan .delta ≡ view n e (area w f) .plan .delta
                 delta-same = ap (λ (x : View). x .plan .delta) push-view
 
                 go : (b : Bool) → traded ≡ b → done ≡ settled side (getD f₂ (e + g) nan)
                 go true q = ed ∙ ap (λ (x : Bool). cond x (settled side (getD f₂ (e + g) nan)) false) q
                 go false q =
-                    let u : wants side (getD (v .plan .delta) a nan) ≡ false = ap (λ (d : List Float). wants side (getD d a nan)) (sym delta-same) ∙ sym et ∙ q in
-                    let same : getD f₂ (e + g) nan ≡ getD f (e + g) nan =
-                    delta-at n e g w₂ f₂ hg ∙ ap (λ (x : Plan). getD (x .delta) g nan) (plan-after ∙ sym (meet-none side g r a (v .plan) u)) ∙ sym (delta-at n e g w f hg) in
-                    ed ∙ ap (λ (x : Bool). cond x (settled side (getD f₂ (e + g) nan)) false) q ∙ sym (ap (settled side) same ∙ t)
+                    let u : wants side (getD (view n e (area w f) .plan .delta) a nan) ≡ false = ap (λ (d : List Float). wants side (getD d a nan)) (sym delta-same) ∙ sym et ∙ q in
+                    ed ∙ ap (λ (x : Bool). cond x (settled side (getD f₂ (e + g) nan)) false) q ∙ sym (ap (settled side) (link-deltas u w₂ f₂ ea g hg) ∙ t)

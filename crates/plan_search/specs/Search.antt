@@ -6,7 +6,8 @@ use mathlib.Core.List.{List}
 use lib.ListN.{length, getD, take}
 use lib.Ieee.{nan, ne}
 use Rattle.basics.specs.Floats.{0f}
-use Rattle.process_zone.specs.Plan.{Plan, Seek}
+use Rattle.process_zone.specs.Plan.{Plan, Seek, settled}
+use Rattle.process_zone.specs.declared.Side.{Side}
 use Rattle.index_set.specs.Line.{Line}
 use Rattle.reverse_links.specs.Reverse.{InRow}
 use Rattle.plan_state.specs.Held.{Area, View, view, Fit, Frame}
@@ -69,6 +70,14 @@ AllMet n z starts neighbours v count = (i : ℕ) → i < count → Met n z start
 pub record KeepsMet (n e z r from : ℕ) (part : List ℕ) (count count′ : ℕ) (a a′ : Area) : Type 0 where
   pub keeps : (starts neighbours : List ℕ) → ((i : ℕ) → i < length part → Leads n starts neighbours r (from + i) (getD part i 0))
       → AllMet n z starts neighbours (view n e a) count → AllMet n z starts neighbours (view n e a′) count′
+
+-- over such links without a trade: from a to a′ by the step f g, whichever turf g is in hand, as long as it isn't settled
+pub record Passes (side : Side) (n e : ℕ) (f : ℕ → List ℕ → Seek → Seek) (z r from : ℕ) (part : List ℕ) (count count′ : ℕ) (a a′ : Area) : Type 0 where
+  pub seeking : Seeking n e count′ a′
+  pub sought : (g : ℕ) → g < n → settled side (getD (a .reals) (e + g) nan) ≡ false → Sought n e (f g) count count′ a a′
+  pub met : KeepsMet n e z r from part count count′ a a′
+  pub idle : (first : ℕ) → KeepsIdle n e count first count′ first a a′
+  pub deltas : (g : ℕ) → g < n → getD (a′ .reals) (e + g) nan ≡ getD (a .reals) (e + g) nan
 
 -- what the way back reads is within the areas
 pub record Within (n e : ℕ) (v : View) (a : ℕ) : Type 0 where

@@ -1,7 +1,7 @@
 // `give_to_takers` and `take_from_givers` for one turf: a search from it through the zone, then the way back. One body serves both; what differs
 // is the tests.
 ghost use mathlib.Core.Path.{_≡_};
-ghost use mathlib.Core.Bool.{false, cond};
+ghost use mathlib.Core.Bool.{true, false, cond};
 ghost use mathlib.Core.List.{[], _∷_, reverse};
 ghost use Prim.Native.Nat.{ℕ, _+_, _-_, _≤_, _<_};
 ghost use lib.Dec.{eqb};
@@ -14,7 +14,7 @@ ghost use Rattle.process_zone.specs.Plan.{settled, wants, more, trade, meet, se
 ghost use Rattle.index_set.specs.Line.{Below};
 ghost use Rattle.reverse_links.specs.Reverse.{Linked, Reverses};
 ghost use Rattle.plan_state.specs.Held.{grid, area, view, Fit, Does, Serves};
-ghost use Rattle.plan_search.specs.Search.{Seeking, Sought, Searched, AllMet, KeepsMet, Idle, KeepsIdle, Within};
+ghost use Rattle.plan_search.specs.Search.{Seeking, Sought, Searched, AllMet, KeepsMet, Idle, KeepsIdle, Passes, Within};
 ghost use Rattle.plan_search.specs.Steps.{lesser, given, bargain, point, alongPart, handOn, drainVia};
 use basics::Spot;
 use index_set::contains;
@@ -237,6 +237,95 @@ fn seek_link(
     }
 }
 
+// How many rows the queue has after a link, and whether the link leads to a new row that wants: then nothing is done yet.
+pub struct Passed {
+    pub count: usize,
+    pub wants: bool,
+}
+
+// A link of the turf r, which ends at the row a, unless there is something to trade.
+fn pass_link(
+    side: Side,
+    r: u32,
+    k: usize,
+    a: u32,
+    z: u32,
+    n: usize,
+    e: usize,
+    count: usize,
+    words: &mut [u32],
+    reals: &mut [f32],
+) -> Passed
+    requires { ⌜ Seeking n e count (area (now words) (now reals)) × (z < 4096) ⌝ }
+    requires { ⌜ (r < n) × ((a < n) × (k < e)) ⌝ }
+    ensures { λ p. ⌜ (p .wants ≡ true → area (now (words .exit)) (now (reals .exit)) ≡ area (now (words .entry)) (now (reals .entry))) ⌝ }
+    ensures { λ p. ⌜ (p .wants ≡ false → Passes side n e (λ g o s. cond (eqb (getD o k 0) (z + 1)) (seekTo side g r a s) s) z r k (a ∷ []) count (p .count) (area (now (words .entry)) (now (reals .entry))) (area (now (words .exit)) (now (reals .exit)))) ⌝ }
+{
+    if words[k] != z + 1 {
+        return Passed {
+            count,
+            wants: false,
+        };
+    }
+    let queue = index_set::queue_at(n, e);
+    let places = index_set::places_at(n, e);
+    if contains(a, count, n, queue, places, words) {
+        return Passed {
+            count,
+            wants: false,
+        };
+    }
+    let row = a as usize;
+    if wants(side, reals[e + row]) {
+        return Passed { count, wants: true };
+    }
+    insert(a, count, queue, places, words);
+    words[e + e + n + row] = k as u32;
+    point(row, r + 1, n, e, words, reals);
+    Passed {
+        count: count + 1,
+        wants: false,
+    }
+}
+
+// How many rows the queue has, and the link that a pass came to.
+pub struct Pass {
+    pub count: usize,
+    pub at: usize,
+}
+
+// The links of a part from `at` on, up to the first that has something to trade.
+fn pass_links(
+    side: Side,
+    r: u32,
+    part: &[u32],
+    at: usize,
+    from: usize,
+    z: u32,
+    n: usize,
+    e: usize,
+    count: usize,
+    words: &mut [u32],
+    reals: &mut [f32],
+) -> Pass
+    requires { ⌜ Seeking n e count (area (now words) (now reals)) × (z < 4096) ⌝ }
+    requires { ⌜ (r < n) × (Below n (now part) × ((from + length (now part) ≤ e) × (at ≤ length (now part)))) ⌝ }
+    ensures { λ p. ⌜ (at ≤ p .at) × (p .at ≤ length (now (part .entry))) ⌝ }
+    ensures { λ p. ⌜ Passes side n e (λ g o s. run (alongPart side g r (now (part .entry)) from z o) (upFrom at (p .at - at)) s) z r from (now (part .entry)) count (p .count) (area (now (words .entry)) (now (reals .entry))) (area (now (words .exit)) (now (reals .exit))) ⌝ }
+{
+    let mut c = count;
+    let mut i = at;
+    while i < part.len() {
+        let p = pass_link(side, r, from + i, part[i], z, n, e, c, words, reals);
+        if p.wants {
+            return Pass { count: c, at: i };
+        }
+        c = p.count;
+        i += 1;
+    }
+    Pass { count: c, at: i }
+}
+
 // The links of the turf r, which are handed on as a part of the link list that starts at `from`.
 fn seek_row(
     side: Side,
@@ -262,12 +351,17 @@ fn seek_row(
     let mut f = first;
     let mut i = 0;
     while i < part.len() {
-        let step = seek_link(side, g, r, from + i, part[i], z, n, e, c, f, words, reals);
-        c = step.count;
-        f = step.first;
-        i += 1;
-        if step.done {
-            return Reach { count: c, first: f };
+        let pass = pass_links(side, r, part, i, from, z, n, e, c, words, reals);
+        c = pass.count;
+        i = pass.at;
+        if i < part.len() {
+            let step = seek_link(side, g, r, from + i, part[i], z, n, e, c, f, words, reals);
+            c = step.count;
+            f = step.first;
+            i += 1;
+            if step.done {
+                return Reach { count: c, first: f };
+            }
         }
     }
     Reach { count: c, first: f }

@@ -1,39 +1,33 @@
 -- The loop's invariant: the links left, from here on, come to what all links come to from the start; a settled turf leaves the rest as it is. Assumes nothing.
-use Prim.Native.Nat.{_≤_, _<_, _-_, _+_}
+use Prim.Native.Nat.{_≤_, _-_}
 use native.Mathlib.Omega.{arith}
-use native.Mathlib.Nat.{sub-zero}
-use mathlib.Core.Path.{_≡_, refl, _∙_, sym, ap}
-use mathlib.Core.Bool.{false}
-use lib.ListN.{length, getD}
-use lib.Ieee.{nan}
+use mathlib.Core.Path.{_≡_, refl, _∙_, sym}
+use lib.ListN.{length}
 use borrow.Author.Needs.{needs}
-use Rattle.basics.specs.Loops.{run, upFrom}
-use Rattle.basics.proofs.Loops.{run-up, run-up-end}
+use Rattle.basics.proofs.Loops.{run-up-end}
 use Rattle.index_set.proofs.Queue.{Below-at}
-use Rattle.process_zone.specs.Plan.{settled}
 use Rattle.plan_state.specs.Held.{area}
-use Rattle.plan_search.specs.Search.{KeepsMet, KeepsIdle}
-use Rattle.plan_search.specs.Steps.{alongPart}
-use Rattle.plan_search.proofs.Seeks.{keeps-none, idle-none, idle-then}
-use Rattle.plan_search.proofs.Rows.{Onward, onward-start, onward-next, onward-end, keeps-next, row-settled}
+use Rattle.plan_search.proofs.Seeks.{idle-then}
+use Rattle.plan_search.proofs.Rows.{onward-end, keeps-next, Row, row-start, row-passes, row-next, row-settled}
 use Rattle.plan_search.proofs.seek_row.Statement.{statement}
 use Rattle.plan_search.proofs.seek_row.Tie as tie
 
 abbrev Inv-loop : tie.InvT-loop
 Inv-loop side g r part from z n e count first words₀ reals₀ c₀ f₀ i₀ words reals c f i =
     ((i ≤ length part) × ((length words ≡ length words₀) × (length reals ≡ length reals₀)))
-    × (Onward n e (λ o s. run (alongPart side g r part from z o) (upFrom i (length part - i)) s) (λ o s. run (alongPart side g r part from z o) (upFrom 0 (length part)) s)
-    c₀ c (area words₀ reals₀) (area words reals)
-    × ((KeepsMet n e z r from part c₀ c (area words₀ reals₀) (area words reals) × KeepsIdle n e c₀ f₀ c f (area words₀ reals₀) (area words reals)) × (settled side (getD reals (e + g) nan) ≡ false)))
+    × Row side g r part from z n e c₀ f₀ c f i (area words₀ reals₀) (area words reals)
 
 abbrev μ-loop : tie.MeasureT-loop
 μ-loop side g r part from z n e count first words₀ reals₀ c₀ f₀ i₀ words reals c f i = length part - i
 
 loop-holds : tie.Need-loop-holds Inv-loop μ-loop
-loop-holds c = ((omega arith, (refl, refl)), (onward-start (c .before .before .before .pre .0 .0) (λ o s. rw sub-zero), ((keeps-none, idle-none), c .before .before .before .pre .0 .1 .1)))
+loop-holds c = ((omega arith, (refl, refl)), row-start (c .before .before .before .pre .0 .0) (c .before .before .before .pre .0 .1 .1))
+
+pass-links-requires : tie.Need-pass-links-requires Inv-loop μ-loop
+pass-links-requires c κs = ((c .before .before .before .loop .inv .1 .on .seeking, c .before .before .before .before .before .before .before .pre .0 .1 .0), (c .before .before .before .before .before .before .before .pre .1 .1 .0, (c .before .before .before .before .before .before .before .pre .1 .1 .1 .0, (c .before .before .before .before .before .before .before .pre .1 .1 .1 .1, c .before .before .before .loop .inv .0 .0))))
 
 add-seek-link : tie.Need-add-seek-link Inv-loop μ-loop
-add-seek-link c = omega (arith, c .before .before .before .before .before .pre .1 .1 .1 .1, c .before .before .before .before .before .pre .0 .0 .fit .links)
+add-seek-link c = omega (arith, c .before .before .before .before .before .before .before .before .before .before .before .before .before .pre .1 .1 .1 .1, c .before .before .before .before .before .before .before .before .before .before .before .before .before .pre .0 .0 .fit .links, c .if1 .taken)
 
 mul-seek-link : tie.Need-mul-seek-link Inv-loop μ-loop
 mul-seek-link c = omega arith
@@ -42,25 +36,31 @@ shared-slice-read-seek-link : tie.Need-shared-slice-read-seek-link Inv-loop μ-l
 shared-slice-read-seek-link c = omega arith
 
 seek-link-requires : tie.Need-seek-link-requires Inv-loop μ-loop
-seek-link-requires c κs = ((c .before .before .before .before .loop .inv .1 .0 .seeking, (c .before .before .before .before .before .before .before .before .pre .0 .1 .0, c .before .before .before .before .loop .inv .1 .1 .1)), (c .before .before .before .before .before .before .before .before .pre .1 .0, (c .before .before .before .before .before .before .before .before .pre .1 .1 .0, (Below-at _ _ _ (c .before .before .before .before .before .before .before .before .pre .1 .1 .1 .0) (c .before .before .before .loop-test .taken), omega (arith, c .before .before .before .before .before .before .before .before .pre .1 .1 .1 .1, c .before .before .before .loop-test .taken)))))
+seek-link-requires c κs = let t = row-passes (c .before .before .before .before .before .before .before .before .before .before .before .before .loop .inv .1) (c .before .before .before .before .before .before .before .before .before .before .before .before .before .before .before .before .pre .1 .0) (c .before .before .before .before .before .before .before .before .pass-links .ensures .0 .0) (c .before .before .before .before .before .before .before .before .pass-links .ensures .0 .1) (c .before .before .before .before .before .before .before .before .pass-links .ensures .1) in ((t .on .seeking, (c .before .before .before .before .before .before .before .before .before .before .before .before .before .before .before .before .pre .0 .1 .0, t .unsettled)), (c .before .before .before .before .before .before .before .before .before .before .before .before .before .before .before .before .pre .1 .0, (c .before .before .before .before .before .before .before .before .before .before .before .before .before .before .before .before .pre .1 .1 .0, (Below-at _ _ _ (c .before .before .before .before .before .before .before .before .before .before .before .before .before .before .before .before .pre .1 .1 .1 .0) (c .before .before .before .if1 .taken), omega (arith, c .before .before .before .before .before .before .before .before .before .before .before .before .before .before .before .before .pre .1 .1 .1 .1, c .before .before .before .if1 .taken)))))
 
 add-i : tie.Need-add-i Inv-loop μ-loop
-add-i c = omega (arith, c .before .before .before .before .before .before .before .before .loop-test .taken, c .before .before .before .before .before .before .before .before .before .before .before .before .before .good)
+add-i c = omega (arith, c .before .before .before .before .before .before .before .before .if1 .taken, c .before .before .before .before .before .before .before .before .before .before .before .before .before .before .before .before .before .before .before .before .before .good)
 
 same-length : tie.Need-same-length Inv-loop μ-loop
-same-length c = c .before .before .before .before .before .seek-link .kept .1 .1 .1 .1 .1 .1 .1 .1 .1 .1 .0 ∙ c .before .before .before .before .before .before .before .before .before .before .loop .inv .0 .1 .0
+same-length c = c .before .before .before .before .before .seek-link .kept .1 .1 .1 .1 .1 .1 .1 .1 .1 .1 .0 ∙ c .before .before .before .before .before .before .before .before .before .before .before .before .before .before .pass-links .kept .1 .1 .1 .1 .1 .1 .1 .1 .1 .0 ∙ c .before .before .before .before .before .before .before .before .before .before .before .before .before .before .before .before .before .before .loop .inv .0 .1 .0
 
 same-length-2 : tie.Need-same-length-2 Inv-loop μ-loop
-same-length-2 c = c .before .before .before .before .before .seek-link .kept .1 .1 .1 .1 .1 .1 .1 .1 .1 .1 .1 .0 ∙ c .before .before .before .before .before .before .before .before .before .before .loop .inv .0 .1 .1
+same-length-2 c = c .before .before .before .before .before .seek-link .kept .1 .1 .1 .1 .1 .1 .1 .1 .1 .1 .1 .0 ∙ c .before .before .before .before .before .before .before .before .before .before .before .before .before .before .pass-links .kept .1 .1 .1 .1 .1 .1 .1 .1 .1 .1 .0 ∙ c .before .before .before .before .before .before .before .before .before .before .before .before .before .before .before .before .before .before .loop .inv .0 .1 .1
 
 returns : tie.Need-returns Inv-loop μ-loop
-returns c = (row-settled _ _ _ _ _ _ _ _ _ _ _ _ _ _ (c .before .before .before .before .before .before .before .before .before .before .loop .inv .1 .0) (c .before .before .before .before .before .seek-link .ensures .0) (c .before .before .before .before .before .before .before .before .before .loop-test .taken) (c .before .before .before .before .before .before .before .before .before .before .before .before .before .before .pre .1 .0) (sym (c .before .before .before .before .before .seek-link .ensures .1 .1 .1) ∙ c .if1 .taken), (keeps-next _ (c .before .before .before .before .before .before .before .before .before .loop-test .taken) (c .before .before .before .before .before .before .before .before .before .before .loop .inv .1 .1 .0 .0) (c .before .before .before .before .before .seek-link .ensures .1 .0), idle-then (c .before .before .before .before .before .before .before .before .before .before .loop .inv .1 .1 .0 .1) (c .before .before .before .before .before .seek-link .ensures .1 .1 .0)))
+returns c = let t = row-passes (c .before .before .before .before .before .before .before .before .before .before .before .before .before .before .before .before .before .before .loop .inv .1) (c .before .before .before .before .before .before .before .before .before .before .before .before .before .before .before .before .before .before .before .before .before .before .pre .1 .0) (c .before .before .before .before .before .before .before .before .before .before .before .before .before .before .pass-links .ensures .0 .0) (c .before .before .before .before .before .before .before .before .before .before .before .before .before .before .pass-links .ensures .0 .1) (c .before .before .before .before .before .before .before .before .before .before .before .before .before .before .pass-links .ensures .1) in (row-settled _ _ _ _ _ _ _ _ _ _ _ _ _ _ (t .on) (c .before .before .before .before .before .seek-link .ensures .0) (c .before .before .before .before .before .before .before .before .before .if1 .taken) (c .before .before .before .before .before .before .before .before .before .before .before .before .before .before .before .before .before .before .before .before .before .before .pre .1 .0) (sym (c .before .before .before .before .before .seek-link .ensures .1 .1 .1) ∙ c .if2 .taken), (keeps-next _ (c .before .before .before .before .before .before .before .before .before .if1 .taken) (t .met) (c .before .before .before .before .before .seek-link .ensures .1 .0), idle-then (t .idle) (c .before .before .before .before .before .seek-link .ensures .1 .1 .0)))
 
 loop-less : tie.Need-loop-less Inv-loop μ-loop
-loop-less c = omega (arith, c .before .before .before .before .before .before .before .before .before .loop-test .taken)
+loop-less c = omega (arith, c .before .before .before .before .before .before .before .before .before .before .before .before .before .before .before .before .before .loop-test .taken, c .before .before .before .before .before .before .before .before .before .before .before .before .before .before .pass-links .ensures .0 .0, c .before .before .before .before .before .before .before .before .before .if1 .taken)
 
 loop-again : tie.Need-loop-again Inv-loop μ-loop
-loop-again c = unfold alongPart in ((omega (arith, c .before .before .before .before .before .before .before .before .before .loop-test .taken), (c .before .before .before .before .before .seek-link .kept .1 .1 .1 .1 .1 .1 .1 .1 .1 .1 .0 ∙ c .before .before .before .before .before .before .before .before .before .before .loop .inv .0 .1 .0, c .before .before .before .before .before .seek-link .kept .1 .1 .1 .1 .1 .1 .1 .1 .1 .1 .1 .0 ∙ c .before .before .before .before .before .before .before .before .before .before .loop .inv .0 .1 .1)), (onward-next _ _ (c .before .before .before .before .before .before .before .before .before .before .loop .inv .1 .0) (c .before .before .before .before .before .seek-link .ensures .0) (λ o s. run-up _ _ _ _ (c .before .before .before .before .before .before .before .before .before .loop-test .taken)), ((keeps-next _ (c .before .before .before .before .before .before .before .before .before .loop-test .taken) (c .before .before .before .before .before .before .before .before .before .before .loop .inv .1 .1 .0 .0) (c .before .before .before .before .before .seek-link .ensures .1 .0), idle-then (c .before .before .before .before .before .before .before .before .before .before .loop .inv .1 .1 .0 .1) (c .before .before .before .before .before .seek-link .ensures .1 .1 .0)), sym (c .before .before .before .before .before .seek-link .ensures .1 .1 .1) ∙ c .if1 .left)))
+loop-again c = ((omega (arith, c .before .before .before .before .before .before .before .before .before .if1 .taken), (c .before .before .before .before .before .seek-link .kept .1 .1 .1 .1 .1 .1 .1 .1 .1 .1 .0 ∙ c .before .before .before .before .before .before .before .before .before .before .before .before .before .before .pass-links .kept .1 .1 .1 .1 .1 .1 .1 .1 .1 .0 ∙ c .before .before .before .before .before .before .before .before .before .before .before .before .before .before .before .before .before .before .loop .inv .0 .1 .0, c .before .before .before .before .before .seek-link .kept .1 .1 .1 .1 .1 .1 .1 .1 .1 .1 .1 .0 ∙ c .before .before .before .before .before .before .before .before .before .before .before .before .before .before .pass-links .kept .1 .1 .1 .1 .1 .1 .1 .1 .1 .1 .0 ∙ c .before .before .before .before .before .before .before .before .before .before .before .before .before .before .before .before .before .before .loop .inv .0 .1 .1)), row-next (row-passes (c .before .before .before .before .before .before .before .before .before .before .before .before .before .before .before .before .before .before .loop .inv .1) (c .before .before .before .before .before .before .before .before .before .before .before .before .before .before .before .before .before .before .before .before .before .before .pre .1 .0) (c .before .before .before .before .before .before .before .before .before .before .before .before .before .before .pass-links .ensures .0 .0) (c .before .before .before .before .before .before .before .before .before .before .before .before .before .before .pass-links .ensures .0 .1) (c .before .before .before .before .before .before .before .before .before .before .before .before .before .before .pass-links .ensures .1)) (c .before .before .before .before .before .before .before .before .before .if1 .taken) (c .before .before .before .before .before .seek-link .ensures .0) (c .before .before .before .before .before .seek-link .ensures .1 .0) (c .before .before .before .before .before .seek-link .ensures .1 .1 .0) (sym (c .before .before .before .before .before .seek-link .ensures .1 .1 .1) ∙ c .if2 .left))
+
+loop-less-2 : tie.Need-loop-less-2 Inv-loop μ-loop
+loop-less-2 c = omega (arith, c .before .before .before .before .before .before .before .before .loop-test .taken, c .if1 .left)
+
+loop-again-2 : tie.Need-loop-again-2 Inv-loop μ-loop
+loop-again-2 c = ((c .before .before .before .before .before .pass-links .ensures .0 .1, (c .before .before .before .before .before .pass-links .kept .1 .1 .1 .1 .1 .1 .1 .1 .1 .0 ∙ c .before .before .before .before .before .before .before .before .before .loop .inv .0 .1 .0, c .before .before .before .before .before .pass-links .kept .1 .1 .1 .1 .1 .1 .1 .1 .1 .1 .0 ∙ c .before .before .before .before .before .before .before .before .before .loop .inv .0 .1 .1)), row-passes (c .before .before .before .before .before .before .before .before .before .loop .inv .1) (c .before .before .before .before .before .before .before .before .before .before .before .before .before .pre .1 .0) (c .before .before .before .before .before .pass-links .ensures .0 .0) (c .before .before .before .before .before .pass-links .ensures .0 .1) (c .before .before .before .before .before .pass-links .ensures .1))
 
 same-length-3 : tie.Need-same-length-3 Inv-loop μ-loop
 same-length-3 c = search needs
@@ -69,7 +69,7 @@ same-length-4 : tie.Need-same-length-4 Inv-loop μ-loop
 same-length-4 c = search needs
 
 returns-2 : tie.Need-returns-2 Inv-loop μ-loop
-returns-2 c = (onward-end (c .before .loop .inv .1 .0) (λ o looked. run-up-end _ _ _ _ (c .loop-test .left)), c .before .loop .inv .1 .1 .0)
+returns-2 c = (onward-end (c .before .loop .inv .1 .on) (λ o looked. run-up-end _ _ _ _ (c .loop-test .left)), (c .before .loop .inv .1 .met, c .before .loop .inv .1 .idle))
 
 pub seek-row-spec : {M : Type 1} → statement M
 seek-row-spec =
@@ -78,6 +78,7 @@ seek-row-spec =
     Inv-loop
     μ-loop
     loop-holds
+    pass-links-requires
     add-seek-link
     mul-seek-link
     shared-slice-read-seek-link
@@ -88,6 +89,8 @@ seek-row-spec =
     returns
     loop-less
     loop-again
+    loop-less-2
+    loop-again-2
     same-length-3
     same-length-4
     returns-2)

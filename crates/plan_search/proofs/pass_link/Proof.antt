@@ -1,0 +1,127 @@
+-- By the four ways out: not the zone's link, a row that is in the queue, a new row that wants, one that doesn't. Assumes nothing.
+use native.Mathlib.Omega.{arith}
+use mathlib.Core.Path.{_∙_, refl, sym}
+use mathlib.Core.Bool.{true≢false}
+use lib.ListN.{length-set}
+use Rattle.plan_search.proofs.Seeks.{link-holds, link-room, push-fit}
+use Rattle.plan_search.proofs.Passes.{pass-foreign, pass-queued, pass-new}
+use borrow.Author.Needs.{needs}
+use Rattle.plan_search.proofs.pass_link.Statement.{statement}
+use Rattle.plan_search.proofs.pass_link.Tie as tie
+
+mul-if1 : tie.Need-mul-if1
+mul-if1 c = search needs
+
+slice-read-if1 : tie.Need-slice-read-if1
+slice-read-if1 c = search needs
+
+add-if1 : tie.Need-add-if1
+add-if1 c = search needs
+
+returns : tie.Need-returns
+returns c = (λ q. absurd (true≢false (sym q)), λ _. pass-foreign (c .before .before .before .before .args .side) (c .before .before .before .before .args .r) (c .before .before .before .before .args .k) (c .before .before .before .before .args .a) (c .before .before .before .before .args .z) _ _ _ _ _ (c .before .before .before .before .pre .0 .0) (c .before .before .before .before .pre .1 .1 .1) (c .before .before .before .before .pre .1 .1 .0) (c .if1 .taken))
+
+queue-at-requires : tie.Need-queue-at-requires
+queue-at-requires c κs = search needs
+
+places-at-requires : tie.Need-places-at-requires
+places-at-requires c κs = search needs
+
+contains-requires : tie.Need-contains-requires
+contains-requires c κs = (link-holds (c .before .before .before .before .before .before .before .args .side) (c .before .before .before .before .before .before .before .args .a) (c .before .before .before .before .before .before .before .args .r) (c .before .before .before .before .before .before .before .args .k) (c .before .before .before .before .before .before .before .args .a) (c .before .before .before .before .before .before .before .args .z) _ _ _ _ _ (c .before .before .before .before .before .before .before .pre .0 .0) (c .before .before .before .before .before .before .before .pre .1 .1 .1) (c .before .before .before .before .before .before .before .pre .1 .1 .0) (c .before .before .before .before .before .before .before .pre .1 .1 .0) _ _ (c .before .before .queue-at .ensures) (c .before .places-at .ensures), c .before .before .before .before .before .before .before .pre .1 .1 .0)
+
+same-length : tie.Need-same-length
+same-length c = search needs
+
+returns-2 : tie.Need-returns-2
+returns-2 c = (λ q. absurd (true≢false (sym q)), λ _. pass-queued (c .before .before .before .before .before .before .before .before .before .args .side) (c .before .before .before .before .before .before .before .before .before .args .r) (c .before .before .before .before .before .before .before .before .before .args .k) (c .before .before .before .before .before .before .before .before .before .args .a) (c .before .before .before .before .before .before .before .before .before .args .z) _ _ _ _ _ (c .before .before .before .before .before .before .before .before .before .pre .0 .0) (c .before .before .before .before .before .before .before .before .before .pre .1 .1 .1) (c .before .before .before .before .before .before .before .before .before .pre .1 .1 .0) _ _ (c .before .before .before .before .queue-at .ensures) (c .before .before .before .places-at .ensures) (c .before .before .before .before .before .if1 .left) (sym (c .if2 .taken) ∙ c .before .contains .ensures))
+
+add-wants : tie.Need-add-wants
+add-wants c = search needs
+
+mul-wants : tie.Need-mul-wants
+mul-wants c = search needs
+
+slice-read-wants : tie.Need-slice-read-wants
+slice-read-wants c = search needs
+
+wants-requires : tie.Need-wants-requires
+wants-requires c κs = search needs
+
+same-length-2 : tie.Need-same-length-2
+same-length-2 c = search needs
+
+returns-3 : tie.Need-returns-3
+returns-3 c = (λ _. refl, λ q. absurd (true≢false q))
+
+insert-requires : tie.Need-insert-requires
+insert-requires c κs = let l = link-room (c .before .before .before .before .before .before .before .before .before .before .before .before .before .args .side) (c .before .before .before .before .before .before .before .before .before .before .before .before .before .args .a) (c .before .before .before .before .before .before .before .before .before .before .before .before .before .args .r) (c .before .before .before .before .before .before .before .before .before .before .before .before .before .args .k) (c .before .before .before .before .before .before .before .before .before .before .before .before .before .args .a) (c .before .before .before .before .before .before .before .before .before .before .before .before .before .args .z) _ _ _ _ _ (c .before .before .before .before .before .before .before .before .before .before .before .before .before .pre .0 .0) (c .before .before .before .before .before .before .before .before .before .before .before .before .before .pre .1 .1 .1) (c .before .before .before .before .before .before .before .before .before .before .before .before .before .pre .1 .1 .0) (c .before .before .before .before .before .before .before .before .before .before .before .before .before .pre .1 .1 .0) _ _ (c .before .before .before .before .before .before .before .before .queue-at .ensures) (c .before .before .before .before .before .before .before .places-at .ensures) (c .before .before .before .before .before .before .before .before .before .if1 .left) (sym (c .before .before .before .before .if2 .left) ∙ c .before .before .before .before .before .contains .ensures) in (omega (arith, l, c .before .before .before .before .before .before .before .before .queue-at .ensures, c .before .before .before .before .before .before .before .before .before .before .before .before .before .pre .0 .0 .fit .words), (omega (arith, l, c .before .before .before .before .before .before .before .places-at .ensures, c .before .before .before .before .before .before .before .before .before .before .before .before .before .pre .0 .0 .fit .words, c .before .before .before .before .before .before .before .before .before .before .before .before .before .pre .1 .1 .0), omega (arith, l, c .before .before .before .before .before .before .before .before .before .before .before .before .before .pre .0 .0 .fit .turfs)))
+
+cast-words : tie.Need-cast-words
+cast-words c = search needs
+
+add-words : tie.Need-add-words
+add-words c = search needs
+
+add-words-2 : tie.Need-add-words-2
+add-words-2 c = search needs
+
+add-words-3 : tie.Need-add-words-3
+add-words-3 c = search needs
+
+mul-words : tie.Need-mul-words
+mul-words c = search needs
+
+slice-write-words : tie.Need-slice-write-words
+slice-write-words c = search needs
+
+add-point : tie.Need-add-point
+add-point c = search needs
+
+point-requires : tie.Need-point-requires
+point-requires c κs = (push-fit (c .before .before .before .before .before .before .before .before .before .before .before .before .before .before .before .before .before .before .args .side) (c .before .before .before .before .before .before .before .before .before .before .before .before .before .before .before .before .before .before .args .a) (c .before .before .before .before .before .before .before .before .before .before .before .before .before .before .before .before .before .before .args .r) (c .before .before .before .before .before .before .before .before .before .before .before .before .before .before .before .before .before .before .args .k) (c .before .before .before .before .before .before .before .before .before .before .before .before .before .before .before .before .before .before .args .a) (c .before .before .before .before .before .before .before .before .before .before .before .before .before .before .before .before .before .before .args .z) _ _ _ _ _ (c .before .before .before .before .before .before .before .before .before .before .before .before .before .before .before .before .before .before .pre .0 .0) (c .before .before .before .before .before .before .before .before .before .before .before .before .before .before .before .before .before .before .pre .1 .1 .1) (c .before .before .before .before .before .before .before .before .before .before .before .before .before .before .before .before .before .before .pre .1 .1 .0) (c .before .before .before .before .before .before .before .before .before .before .before .before .before .before .before .before .before .before .pre .1 .1 .0) _ _ (c .before .before .before .before .before .before .before .before .before .before .before .before .before .queue-at .ensures) (c .before .before .before .before .before .before .before .before .before .before .before .before .places-at .ensures) (c .before .before .before .before .before .before .before .before .before .before .before .before .before .before .if1 .left) (sym (c .before .before .before .before .before .before .before .before .before .if2 .left) ∙ c .before .before .before .before .before .before .before .before .before .before .contains .ensures) _ (c .before .before .before .before .insert .ensures), c .before .before .before .before .before .before .before .before .before .before .before .before .before .before .before .before .before .before .pre .1 .1 .0)
+
+add-t30 : tie.Need-add-t30
+add-t30 c = let l = link-room (c .before .before .before .before .before .before .before .before .before .before .before .before .before .before .before .before .before .before .before .before .before .before .before .args .side) (c .before .before .before .before .before .before .before .before .before .before .before .before .before .before .before .before .before .before .before .before .before .before .before .args .a) (c .before .before .before .before .before .before .before .before .before .before .before .before .before .before .before .before .before .before .before .before .before .before .before .args .r) (c .before .before .before .before .before .before .before .before .before .before .before .before .before .before .before .before .before .before .before .before .before .before .before .args .k) (c .before .before .before .before .before .before .before .before .before .before .before .before .before .before .before .before .before .before .before .before .before .before .before .args .a) (c .before .before .before .before .before .before .before .before .before .before .before .before .before .before .before .before .before .before .before .before .before .before .before .args .z) _ _ _ _ _ (c .before .before .before .before .before .before .before .before .before .before .before .before .before .before .before .before .before .before .before .before .before .before .before .pre .0 .0) (c .before .before .before .before .before .before .before .before .before .before .before .before .before .before .before .before .before .before .before .before .before .before .before .pre .1 .1 .1) (c .before .before .before .before .before .before .before .before .before .before .before .before .before .before .before .before .before .before .before .before .before .before .before .pre .1 .1 .0) (c .before .before .before .before .before .before .before .before .before .before .before .before .before .before .before .before .before .before .before .before .before .before .before .pre .1 .1 .0) _ _ (c .before .before .before .before .before .before .before .before .before .before .before .before .before .before .before .before .before .before .queue-at .ensures) (c .before .before .before .before .before .before .before .before .before .before .before .before .before .before .before .before .before .places-at .ensures) (c .before .before .before .before .before .before .before .before .before .before .before .before .before .before .before .before .before .before .before .if1 .left) (sym (c .before .before .before .before .before .before .before .before .before .before .before .before .before .before .if2 .left) ∙ c .before .before .before .before .before .before .before .before .before .before .before .before .before .before .before .contains .ensures) in omega (arith, l, c .before .before .before .before .before .before .before .before .before .before .before .before .before .before .before .before .before .before .before .before .before .before .before .pre .0 .0 .fit .turfs)
+
+same-length-3 : tie.Need-same-length-3
+same-length-3 c = c .before .before .before .before .point .kept .1 .1 .1 .1 .0 ∙ simp length-set (c .before .before .before .before .before .before .before .before .before .insert .kept .1 .1 .1 .1 .0)
+
+same-length-4 : tie.Need-same-length-4
+same-length-4 c = search needs
+
+returns-4 : tie.Need-returns-4
+returns-4 c = (λ q. absurd (true≢false (sym q)), λ _. pass-new (c .before .before .before .before .before .before .before .before .before .before .before .before .before .before .before .before .before .before .before .before .before .before .before .args .side) (c .before .before .before .before .before .before .before .before .before .before .before .before .before .before .before .before .before .before .before .before .before .before .before .args .r) (c .before .before .before .before .before .before .before .before .before .before .before .before .before .before .before .before .before .before .before .before .before .before .before .args .k) (c .before .before .before .before .before .before .before .before .before .before .before .before .before .before .before .before .before .before .before .before .before .before .before .args .a) (c .before .before .before .before .before .before .before .before .before .before .before .before .before .before .before .before .before .before .before .before .before .before .before .args .z) _ _ _ _ _ (c .before .before .before .before .before .before .before .before .before .before .before .before .before .before .before .before .before .before .before .before .before .before .before .pre .0 .0) (c .before .before .before .before .before .before .before .before .before .before .before .before .before .before .before .before .before .before .before .before .before .before .before .pre .1 .1 .1) (c .before .before .before .before .before .before .before .before .before .before .before .before .before .before .before .before .before .before .before .before .before .before .before .pre .1 .1 .0) _ _ (c .before .before .before .before .before .before .before .before .before .before .before .before .before .before .before .before .before .before .queue-at .ensures) (c .before .before .before .before .before .before .before .before .before .before .before .before .before .before .before .before .before .places-at .ensures) (c .before .before .before .before .before .before .before .before .before .before .before .before .before .before .before .before .before .before .before .if1 .left) (sym (c .before .before .before .before .before .before .before .before .before .before .before .before .before .before .if2 .left) ∙ c .before .before .before .before .before .before .before .before .before .before .before .before .before .before .before .contains .ensures) (sym (c .before .before .before .before .before .before .before .before .before .before .before .before .wants .ensures) ∙ c .before .before .before .before .before .before .before .before .before .before .before .if3 .left) _ (c .before .before .before .before .before .before .before .before .before .insert .ensures) _ _ (c .before .before .before .before .point .ensures))
+
+pub pass-link-spec : {M : Type 1} → statement M
+pass-link-spec =
+    tie.close
+    (tie.spec
+    mul-if1
+    slice-read-if1
+    add-if1
+    returns
+    queue-at-requires
+    places-at-requires
+    contains-requires
+    same-length
+    returns-2
+    add-wants
+    mul-wants
+    slice-read-wants
+    wants-requires
+    same-length-2
+    returns-3
+    insert-requires
+    cast-words
+    add-words
+    add-words-2
+    add-words-3
+    mul-words
+    slice-write-words
+    add-point
+    point-requires
+    add-t30
+    same-length-3
+    same-length-4
+    returns-4)
