@@ -28,18 +28,18 @@ use Rattle.plan_search.specs.Steps.{handOn, drainVia}
 -- ---- one turf
 
 module _ (n e r d : ℕ) (there back : Spot) (w : List ℕ) (f f′ : List Float) (h : Fit n e (area w f)) (hr : r < n) (hd : d < n)
-    (ht : Found (λ k. k < e) there) (hb : Found (λ k. k < e) back) (s : f′ ≡ adjustAt there back (getD f (e + n + r) nan) f) where
+    (ht : Found (λ k. k < e) there) (hb : Found (λ k. k < e) back) (s : f′ ≡ adjustAt there back (getD f (e + r + r + 1) nan) f) where
   pub handed : Does n e (λ o p. handOn there back r d p) (area w f)
-      (area w (set (set f′ (e + n + d) (getD f′ (e + n + d) nan +f getD f (e + n + r) nan)) (e + n + r) 0f))
+      (area w (set (set f′ (e + d + d + 1) (getD f′ (e + d + d + 1) nan +f getD f (e + r + r + 1) nan)) (e + r + r + 1) 0f))
   unfolding handOn
   handed =
-      let x : Float = getD f (e + n + r) nan in
-      let y : Float = getD f′ (e + n + d) nan +f x in
+      let x : Float = getD f (e + r + r + 1) nan in
+      let y : Float = getD f′ (e + d + d + 1) nan +f x in
       let d₁ = adjusted n e there back x w f f′ ht hb s h in
       let d₂ = amount-set n e d w f′ hd (d₁ .fit) y in
-      let d₃ = amount-set n e r w (set f′ (e + n + d) y) hr (d₂ .fit) 0f in
+      let d₃ = amount-set n e r w (set f′ (e + d + d + 1) y) hr (d₂ .fit) 0f in
       let ex : x ≡ getD (view n e (area w f) .plan .amount) r nan = amount-at n e r w f hr in
-      let ey : getD f′ (e + n + d) nan ≡ getD (view n e (area w f) .plan .amount) d nan = amount-at n e d w f′ hd ∙ ap (λ (v : View). getD (v .plan .amount) d nan) (d₁ .same) in
+      let ey : getD f′ (e + d + d + 1) nan ≡ getD (view n e (area w f) .plan .amount) d nan = amount-at n e d w f′ hd ∙ ap (λ (v : View). getD (v .plan .amount) d nan) (d₁ .same) in
       does-as (does-then _ (does-then _ d₁ d₂) d₃) (rw (ey, ex))
 
 module _ (n e z r : ℕ) (i : MonstermosInfo) (w : List ℕ) (f : List Float) (ei : i ≡ load (view n e (area w f) .plan) r) (h : Fit n e (area w f)) where
@@ -67,24 +67,24 @@ module _ (n e z r : ℕ) (i : MonstermosInfo) (w : List ℕ) (f : List Float) (e
     pub back-row : i .direction - 1 < n
     back-row = within .0
 
-    via-is : getD w (e + e + n + r) 0 ≡ getD (view n e (area w f) .via) r 0
+    via-is : getD w (e + e + r + r + 1) 0 ≡ getD (view n e (area w f) .via) r 0
     via-is = via-at n e r w f hr
 
-    pub back-k : getD w (e + e + n + r) 0 < e
+    pub back-k : getD w (e + e + r + r + 1) 0 < e
     back-k = rw via-is (within .1 .0)
 
-    pub back-p : getD w (e + getD w (e + e + n + r) 0) 0 ≤ e
+    pub back-p : getD w (e + getD w (e + e + r + r + 1) 0) 0 ≤ e
     back-p = rw (via-is, reverse-at n e (getD (view n e (area w f) .via) r 0) w f (within .1 .0)) (within .1 .1)
 
-    module _ (there : Spot) (et : there ≡ backLink (take e (drop e w)) (take e w) z (getD w (e + e + n + r) 0)) where
+    module _ (there : Spot) (et : there ≡ backLink (take e (drop e w)) (take e w) z (getD w (e + e + r + r + 1) 0)) where
       pub back-there : Found (λ j. j < e) there
       back-there =
-          back-found (take e (drop e w)) (take e w) z (getD w (e + e + n + r) 0) e there et
-          (rw (getD-take e (drop e w) (getD w (e + e + n + r) 0) 0 back-k, getD-drop e w (getD w (e + e + n + r) 0) 0) back-p)
+          back-found (take e (drop e w)) (take e w) z (getD w (e + e + r + r + 1) 0) e there et
+          (rw (getD-take e (drop e w) (getD w (e + e + r + r + 1) 0) 0 back-k, getD-drop e w (getD w (e + e + r + r + 1) 0) 0) back-p)
 
-      pub drained : {B : Area} → ne (i .amount) 0f ≡ true → Does n e (λ o p. handOn there (At (getD w (e + e + n + r) 0)) r (i .direction - 1) p) (area w f) B → Drains B
+      pub drained : {B : Area} → ne (i .amount) 0f ≡ true → Does n e (λ o p. handOn there (At (getD w (e + e + r + r + 1) 0)) r (i .direction - 1) p) (area w f) B → Drains B
       unfolding view
-      drained t q = drained-by (getD w (e + e + n + r) 0) there via-is et t some q
+      drained t q = drained-by (getD w (e + e + r + r + 1) 0) there via-is et t some q
 
 -- ---- the loop
 
@@ -98,7 +98,7 @@ take-few (suc k) (x ∷ xs) = omega (arith, take-few k xs)
 
 pub queue-length : (n e : ℕ) (a : Area) → Fit n e a → length (view n e a .queue) ≡ n
 unfolding view
-queue-length n e a h = cut-length (wsizes n e) (a .words) 5 (omega arith) (omega (arith, h .words))
+queue-length n e a h = cut-length (wsizes n e) (a .words) 4 (omega arith) (omega (arith, h .words))
 
 -- in the loop the words stay, and so does all that is read of them
 module _ (n e from j : ℕ) (w : List ℕ) (f₀ : List Float) (at : ℕ) (ea : at ≡ e + e + n + n + n) (l : j < n) where

@@ -24,7 +24,7 @@ use Rattle.plan_search.proofs.Rows.{leaves-then, keeps-next}
 
 -- a step that has nothing to do
 passes-none : {side : Side} {n e z r from : ℕ} {part : List ℕ} {count : ℕ} (f : ℕ → List ℕ → Seek → Seek) {a : Area} → Seeking n e count a
-    → ((g : ℕ) → g < n → settled side (getD (a .reals) (e + g) nan) ≡ false → Sought n e (f g) count count a a) → Passes side n e f z r from part count count a a
+    → ((g : ℕ) → g < n → settled side (getD (a .reals) (e + g + g) nan) ≡ false → Sought n e (f g) count count a a) → Passes side n e f z r from part count count a a
 passes-none f h s = record { seeking = h; sought = s; met = keeps-none; idle = λ first. idle-none; deltas = λ g hg. refl }
 
 module _ (side : Side) (r k a z n e count : ℕ) (w : List ℕ) (f : List Float) (h : Seeking n e count (area w f)) (hk : k < e) (ha : a < n) where
@@ -39,14 +39,14 @@ module _ (side : Side) (r k a z n e count : ℕ) (w : List ℕ) (f : List Float)
     pub pass-queued : true ≡ member a (take count (array n queue w)) → PassOne count (area w f)
     pass-queued m = passes-none _ h (λ g hg t. link-queued side g r k a z n e count w f h hk hg ha queue places eq ep o t m)
 
-    module _ (m : false ≡ member a (take count (array n queue w))) (u : wants side (getD f (e + a) nan) ≡ false) (w′ : List ℕ)
+    module _ (m : false ≡ member a (take count (array n queue w))) (u : wants side (getD f (e + a + a) nan) ≡ false) (w′ : List ℕ)
         (s : w′ ≡ set (set w (queue + count) a) (places + a) count) (w₂ : List ℕ) (f₂ : List Float)
-        (d : Does n e (λ o p. point a (r + 1) p) (area (set w′ (e + e + n + a) k) f) (area w₂ f₂)) where
-      none : wants side (getD (view n e (area (set w′ (e + e + n + a) k) f) .plan .delta) a nan) ≡ false
-      none = rw (delta-at n e a (set w′ (e + e + n + a) k) f ha) at u
+        (d : Does n e (λ o p. point a (r + 1) p) (area (set w′ (e + e + a + a + 1) k) f) (area w₂ f₂)) where
+      none : wants side (getD (view n e (area (set w′ (e + e + a + a + 1) k) f) .plan .delta) a nan) ≡ false
+      none = rw (delta-at n e a (set w′ (e + e + a + a + 1) k) f ha) at u
 
-      meets : (g : ℕ) → Does n e (λ o p. meet side g r a p) (area (set w′ (e + e + n + a) k) f) (area w₂ f₂)
-      meets g = does-as d (meet-none side g r a (view n e (area (set w′ (e + e + n + a) k) f) .plan) none)
+      meets : (g : ℕ) → Does n e (λ o p. meet side g r a p) (area (set w′ (e + e + a + a + 1) k) f) (area w₂ f₂)
+      meets g = does-as d (meet-none side g r a (view n e (area (set w′ (e + e + a + a + 1) k) f) .plan) none)
 
       -- what doesn't hang on the turf in hand holds as if it were a
       pub pass-new : PassOne (count + 1) (area w₂ f₂)

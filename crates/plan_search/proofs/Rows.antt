@@ -84,9 +84,9 @@ pub record Row (side : Side) (g r : ℕ) (part : List ℕ) (from z n e count fir
   pub on : Onward n e (λ o s. run (alongPart side g r part from z o) (upFrom i (length part - i)) s) (λ o s. run (alongPart side g r part from z o) (upFrom 0 (length part)) s) count c a a′
   pub met : KeepsMet n e z r from part count c a a′
   pub idle : KeepsIdle n e count first c f a a′
-  pub unsettled : settled side (getD (a′ .reals) (e + g) nan) ≡ false
+  pub unsettled : settled side (getD (a′ .reals) (e + g + g) nan) ≡ false
 
-pub row-start : {side : Side} {g r : ℕ} {part : List ℕ} {from z n e count first : ℕ} {A : Area} → Seeking n e count A → settled side (getD (A .reals) (e + g) nan) ≡ false
+pub row-start : {side : Side} {g r : ℕ} {part : List ℕ} {from z n e count first : ℕ} {A : Area} → Seeking n e count A → settled side (getD (A .reals) (e + g + g) nan) ≡ false
     → Row side g r part from z n e count first count first 0 A A
 row-start h t = record { on = onward-start h (λ o s. rw sub-zero); met = keeps-none; idle = idle-none; unsettled = t }
 
@@ -104,7 +104,7 @@ row-passes {side} {g} {r} {part} {from} {z} {i = i} {j = j} t hg l m p = record 
 -- one link
 pub row-next : {side : Side} {g r : ℕ} {part : List ℕ} {from z n e count first c c′ f f′ i : ℕ} {A B C : Area} → Row side g r part from z n e count first c f i A B → i < length part
     → Sought n e (λ o s. cond (eqb (getD o (from + i) 0) (z + 1)) (seekTo side g r (getD part i 0) s) s) c c′ B C → KeepsMet n e z r (from + i) (getD part i 0 ∷ []) c c′ B C
-    → KeepsIdle n e c f c′ f′ B C → settled side (getD (C .reals) (e + g) nan) ≡ false → Row side g r part from z n e count first c′ f′ (i + 1) A C
+    → KeepsIdle n e c f c′ f′ B C → settled side (getD (C .reals) (e + g + g) nan) ≡ false → Row side g r part from z n e count first c′ f′ (i + 1) A C
 unfolding alongPart
 row-next {side} {g} {r} {part} {from} {z} {i = i} t l d k m u = record {
   on = onward-next _ _ (t .on) d (λ o s. run-up (alongPart side g r part from z o) i (length part) s l);
@@ -115,7 +115,7 @@ row-next {side} {g} {r} {part} {from} {z} {i = i} t l d k m u = record {
 
 -- ---- a settled turf
 
-pub along-settled : (side : Side) (g r : ℕ) (part : List ℕ) (from z n e count : ℕ) (w : List ℕ) (f : List Float) → g < n → settled side (getD f (e + g) nan) ≡ true
+pub along-settled : (side : Side) (g r : ℕ) (part : List ℕ) (from z n e count : ℕ) (w : List ℕ) (f : List Float) → g < n → settled side (getD f (e + g + g) nan) ≡ true
     → (xs o : List ℕ) (looked : ℕ) → run (alongPart side g r part from z o) xs (seekOf (view n e (area w f)) count looked) ≡ seekOf (view n e (area w f)) count looked
 unfolding alongPart
 along-settled side g r part from z n e count w f hg t xs o looked =
@@ -132,7 +132,7 @@ along-settled side g r part from z n e count w f hg t xs o looked =
 pub row-settled : (side : Side) (g r : ℕ) (part : List ℕ) (from z n e count c c′ i : ℕ) (w : List ℕ) (f : List Float) {A B : Area}
     → Onward n e (λ o s. run (alongPart side g r part from z o) (upFrom i (length part - i)) s) (λ o s. run (alongPart side g r part from z o) (upFrom 0 (length part)) s) count c A B
     → Sought n e (λ o s. cond (eqb (getD o (from + i) 0) (z + 1)) (seekTo side g r (getD part i 0) s) s) c c′ B (area w f) → i < length part → g < n
-    → settled side (getD f (e + g) nan) ≡ true → Sought n e (λ o s. run (alongPart side g r part from z o) (upFrom 0 (length part)) s) count c′ A (area w f)
+    → settled side (getD f (e + g + g) nan) ≡ true → Sought n e (λ o s. run (alongPart side g r part from z o) (upFrom 0 (length part)) s) count c′ A (area w f)
 unfolding alongPart
 row-settled side g r part from z n e count c c′ i w f on d l hg t =
     onward-end {f = λ o s. run (alongPart side g r part from z o) (upFrom (i + 1) (length part - (i + 1))) s}

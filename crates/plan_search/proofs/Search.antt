@@ -97,12 +97,12 @@ module _ (n e count looked : ℕ) (w : List ℕ) (f : List Float) (h : Seeking n
     seen-below = rw (row-at ∙ getD-take count (view n e (area w f) .queue) looked 0 l) (queue-below h looked l)
 
     module _ (b : Board) (z : ℕ) (side : Side) (g : ℕ) (hg : g < n) where
-      pub turn-on : settled side (getD f (e + g) nan) ≡ false → (o : List ℕ)
+      pub turn-on : settled side (getD f (e + g + g) nan) ≡ false → (o : List ℕ)
           → (let t = run (seekLink b o z side g (getD w (at + looked) 0)) (edgesOf b o z (getD w (at + looked) 0)) (seekOf (view n e (area w f)) count looked) in
           record { queue = t .queue; looked = t .looked + 1; plan = t .plan }) ≡ seekNext b o z side g (seekOf (view n e (area w f)) count looked)
       turn-on t o = next-on b o z side g _ (rw queue-length l) (rw (delta-at n e g w f hg) at t) _ row-at
 
-      pub turn-settled : settled side (getD f (e + g) nan) ≡ true → (o : List ℕ)
+      pub turn-settled : settled side (getD f (e + g + g) nan) ≡ true → (o : List ℕ)
           → seekNext b o z side g (seekOf (view n e (area w f)) count looked) ≡ seekOf (view n e (area w f)) count looked
       turn-settled t o = next-settled b o z side g _ (rw queue-length l) (rw (delta-at n e g w f hg) at t)
 

@@ -21,7 +21,7 @@ use Rattle.process_zone.specs.declared.Side.{Side}
 use Rattle.index_set.specs.Line.{Line, array, Holds}
 use Rattle.index_set.proofs.Queue.{not-member, count-below, take-more, line-more}
 use Rattle.plan_state.specs.Held.{Area, area, wsizes, rsizes, View, viewIn, view, Fit, onPlan, Does}
-use Rattle.plan_state.proofs.Stores.{frame-none, owner-at, delta-at}
+use Rattle.plan_state.proofs.Stores.{frame-none, owner-at, delta-at, direction-length, via-length, amount-length, paired, via-view}
 use Rattle.plan_search.specs.Search.{Seeking, seekOf, Leaves, Sought, Leads, Met, AllMet, KeepsMet, Idle, KeepsIdle}
 use Rattle.plan_search.specs.Steps.{lesser, point}
 use Rattle.plan_search.proofs.Lessers.{lesser-left, lesser-right}
@@ -107,14 +107,14 @@ module _ (side : Side) (g r k a z n e count : ℕ) (w : List ℕ) (f : List Floa
     queue-is : view n e (area w f) .queue ≡ array n queue w
     unfolding view
     queue-is =
-        let q : e + (e + (n + (n + (n + 0)))) ≡ queue = omega arith in
-        region-part (wsizes n e) w 5 (omega arith) ∙ ap (λ (m : ℕ). take n (drop m w)) q
+        let q : e + (e + (n + n + (n + 0))) ≡ queue = omega arith in
+        region-part (wsizes n e) w 4 (omega arith) ∙ ap (λ (m : ℕ). take n (drop m w)) q
 
     places-is : view n e (area w f) .places ≡ array n places w
     unfolding view
     places-is =
-        let q : e + (e + (n + (n + (n + (n + 0))))) ≡ places = omega arith in
-        region-part (wsizes n e) w 6 (omega arith) ∙ ap (λ (m : ℕ). take n (drop m w)) q
+        let q : e + (e + (n + n + (n + (n + 0)))) ≡ places = omega arith in
+        region-part (wsizes n e) w 5 (omega arith) ∙ ap (λ (m : ℕ). take n (drop m w)) q
 
     pub link-holds : Holds n count queue places w
     link-holds = record {
@@ -126,7 +126,7 @@ module _ (side : Side) (g r k a z n e count : ℕ) (w : List ℕ) (f : List Floa
       ours : (s : Seek) → seekTo side g r a s ≡ linked side g r k a z (view n e (area w f) .owner) s
       ours s = rw (eq-eqb _ _ (sym (owner-at n e k w f hk) ∙ o))
 
-      pub link-queued : settled side (getD f (e + g) nan) ≡ false → true ≡ member a (take count (array n queue w)) → Sought n e (linked side g r k a z) count count (area w f) (area w f)
+      pub link-queued : settled side (getD f (e + g + g) nan) ≡ false → true ≡ member a (take count (array n queue w)) → Sought n e (linked side g r k a z) count count (area w f) (area w f)
       link-queued t m =
           sought-none (linked side g r k a z) h
           (λ looked. to-queued side g r a _ (rw (delta-at n e g w f hg) at t) (ap (λ (q : List ℕ). member a (take count q)) queue-is ∙ sym m) ∙ ours _)
@@ -152,16 +152,31 @@ module _ (side : Side) (g r k a z n e count : ℕ) (w : List ℕ) (f : List Floa
         }
 
         module _ (w′ : List ℕ) (s : w′ ≡ set (set w (queue + count) a) (places + a) count) where
-          push-view : view n e (area (set w′ (e + e + n + a) k) f) ≡ pushed
-          unfolding view pushed
-          push-view =
-              rw s (ap (λ rs. viewIn rs (cut (rsizes n e) f))
-              (cut-set (wsizes n e) (set (set w (queue + count) a) (places + a) count) 3 a k (e + e + n + a) (omega arith) ha (omega arith)
-              ∙ ap (λ rs. set rs 3 (set (getD rs 3 []) a k))
-              (cut-set (wsizes n e) (set w (queue + count) a) 6 a count (places + a) (omega arith) ha (omega arith)
-              ∙ ap (λ rs. set rs 6 (set (getD rs 6 []) a count)) (cut-set (wsizes n e) w 5 count a (queue + count) (omega arith) link-room (omega arith)))))
+          abbrev lined : View
+          lined = record {
+            owner = view n e (area w f) .owner;
+            reverse = view n e (area w f) .reverse;
+            plan = view n e (area w f) .plan;
+            via = view n e (area w f) .via;
+            queue = set (view n e (area w f) .queue) count a;
+            places = set (view n e (area w f) .places) a count;
+            list = view n e (area w f) .list;
+            restW = view n e (area w f) .restW;
+            restR = view n e (area w f) .restR;
+          }
 
-          pub push-fit : Fit n e (area (set w′ (e + e + n + a) k) f)
+          line-view : view n e (area w′ f) ≡ lined
+          unfolding view
+          line-view =
+              rw s (ap (λ rs. viewIn rs (cut (rsizes n e) f))
+              (cut-set (wsizes n e) (set w (queue + count) a) 5 a count (places + a) (omega arith) ha (omega arith)
+              ∙ ap (λ rs. set rs 5 (set (getD rs 5 []) a count)) (cut-set (wsizes n e) w 4 count a (queue + count) (omega arith) link-room (omega arith))))
+
+          push-view : view n e (area (set w′ (e + e + a + a + 1) k) f) ≡ pushed
+          unfolding pushed
+          push-view = via-view n e a w′ f ha k ∙ ap (λ (v : View). paired v (v .plan .direction) (set (v .via) a k) (v .plan .delta) (v .plan .amount)) line-view
+
+          pub push-fit : Fit n e (area (set w′ (e + e + a + a + 1) k) f)
           push-fit = record {
             words = rw s (simp length-set (h .fit .words));
             reals = h .fit .reals;
@@ -169,7 +184,7 @@ module _ (side : Side) (g r k a z n e count : ℕ) (w : List ℕ) (f : List Floa
             links = h .fit .links;
           }
 
-          module _ {A : Area} (d : Does n e (λ o p. meet side g r a p) (area (set w′ (e + e + n + a) k) f) A) where
+          module _ {A : Area} (d : Does n e (λ o p. meet side g r a p) (area (set w′ (e + e + a + a + 1) k) f) A) where
             after : view n e A ≡ onPlan (λ o p. meet side g r a p) pushed
             after = d .same ∙ ap (onPlan (λ o p. meet side g r a p)) push-view
 
@@ -177,7 +192,7 @@ module _ (side : Side) (g r k a z n e count : ℕ) (w : List ℕ) (f : List Floa
             unfolding pushed
             link-seeking = record { fit = d .fit; line = subst (λ (v : View). Line n (count + 1) (v .queue) (v .places)) (sym after) (line-more (h .line) a ha new) }
 
-            pub link-new : settled side (getD f (e + g) nan) ≡ false → Sought n e (linked side g r k a z) count (count + 1) (area w f) A
+            pub link-new : settled side (getD f (e + g + g) nan) ≡ false → Sought n e (linked side g r k a z) count (count + 1) (area w f) A
             unfolding pushed
             link-new t = record {
               seeking = link-seeking;
@@ -206,14 +221,6 @@ module _ (side : Side) (g r k a z n e count : ℕ) (w : List ℕ) (f : List Floa
               direction = ap (λ (v : View). v .plan .direction) after ∙ meet-direction side g r a (view n e (area w f) .plan);
             }
 
-            long-direction : length (view n e (area w f) .plan .direction) ≡ n
-            unfolding view
-            long-direction = cut-length (wsizes n e) w 2 (omega arith) (omega (arith, h .fit .words))
-
-            long-via : length (view n e (area w f) .via) ≡ n
-            unfolding view
-            long-via = cut-length (wsizes n e) w 3 (omega arith) (omega (arith, h .fit .words))
-
             pub link-keeps : KeepsMet n e z r k (a ∷ []) count (count + 1) (area w f) A
             link-keeps = record {
               keeps = λ starts neighbours l m i hi. pick starts neighbours l m i hi (ℕ-discrete i count);
@@ -225,16 +232,12 @@ module _ (side : Side) (g r k a z n e count : ℕ) (w : List ℕ) (f : List Floa
                 pick starts neighbours l m i hi (yes q) =
                     let t₀ : Leads n starts neighbours r k a = subst (λ (x : ℕ). Leads n starts neighbours r x a) (add-zero k) (l 0 (omega arith)) in
                     subst (λ (x : ℕ). Met n z starts neighbours (view n e A) (getD (view n e A .queue) x 0)) (sym q)
-                    (met-here n z count r k a starts neighbours (view n e (area w f)) (view n e A) joins (h .line) new (omega (arith, long-direction)) (omega (arith, long-via))
+                    (met-here n z count r k a starts neighbours (view n e (area w f)) (view n e A) joins (h .line) new (omega (arith, direction-length n e (area w f) (h .fit))) (omega (arith, via-length n e (area w f) (h .fit)))
                     (omega (arith, h .line .queue-n, link-room)) t₀ (sym (owner-at n e k w f hk) ∙ o))
                 pick starts neighbours l m i hi (no q) =
                     met-before n z count r k a starts neighbours (view n e (area w f)) (view n e A) joins (h .line) new i (omega (arith, q)) (m i (omega (arith, q)))
 
-            long-amount : length (view n e (area w f) .plan .amount) ≡ n
-            unfolding view
-            long-amount = cut-length (rsizes n e) f 2 (omega arith) (omega (arith, h .fit .reals))
-
-            pub link-idle : (traded : Bool) (first first′ : ℕ) → traded ≡ wants side (getD (view n e (area (set w′ (e + e + n + a) k) f) .plan .delta) a nan)
+            pub link-idle : (traded : Bool) (first first′ : ℕ) → traded ≡ wants side (getD (view n e (area (set w′ (e + e + a + a + 1) k) f) .plan .delta) a nan)
                 → first′ ≡ cond traded (lesser first count) first → KeepsIdle n e count first (count + 1) first′ (area w f) A
             unfolding pushed
             link-idle traded first first′ et ef = record { keeps = λ m i hi hf. pick traded refl m i hi hf (ℕ-discrete i count) }
@@ -245,7 +248,7 @@ module _ (side : Side) (g r k a z n e count : ℕ) (w : List ℕ) (f : List Floa
                 plan-after : view n e A .plan ≡ meet side g r a (v .plan)
                 plan-after = ap (λ (x : View). x .plan) after
 
-                delta-same : view n e (area (set w′ (e + e + n + a) k) f) .plan .delta ≡ v .plan .delta
+                delta-same : view n e (area (set w′ (e + e + a + a + 1) k) f) .plan .delta ≡ v .plan .delta
                 delta-same = ap (λ (x : View). x .plan .delta) push-view
 
                 before : first′ ≤ first
@@ -258,7 +261,7 @@ module _ (side : Side) (g r k a z n e count : ℕ) (w : List ℕ) (f : List Floa
                 idle-here : traded ≡ false → ne (getD (view n e A .plan .amount) a nan) 0f ≡ false
                 idle-here q =
                     let t : wants side (getD (v .plan .delta) a nan) ≡ false = ap (λ (d : List Float). wants side (getD d a nan)) (sym delta-same) ∙ sym et ∙ q in
-                    ap (λ (x : Float). ne x 0f) (ap (λ (p : Plan). getD (p .amount) a nan) plan-after ∙ meet-here side g r a (v .plan) (omega (arith, long-amount)) t) ∙ none-left
+                    ap (λ (x : Float). ne x 0f) (ap (λ (p : Plan). getD (p .amount) a nan) plan-after ∙ meet-here side g r a (v .plan) (omega (arith, amount-length n e (area w f) (h .fit))) t) ∙ none-left
 
                 pick : (b : Bool) → traded ≡ b → Idle v count first → (i : ℕ) → i < count + 1 → i < first′ → Dec (i ≡ count)
                     → ne (getD (view n e A .plan .amount) (getD (view n e A .queue) i 0) nan) 0f ≡ false
@@ -271,12 +274,12 @@ module _ (side : Side) (g r k a z n e count : ℕ) (w : List ℕ) (f : List Floa
                     let row : getD (view n e A .queue) i 0 ≡ getD (v .queue) i 0 = ap (λ (xs : List ℕ). getD xs i 0) (joins .queue) ∙ getD-set-other (v .queue) count i a 0 (λ x. omega arith) in
                     let long : length (take count (v .queue)) ≡ count = length-take-le count (v .queue) (omega (arith, h .line .few, h .line .queue-n)) in
                     let other : getD (v .queue) i 0 ≢ a = λ x. not-member a (take count (v .queue)) new i (rw long l) (getD-take count (v .queue) i 0 l ∙ x) in
-                    let same = ap (λ (p : Plan). getD (p .amount) (getD (v .queue) i 0) nan) plan-after ∙ meet-others side g r a (getD (v .queue) i 0) (v .plan) (omega (arith, long-amount)) other in
+                    let same = ap (λ (p : Plan). getD (p .amount) (getD (v .queue) i 0) nan) plan-after ∙ meet-others side g r a (getD (v .queue) i 0) (v .plan) (omega (arith, amount-length n e (area w f) (h .fit))) other in
                     rw row (ap (λ (x : Float). ne x 0f) same ∙ m i l (omega (arith, before)))
 
             -- a turf that doesn't want leaves every delta as it is
             pub link-deltas : wants side (getD (view n e (area w f) .plan .delta) a nan) ≡ false → (w₂ : List ℕ) (f₂ : List Float) → A ≡ area w₂ f₂
-                → (b : ℕ) → b < n → getD f₂ (e + b) nan ≡ getD f (e + b) nan
+                → (b : ℕ) → b < n → getD f₂ (e + b + b) nan ≡ getD f (e + b + b) nan
             unfolding pushed point
             link-deltas u w₂ f₂ ea b hb =
                 delta-at n e b w₂ f₂ hb
@@ -286,16 +289,16 @@ module _ (side : Side) (g r k a z n e count : ℕ) (w : List ℕ) (f : List Floa
                 ∙ sym (delta-at n e b w f hb)
 
             -- a turf in hand that didn't trade isn't settled
-            pub link-open : settled side (getD f (e + g) nan) ≡ false → (traded : Bool) → traded ≡ wants side (getD (view n e (area (set w′ (e + e + n + a) k) f) .plan .delta) a nan)
-                → (w₂ : List ℕ) (f₂ : List Float) → A ≡ area w₂ f₂ → (done : Bool) → done ≡ cond traded (settled side (getD f₂ (e + g) nan)) false → done ≡ settled side (getD f₂ (e + g) nan)
+            pub link-open : settled side (getD f (e + g + g) nan) ≡ false → (traded : Bool) → traded ≡ wants side (getD (view n e (area (set w′ (e + e + a + a + 1) k) f) .plan .delta) a nan)
+                → (w₂ : List ℕ) (f₂ : List Float) → A ≡ area w₂ f₂ → (done : Bool) → done ≡ cond traded (settled side (getD f₂ (e + g + g) nan)) false → done ≡ settled side (getD f₂ (e + g + g) nan)
             unfolding pushed
             link-open t traded et w₂ f₂ ea done ed = go traded refl
               where
-                delta-same : view n e (area (set w′ (e + e + n + a) k) f) .plan .delta ≡ view n e (area w f) .plan .delta
+                delta-same : view n e (area (set w′ (e + e + a + a + 1) k) f) .plan .delta ≡ view n e (area w f) .plan .delta
                 delta-same = ap (λ (x : View). x .plan .delta) push-view
 
-                go : (b : Bool) → traded ≡ b → done ≡ settled side (getD f₂ (e + g) nan)
-                go true q = ed ∙ ap (λ (x : Bool). cond x (settled side (getD f₂ (e + g) nan)) false) q
+                go : (b : Bool) → traded ≡ b → done ≡ settled side (getD f₂ (e + g + g) nan)
+                go true q = ed ∙ ap (λ (x : Bool). cond x (settled side (getD f₂ (e + g + g) nan)) false) q
                 go false q =
                     let u : wants side (getD (view n e (area w f) .plan .delta) a nan) ≡ false = ap (λ (d : List Float). wants side (getD d a nan)) (sym delta-same) ∙ sym et ∙ q in
-                    ed ∙ ap (λ (x : Bool). cond x (settled side (getD f₂ (e + g) nan)) false) q ∙ sym (ap (settled side) (link-deltas u w₂ f₂ ea g hg) ∙ t)
+                    ed ∙ ap (λ (x : Bool). cond x (settled side (getD f₂ (e + g + g) nan)) false) q ∙ sym (ap (settled side) (link-deltas u w₂ f₂ ea g hg) ∙ t)

@@ -29,7 +29,7 @@ use Rattle.index_set.proofs.Queue.{take-more, line-more}
 use Rattle.reverse_links.specs.Reverse.{InRow, Linked, Reverses}
 use Rattle.plan_state.specs.Held.{grid, Area, area, wsizes, rsizes, View, viewIn, view, Fit, Does, Frame, Serves}
 use Rattle.plan_state.specs.Steps.{backLink, adjustAt}
-use Rattle.plan_state.proofs.Stores.{frame-then, does-frame, store-amount, setAmount}
+use Rattle.plan_state.proofs.Stores.{frame-then, does-frame, store-amount, setAmount, direction-length, amount-length}
 use Rattle.plan_state.proofs.Links.{link-below, edge-there, edge-back, reverse-within}
 use Rattle.plan_search.specs.Search.{Seeking, seekOf, Leaves, Searched, Leads, Met, AllMet, Idle, Within}
 use Rattle.plan_search.specs.Steps.{handOn, drainVia}
@@ -95,14 +95,7 @@ module _ (b : Board) (n : ℕ) (t : Linked n (b .starts) (b .neighbours)) (rev v
 pub points-nowhere : (n e g : ℕ) (x y : Float) (m : ℕ) {A B : Area} → Fit n e A → g < n → Does n e (λ o p. store p g (record { delta = x; amount = y; direction = 0; fast = m })) A B
     → getD (view n e B .plan .direction) g 0 ≡ 0
 points-nowhere n e g x y m {A} h l d =
-    ap (λ (v : View). getD (v .plan .direction) g 0) (d .same) ∙ getD-set-same (view n e A .plan .direction) g 0 0 (omega (arith, long))
-  where
-    long : length (view n e A .plan .direction) ≡ n
-    long = Rattle.plan_state.proofs.Stores.direction-length n e A h
-
-amount-length : (n e : ℕ) (A : Area) → Fit n e A → length (view n e A .plan .amount) ≡ n
-unfolding view
-amount-length n e A h = cut-length (rsizes n e) (A .reals) 2 (omega arith) (omega (arith, h .reals))
+    ap (λ (v : View). getD (v .plan .direction) g 0) (d .same) ∙ getD-set-same (view n e A .plan .direction) g 0 0 (omega (arith, direction-length n e A h))
 
 pub moves-nothing : (n e g : ℕ) (x : Float) (m : ℕ) {A B : Area} → Fit n e A → g < n → Does n e (λ o p. store p g (record { delta = x; amount = 0f; direction = 0; fast = m })) A B
     → ne (getD (view n e B .plan .amount) g nan) 0f ≡ false
@@ -117,8 +110,8 @@ unfolding view Below Apart
 seeking-none n e a h = record {
   fit = h;
   line = record {
-    queue-n = cut-length (wsizes n e) (a .words) 5 (omega arith) (omega (arith, h .words));
-    places-n = cut-length (wsizes n e) (a .words) 6 (omega arith) (omega (arith, h .words));
+    queue-n = cut-length (wsizes n e) (a .words) 4 (omega arith) (omega (arith, h .words));
+    places-n = cut-length (wsizes n e) (a .words) 5 (omega arith) (omega (arith, h .words));
     few = omega arith;
     rows = tt;
     apart = tt;
@@ -146,8 +139,8 @@ module _ (n e g : ℕ) (w w′ : List ℕ) (f : List Float) (h : Fit n e (area w
   unfolding view
   begun-view =
       rw s (ap (λ rs. viewIn rs (cut (rsizes n e) f))
-      (cut-set (wsizes n e) (set w (queue + 0) g) 6 g 0 (places + g) (omega arith) hg (omega arith)
-      ∙ ap (λ rs. set rs 6 (set (getD rs 6 []) g 0)) (cut-set (wsizes n e) w 5 0 g (queue + 0) (omega arith) (omega arith) (omega arith))))
+      (cut-set (wsizes n e) (set w (queue + 0) g) 5 g 0 (places + g) (omega arith) hg (omega arith)
+      ∙ ap (λ rs. set rs 5 (set (getD rs 5 []) g 0)) (cut-set (wsizes n e) w 4 0 g (queue + 0) (omega arith) (omega arith) (omega arith))))
 
   pub begun : Seeking n e 1 (area w′ f)
   begun = record {

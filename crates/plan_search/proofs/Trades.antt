@@ -79,19 +79,19 @@ unfolding meet point
 meet-none side g r a s t = trade-none side g a (point a (r + 1) s) t ∙ ap (trade side g a) (pointed-is r a s)
 
 pub pointed : (n e a d : ℕ) (w : List ℕ) (f : List Float) → a < n → Fit n e (area w f)
-    → Does n e (λ o p. point a d p) (area w f) (area (set w (e + e + a) d) (set f (e + n + a) 0f))
+    → Does n e (λ o p. point a d p) (area w f) (area (set w (e + e + a + a) d) (set f (e + a + a + 1) 0f))
 unfolding point
-pointed n e a d w f l h = let d₁ = direction-set n e a w f l h d in does-then _ d₁ (amount-set n e a (set w (e + e + a) d) f l (d₁ .fit) 0f)
+pointed n e a d w f l h = let d₁ = direction-set n e a w f l h d in does-then _ d₁ (amount-set n e a (set w (e + e + a + a) d) f l (d₁ .fit) 0f)
 
 module _ (n e g r a : ℕ) (side : Side) {A : Area} {w : List ℕ} {f : List Float} (l : a < n) (d : Does n e (λ o p. point a (r + 1) p) A (area w f)) where
-  test : getD f (e + a) nan ≡ getD (view n e A .plan .delta) a nan
+  test : getD f (e + a + a) nan ≡ getD (view n e A .plan .delta) a nan
   unfolding point
   test = delta-at n e a w f l ∙ ap (λ v. getD (v .plan .delta) a nan) (d .same)
 
-  pub wanted : {t : Bool} → t ≡ wants side (getD f (e + a) nan) → t ≡ wants side (getD (view n e A .plan .delta) a nan)
+  pub wanted : {t : Bool} → t ≡ wants side (getD f (e + a + a) nan) → t ≡ wants side (getD (view n e A .plan .delta) a nan)
   wanted q = q ∙ ap (wants side) test
 
-  pub met-none : wants side (getD f (e + a) nan) ≡ false → Does n e (λ o p. meet side g r a p) A (area w f)
+  pub met-none : wants side (getD f (e + a + a) nan) ≡ false → Does n e (λ o p. meet side g r a p) A (area w f)
   met-none t = does-as d (meet-none side g r a (view n e A .plan) (rw test at t))
 
   pub met-some : {C : Area} → Does n e (λ o p. trade side g a p) (area w f) C → Does n e (λ o p. meet side g r a p) A C

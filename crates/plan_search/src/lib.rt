@@ -118,8 +118,8 @@ fn point(a: usize, d: u32, n: usize, e: usize, words: &mut [u32], reals: &mut [f
     requires { ⌜ Fit n e (area (now words) (now reals)) × (a < n) ⌝ }
     ensures { λ _. ⌜ Does n e (λ o p. point a d p) (area (now (words .entry)) (now (reals .entry))) (area (now (words .exit)) (now (reals .exit))) ⌝ }
 {
-    words[e + e + a] = d;
-    reals[e + n + a] = 0.0;
+    words[e + e + a + a] = d;
+    reals[e + a + a + 1] = 0.0;
 }
 
 // A turf that is met for the first time, from r; whether it traded.
@@ -138,7 +138,7 @@ fn meet(
     ensures { λ t. ⌜ t ≡ wants side (getD (view n e (area (now (words .entry)) (now (reals .entry))) .plan .delta) a nan) ⌝ }
 {
     point(a, r + 1, n, e, words, reals);
-    let can = wants(side, reals[e + a]);
+    let can = wants(side, reals[e + a + a]);
     if can {
         trade(side, g, a, n, e, words, reals);
     }
@@ -203,12 +203,12 @@ fn seek_link(
     words: &mut [u32],
     reals: &mut [f32],
 ) -> Step
-    requires { ⌜ Seeking n e count (area (now words) (now reals)) × ((z < 4096) × (settled side (getD (now reals) (e + g) nan) ≡ false)) ⌝ }
+    requires { ⌜ Seeking n e count (area (now words) (now reals)) × ((z < 4096) × (settled side (getD (now reals) (e + g + g) nan) ≡ false)) ⌝ }
     requires { ⌜ (g < n) × ((r < n) × ((a < n) × (k < e))) ⌝ }
     ensures { λ c. ⌜ Sought n e (λ o s. cond (eqb (getD o k 0) (z + 1)) (seekTo side g r a s) s) count (c .count) (area (now (words .entry)) (now (reals .entry))) (area (now (words .exit)) (now (reals .exit))) ⌝ }
     ensures { λ c. ⌜ KeepsMet n e z r k (a ∷ []) count (c .count) (area (now (words .entry)) (now (reals .entry))) (area (now (words .exit)) (now (reals .exit))) ⌝ }
     ensures { λ c. ⌜ KeepsIdle n e count first (c .count) (c .first) (area (now (words .entry)) (now (reals .entry))) (area (now (words .exit)) (now (reals .exit))) ⌝ }
-    ensures { λ c. ⌜ c .done ≡ settled side (getD (now (reals .exit)) (e + g) nan) ⌝ }
+    ensures { λ c. ⌜ c .done ≡ settled side (getD (now (reals .exit)) (e + g + g) nan) ⌝ }
 {
     if words[k] != z + 1 {
         return Step {
@@ -228,12 +228,12 @@ fn seek_link(
     }
     insert(a, count, queue, places, words);
     let row = a as usize;
-    words[e + e + n + row] = k as u32;
+    words[e + e + row + row + 1] = k as u32;
     let traded = meet(side, g, r, row, n, e, words, reals);
     Step {
         count: count + 1,
         first: first_traded(traded, first, count),
-        done: settles(traded, side, reals[e + g]),
+        done: settles(traded, side, reals[e + g + g]),
     }
 }
 
@@ -276,11 +276,11 @@ fn pass_link(
         };
     }
     let row = a as usize;
-    if wants(side, reals[e + row]) {
+    if wants(side, reals[e + row + row]) {
         return Passed { count, wants: true };
     }
     insert(a, count, queue, places, words);
-    words[e + e + n + row] = k as u32;
+    words[e + e + row + row + 1] = k as u32;
     point(row, r + 1, n, e, words, reals);
     Passed {
         count: count + 1,
@@ -341,7 +341,7 @@ fn seek_row(
     words: &mut [u32],
     reals: &mut [f32],
 ) -> Reach
-    requires { ⌜ Seeking n e count (area (now words) (now reals)) × ((z < 4096) × (settled side (getD (now reals) (e + g) nan) ≡ false)) ⌝ }
+    requires { ⌜ Seeking n e count (area (now words) (now reals)) × ((z < 4096) × (settled side (getD (now reals) (e + g + g) nan) ≡ false)) ⌝ }
     requires { ⌜ (g < n) × ((r < n) × (Below n (now part) × (from + length (now part) ≤ e))) ⌝ }
     ensures { λ c. ⌜ Sought n e (λ o s. run (alongPart side g r (now (part .entry)) from z o) (upFrom 0 (length (now (part .entry)))) s) count (c .count) (area (now (words .entry)) (now (reals .entry))) (area (now (words .exit)) (now (reals .exit))) ⌝ }
     ensures { λ c. ⌜ KeepsMet n e z r from (now (part .entry)) count (c .count) (area (now (words .entry)) (now (reals .entry))) (area (now (words .exit)) (now (reals .exit))) ⌝ }
@@ -382,7 +382,7 @@ fn seek_turf(
     words: &mut [u32],
     reals: &mut [f32],
 ) -> Reach
-    requires { ⌜ Seeking n e count (area (now words) (now reals)) × ((z < 4096) × (settled side (getD (now reals) (e + g) nan) ≡ false)) ⌝ }
+    requires { ⌜ Seeking n e count (area (now words) (now reals)) × ((z < 4096) × (settled side (getD (now reals) (e + g + g) nan) ≡ false)) ⌝ }
     requires { ⌜ (g < n) × ((r < n) × (Linked n (now starts) (now neighbours) × (length (now neighbours) ≡ e))) ⌝ }
     ensures { λ c. ⌜ Sought n e (λ o s. run (seekLink (grid n (now (starts .entry)) (now (neighbours .entry))) o z side g r) (edgesOf (grid n (now (starts .entry)) (now (neighbours .entry))) o z r) s) count (c .count) (area (now (words .entry)) (now (reals .entry))) (area (now (words .exit)) (now (reals .exit))) ⌝ }
     ensures { λ c. ⌜ (AllMet n z (now (starts .entry)) (now (neighbours .entry)) (view n e (area (now (words .entry)) (now (reals .entry)))) count → AllMet n z (now (starts .entry)) (now (neighbours .entry)) (view n e (area (now (words .exit)) (now (reals .exit)))) (c .count)) ⌝ }
@@ -438,7 +438,7 @@ fn seek(
     let mut first = n;
     let mut looked = 0;
     while looked < count {
-        if settled(side, reals[e + g]) {
+        if settled(side, reals[e + g + g]) {
             return Sweep {
                 count,
                 first,
@@ -485,10 +485,10 @@ fn hand_on(
     requires { ⌜ Found (λ k. k < e) there × Found (λ k. k < e) back ⌝ }
     ensures { λ _. ⌜ Does n e (λ o p. handOn there back r d p) (area (now (words .entry)) (now (reals .entry))) (area (now (words .exit)) (now (reals .exit))) ⌝ }
 {
-    let x = reals[e + n + r];
+    let x = reals[e + r + r + 1];
     adjust_eq_movement(there, back, x, reals);
-    reals[e + n + d] = reals[e + n + d] + x;
-    reals[e + n + r] = 0.0;
+    reals[e + d + d + 1] = reals[e + d + d + 1] + x;
+    reals[e + r + r + 1] = 0.0;
 }
 
 // The turf r of the queue, on the way back.
@@ -502,7 +502,7 @@ fn drain_turf(r: u32, z: u32, n: usize, e: usize, words: &[u32], reals: &mut [f3
     let direction = i.direction as usize;
     if amount != 0.0 {
         if direction != 0 {
-            let k = words[e + e + n + row] as usize;
+            let k = words[e + e + row + row + 1] as usize;
             let there = back_link(k, z, e, words);
             hand_on(there, Spot::At(k), row, direction - 1, n, e, words, reals);
         }

@@ -5,6 +5,9 @@ use Rattle.plan_search.proofs.Drains.{drained, drained-still, drained-n
 use borrow.Author.Needs.{needs}
 use Rattle.plan_search.proofs.drain_turf.Statement.{statement}
 use Rattle.plan_search.proofs.drain_turf.Tie as tie
+use Rattle.plan_search.proofs.hand_on.Reads as hand-on-reads
+use Rattle.plan_state.proofs.back_link.Reads as back-link-reads
+use Rattle.plan_state.proofs.load.Reads as load-reads
 
 load-requires : tie.Need-load-requires
 load-requires c κs = search needs
@@ -21,6 +24,9 @@ add-k-2 c = search needs
 add-k-3 : tie.Need-add-k-3
 add-k-3 c = search needs
 
+add-k-4 : tie.Need-add-k-4
+add-k-4 c = search needs
+
 mul-k : tie.Need-mul-k
 mul-k c = search needs
 
@@ -28,7 +34,7 @@ shared-slice-read-k : tie.Need-shared-slice-read-k
 shared-slice-read-k c = search needs
 
 cast-k : tie.Need-cast-k
-cast-k c = omega (arith, c .shared-slice-known2 .given (c .before .before .before .before .before .before .before .before .args .e + c .before .before .before .before .before .before .before .before .args .e + c .before .before .before .before .before .before .before .before .args .n + c .before .before .before .before .before .before .before .before .args .r))
+cast-k c = omega (arith, c .shared-slice-known2 .given (c .before .before .before .before .before .before .before .before .args .e + c .before .before .before .before .before .before .before .before .args .e + c .before .before .before .before .before .before .before .before .args .r + c .before .before .before .before .before .before .before .before .args .r + 1))
 
 back-link-requires : tie.Need-back-link-requires
 back-link-requires c κs = (omega (arith, c .before .before .before .before .before .before .before .before .pre .0 .words), (back-k _ _ (c .before .before .before .before .before .before .before .before .args .z) _ _ _ _ (c .before .before .before .before .load .ensures) (c .before .before .before .before .before .before .before .before .pre .0) (c .before .before .before .before .before .before .before .before .pre .1 .1 .0) (c .before .before .before .before .before .before .before .before .pre .1 .1 .1) (c .before .if2 .taken), (back-p _ _ (c .before .before .before .before .before .before .before .before .args .z) _ _ _ _ (c .before .before .before .before .load .ensures) (c .before .before .before .before .before .before .before .before .pre .0) (c .before .before .before .before .before .before .before .before .pre .1 .1 .0) (c .before .before .before .before .before .before .before .before .pre .1 .1 .1) (c .before .if2 .taken), c .before .before .before .before .before .before .before .before .pre .1 .0)))
@@ -66,6 +72,7 @@ drain-turf-spec =
     add-k
     add-k-2
     add-k-3
+    add-k-4
     mul-k
     shared-slice-read-k
     cast-k

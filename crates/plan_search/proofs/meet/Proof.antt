@@ -4,6 +4,9 @@ use Rattle.plan_search.proofs.Trades.{wanted, met-some, met-none}
 use borrow.Author.Needs.{needs}
 use Rattle.plan_search.proofs.meet.Statement.{statement}
 use Rattle.plan_search.proofs.meet.Tie as tie
+use Rattle.plan_search.proofs.point.Reads as point-reads
+use Rattle.plan_search.proofs.trade.Reads as trade-reads
+use Rattle.plan_search.proofs.wants.Reads as wants-reads
 
 add-point : tie.Need-add-point
 add-point c = search needs
@@ -13,6 +16,9 @@ point-requires c κs = search needs
 
 add-wants : tie.Need-add-wants
 add-wants c = search needs
+
+add-wants-2 : tie.Need-add-wants-2
+add-wants-2 c = search needs
 
 mul-wants : tie.Need-mul-wants
 mul-wants c = search needs
@@ -51,6 +57,7 @@ meet-spec =
     add-point
     point-requires
     add-wants
+    add-wants-2
     mul-wants
     slice-read-wants
     wants-requires

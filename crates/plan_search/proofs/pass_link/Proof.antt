@@ -8,6 +8,12 @@ use Rattle.plan_search.proofs.Passes.{pass-foreign, pass-queued, pass-n
 use borrow.Author.Needs.{needs}
 use Rattle.plan_search.proofs.pass_link.Statement.{statement}
 use Rattle.plan_search.proofs.pass_link.Tie as tie
+use Rattle.index_set.proofs.contains.Reads as contains-reads
+use Rattle.index_set.proofs.insert.Reads as insert-reads
+use Rattle.index_set.proofs.places_at.Reads as places-at-reads
+use Rattle.index_set.proofs.queue_at.Reads as queue-at-reads
+use Rattle.plan_search.proofs.point.Reads as point-reads
+use Rattle.plan_search.proofs.wants.Reads as wants-reads
 
 mul-if1 : tie.Need-mul-if1
 mul-if1 c = search needs
@@ -39,6 +45,9 @@ returns-2 c = (λ q. absurd (true≢false (sym q)), λ _. pass-queued (c .before
 add-wants : tie.Need-add-wants
 add-wants c = search needs
 
+add-wants-2 : tie.Need-add-wants-2
+add-wants-2 c = search needs
+
 mul-wants : tie.Need-mul-wants
 mul-wants c = search needs
 
@@ -69,6 +78,9 @@ add-words-2 c = search needs
 add-words-3 : tie.Need-add-words-3
 add-words-3 c = search needs
 
+add-words-4 : tie.Need-add-words-4
+add-words-4 c = search needs
+
 mul-words : tie.Need-mul-words
 mul-words c = search needs
 
@@ -81,8 +93,8 @@ add-point c = search needs
 point-requires : tie.Need-point-requires
 point-requires c κs = (push-fit (c .before .before .before .before .before .before .before .before .before .before .before .before .before .before .before .before .before .before .args .side) (c .before .before .before .before .before .before .before .before .before .before .before .before .before .before .before .before .before .before .args .a) (c .before .before .before .before .before .before .before .before .before .before .before .before .before .before .before .before .before .before .args .r) (c .before .before .before .before .before .before .before .before .before .before .before .before .before .before .before .before .before .before .args .k) (c .before .before .before .before .before .before .before .before .before .before .before .before .before .before .before .before .before .before .args .a) (c .before .before .before .before .before .before .before .before .before .before .before .before .before .before .before .before .before .before .args .z) _ _ _ _ _ (c .before .before .before .before .before .before .before .before .before .before .before .before .before .before .before .before .before .before .pre .0 .0) (c .before .before .before .before .before .before .before .before .before .before .before .before .before .before .before .before .before .before .pre .1 .1 .1) (c .before .before .before .before .before .before .before .before .before .before .before .before .before .before .before .before .before .before .pre .1 .1 .0) (c .before .before .before .before .before .before .before .before .before .before .before .before .before .before .before .before .before .before .pre .1 .1 .0) _ _ (c .before .before .before .before .before .before .before .before .before .before .before .before .before .queue-at .ensures) (c .before .before .before .before .before .before .before .before .before .before .before .before .places-at .ensures) (c .before .before .before .before .before .before .before .before .before .before .before .before .before .before .if1 .left) (sym (c .before .before .before .before .before .before .before .before .before .if2 .left) ∙ c .before .before .before .before .before .before .before .before .before .before .contains .ensures) _ (c .before .before .before .before .insert .ensures), c .before .before .before .before .before .before .before .before .before .before .before .before .before .before .before .before .before .before .pre .1 .1 .0)
 
-add-t30 : tie.Need-add-t30
-add-t30 c = let l = link-room (c .before .before .before .before .before .before .before .before .before .before .before .before .before .before .before .before .before .before .before .before .before .before .before .args .side) (c .before .before .before .before .before .before .before .before .before .before .before .before .before .before .before .before .before .before .before .before .before .before .before .args .a) (c .before .before .before .before .before .before .before .before .before .before .before .before .before .before .before .before .before .before .before .before .before .before .before .args .r) (c .before .before .before .before .before .before .before .before .before .before .before .before .before .before .before .before .before .before .before .before .before .before .before .args .k) (c .before .before .before .before .before .before .before .before .before .before .before .before .before .before .before .before .before .before .before .before .before .before .before .args .a) (c .before .before .before .before .before .before .before .before .before .before .before .before .before .before .before .before .before .before .before .before .before .before .before .args .z) _ _ _ _ _ (c .before .before .before .before .before .before .before .before .before .before .before .before .before .before .before .before .before .before .before .before .before .before .before .pre .0 .0) (c .before .before .before .before .before .before .before .before .before .before .before .before .before .before .before .before .before .before .before .before .before .before .before .pre .1 .1 .1) (c .before .before .before .before .before .before .before .before .before .before .before .before .before .before .before .before .before .before .before .before .before .before .before .pre .1 .1 .0) (c .before .before .before .before .before .before .before .before .before .before .before .before .before .before .before .before .before .before .before .before .before .before .before .pre .1 .1 .0) _ _ (c .before .before .before .before .before .before .before .before .before .before .before .before .before .before .before .before .before .before .queue-at .ensures) (c .before .before .before .before .before .before .before .before .before .before .before .before .before .before .before .before .before .places-at .ensures) (c .before .before .before .before .before .before .before .before .before .before .before .before .before .before .before .before .before .before .before .if1 .left) (sym (c .before .before .before .before .before .before .before .before .before .before .before .before .before .before .if2 .left) ∙ c .before .before .before .before .before .before .before .before .before .before .before .before .before .before .before .contains .ensures) in omega (arith, l, c .before .before .before .before .before .before .before .before .before .before .before .before .before .before .before .before .before .before .before .before .before .before .before .pre .0 .0 .fit .turfs)
+add-t31 : tie.Need-add-t31
+add-t31 c = let l = link-room (c .before .before .before .before .before .before .before .before .before .before .before .before .before .before .before .before .before .before .before .before .before .before .before .args .side) (c .before .before .before .before .before .before .before .before .before .before .before .before .before .before .before .before .before .before .before .before .before .before .before .args .a) (c .before .before .before .before .before .before .before .before .before .before .before .before .before .before .before .before .before .before .before .before .before .before .before .args .r) (c .before .before .before .before .before .before .before .before .before .before .before .before .before .before .before .before .before .before .before .before .before .before .before .args .k) (c .before .before .before .before .before .before .before .before .before .before .before .before .before .before .before .before .before .before .before .before .before .before .before .args .a) (c .before .before .before .before .before .before .before .before .before .before .before .before .before .before .before .before .before .before .before .before .before .before .before .args .z) _ _ _ _ _ (c .before .before .before .before .before .before .before .before .before .before .before .before .before .before .before .before .before .before .before .before .before .before .before .pre .0 .0) (c .before .before .before .before .before .before .before .before .before .before .before .before .before .before .before .before .before .before .before .before .before .before .before .pre .1 .1 .1) (c .before .before .before .before .before .before .before .before .before .before .before .before .before .before .before .before .before .before .before .before .before .before .before .pre .1 .1 .0) (c .before .before .before .before .before .before .before .before .before .before .before .before .before .before .before .before .before .before .before .before .before .before .before .pre .1 .1 .0) _ _ (c .before .before .before .before .before .before .before .before .before .before .before .before .before .before .before .before .before .before .queue-at .ensures) (c .before .before .before .before .before .before .before .before .before .before .before .before .before .before .before .before .before .places-at .ensures) (c .before .before .before .before .before .before .before .before .before .before .before .before .before .before .before .before .before .before .before .if1 .left) (sym (c .before .before .before .before .before .before .before .before .before .before .before .before .before .before .if2 .left) ∙ c .before .before .before .before .before .before .before .before .before .before .before .before .before .before .before .contains .ensures) in omega (arith, l, c .before .before .before .before .before .before .before .before .before .before .before .before .before .before .before .before .before .before .before .before .before .before .before .pre .0 .0 .fit .turfs)
 
 same-length-3 : tie.Need-same-length-3
 same-length-3 c = c .before .before .before .before .point .kept .1 .1 .1 .1 .0 ∙ simp length-set (c .before .before .before .before .before .before .before .before .before .insert .kept .1 .1 .1 .1 .0)
@@ -107,6 +119,7 @@ pass-link-spec =
     same-length
     returns-2
     add-wants
+    add-wants-2
     mul-wants
     slice-read-wants
     wants-requires
@@ -117,11 +130,12 @@ pass-link-spec =
     add-words
     add-words-2
     add-words-3
+    add-words-4
     mul-words
     slice-write-words
     add-point
     point-requires
-    add-t30
+    add-t31
     same-length-3
     same-length-4
     returns-4)

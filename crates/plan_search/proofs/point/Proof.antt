@@ -10,6 +10,9 @@ add-words c = search needs
 add-words-2 : tie.Need-add-words-2
 add-words-2 c = search needs
 
+add-words-3 : tie.Need-add-words-3
+add-words-3 c = search needs
+
 mul-words : tie.Need-mul-words
 mul-words c = search needs
 
@@ -21,6 +24,9 @@ add-reals c = search needs
 
 add-reals-2 : tie.Need-add-reals-2
 add-reals-2 c = search needs
+
+add-reals-3 : tie.Need-add-reals-3
+add-reals-3 c = search needs
 
 mul-reals : tie.Need-mul-reals
 mul-reals c = search needs
@@ -43,10 +49,12 @@ point-spec =
     (tie.spec
     add-words
     add-words-2
+    add-words-3
     mul-words
     slice-write-words
     add-reals
     add-reals-2
+    add-reals-3
     mul-reals
     slice-write-reals
     same-length

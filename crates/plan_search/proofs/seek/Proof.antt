@@ -10,6 +10,9 @@ use Rattle.plan_search.specs.Search.{AllMet, Idle}
 use Rattle.plan_search.proofs.Search.{Trail, trail-start, trail-next, trail-end, seen-below, turn-on, turn-settled, turn-end}
 use Rattle.plan_search.proofs.seek.Statement.{statement}
 use Rattle.plan_search.proofs.seek.Tie as tie
+use Rattle.index_set.proofs.queue_at.Reads as queue-at-reads
+use Rattle.plan_search.proofs.seek_turf.Reads as seek-turf-reads
+use Rattle.plan_search.proofs.settled.Reads as settled-reads
 
 abbrev Inv-loop : tie.InvT-loop
 Inv-loop side g starts neighbours z n e words₀ reals₀ queue count₀ first₀ looked₀ words reals count first looked =
@@ -28,6 +31,9 @@ loop-holds c = ((refl, refl), (trail-start _ (c .before .before .before .before 
 
 add-settled : tie.Need-add-settled Inv-loop μ-loop
 add-settled c = omega (arith, c .before .loop .inv .1 .0 .seeking .fit .words, c .before .loop .inv .1 .0 .seeking .fit .reals, c .before .loop .inv .1 .0 .seeking .fit .turfs, c .before .loop .inv .1 .0 .seeking .fit .links, c .before .loop .inv .1 .0 .seeking .line .few, c .before .before .queue-at .ensures, c .before .before .before .before .before .before .before .pre .1 .0 .0)
+
+add-settled-2 : tie.Need-add-settled-2 Inv-loop μ-loop
+add-settled-2 c = omega (arith, c .before .loop .inv .1 .0 .seeking .fit .words, c .before .loop .inv .1 .0 .seeking .fit .reals, c .before .loop .inv .1 .0 .seeking .fit .turfs, c .before .loop .inv .1 .0 .seeking .fit .links, c .before .loop .inv .1 .0 .seeking .line .few, c .before .before .queue-at .ensures, c .before .before .before .before .before .before .before .pre .1 .0 .0)
 
 mul-settled : tie.Need-mul-settled Inv-loop μ-loop
 mul-settled c = omega (arith, c .before .loop .inv .1 .0 .seeking .fit .words, c .before .loop .inv .1 .0 .seeking .fit .reals, c .before .loop .inv .1 .0 .seeking .fit .turfs, c .before .loop .inv .1 .0 .seeking .fit .links, c .before .loop .inv .1 .0 .seeking .line .few, c .before .before .queue-at .ensures, c .before .before .before .before .before .before .before .pre .1 .0 .0, c .before .loop .inv .0, c .before .before .before .before .before .before .before .good)
@@ -86,6 +92,7 @@ seek-spec =
     queue-at-requires
     loop-holds
     add-settled
+    add-settled-2
     mul-settled
     slice-read-settled
     settled-requires

@@ -6,6 +6,13 @@ use Rattle.plan_search.proofs.Seeks.{keeps-none, idle-none, link-foreig
 use borrow.Author.Needs.{needs}
 use Rattle.plan_search.proofs.seek_link.Statement.{statement}
 use Rattle.plan_search.proofs.seek_link.Tie as tie
+use Rattle.index_set.proofs.contains.Reads as contains-reads
+use Rattle.index_set.proofs.insert.Reads as insert-reads
+use Rattle.index_set.proofs.places_at.Reads as places-at-reads
+use Rattle.index_set.proofs.queue_at.Reads as queue-at-reads
+use Rattle.plan_search.proofs.first_traded.Reads as first-traded-reads
+use Rattle.plan_search.proofs.meet.Reads as meet-reads
+use Rattle.plan_search.proofs.settles.Reads as settles-reads
 
 mul-if1 : tie.Need-mul-if1
 mul-if1 c = search needs
@@ -49,6 +56,9 @@ add-words-2 c = search needs
 add-words-3 : tie.Need-add-words-3
 add-words-3 c = search needs
 
+add-words-4 : tie.Need-add-words-4
+add-words-4 c = search needs
+
 mul-words : tie.Need-mul-words
 mul-words c = search needs
 
@@ -66,6 +76,9 @@ first-traded-requires c κs = search needs
 
 add-settles : tie.Need-add-settles
 add-settles c = search needs
+
+add-settles-2 : tie.Need-add-settles-2
+add-settles-2 c = search needs
 
 mul-settles : tie.Need-mul-settles
 mul-settles c = search needs
@@ -103,12 +116,14 @@ seek-link-spec =
     add-words
     add-words-2
     add-words-3
+    add-words-4
     mul-words
     slice-write-words
     meet-requires
     add-t17
     first-traded-requires
     add-settles
+    add-settles-2
     mul-settles
     slice-read-settles
     settles-requires
