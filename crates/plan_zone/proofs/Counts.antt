@@ -45,7 +45,7 @@ chosen-all (x ∷ xs) s =
     go false ys zs h = omega arith
 
 module _ {n e first count : ℕ} {w : List ℕ} {f : List Float} (h : Nodes n e first count (area w f)) (i c : ℕ) where
-  pub count-next : i < count → (c′ : ℕ) → c′ ≡ cond (picks Giving (getD f (e + getD w (first + i) 0) nan)) (c + 1) c
+  pub count-next : i < count → (c′ : ℕ) → c′ ≡ cond (picks Giving (getD f (e + getD w (first + i) 0 + getD w (first + i) 0) nan)) (c + 1) c
       → c + length (keep (λ r. picks Giving (getD (view n e (area w f) .plan .delta) r nan)) (drop i (nodesOf n e (view n e (area w f)) first count)))
       ≡ c′ + length (keep (λ r. picks Giving (getD (view n e (area w f) .plan .delta) r nan)) (drop (i + 1) (nodesOf n e (view n e (area w f)) first count)))
   count-next l c′ ec =

@@ -57,8 +57,8 @@ module _ {n e : ℕ} (p : ℕ → Bool) (xs : List ℕ) {k i : ℕ} {a : Area} {
     unfolding view
     picking-yes t r er =
         let v : View = view n e (area w f) in
-        let u = ap (λ ws. viewIn ws (cut (rsizes n e) f)) (cut-set (wsizes n e) w 7 k r (list + k) (omega arith) hk (omega (arith, el))) in
-        let long : length (v .list) ≡ n = cut-length (wsizes n e) w 7 (omega arith) (omega (arith, b .fit .words)) in
+        let u = ap (λ ws. viewIn ws (cut (rsizes n e) f)) (cut-set (wsizes n e) w 6 k r (list + k) (omega arith) hk (omega (arith, el))) in
+        let long : length (v .list) ≡ n = cut-length (wsizes n e) w 6 (omega arith) (omega (arith, b .fit .words)) in
         let rest : List ℕ = keep p (drop (i + 1) xs) in
         record {
           fit = record { words = simp length-set (b .fit .words); reals = b .fit .reals; turfs = b .fit .turfs; links = b .fit .links };
@@ -110,7 +110,7 @@ module _ {n e first count k i : ℕ} {w₀ w : List ℕ} {f : List Float} (h : N
   pub pick-below : getD w (first + i) 0 < n
   pick-below = node-below now i l
 
-  pub pick-test : picks side (getD (view n e (area w₀ f) .plan .delta) (getD (nodesOf n e (view n e (area w₀ f)) first count) i 0) nan) ≡ picks side (getD f (e + getD w (first + i) 0) nan)
+  pub pick-test : picks side (getD (view n e (area w₀ f) .plan .delta) (getD (nodesOf n e (view n e (area w₀ f)) first count) i 0) nan) ≡ picks side (getD f (e + getD w (first + i) 0 + getD w (first + i) 0) nan)
   pick-test =
       sym (ap (picks side) (delta-at n e (getD w (first + i) 0) w f pick-below)
       ∙ ap (λ (s : Plan). picks side (getD (s .delta) (getD w (first + i) 0) nan)) (b .plan)
@@ -143,7 +143,7 @@ module _ {n e count : ℕ} {h h₀ : List ℕ → Plan → Plan} {a : Area} {w :
     (t : Along n e h h₀ a (area w f)) (at : ℕ) (ea : at ≡ e + e + n + n + n + n + n) (i : ℕ) where
   list-long : length (view n e (area w f) .list) ≡ n
   unfolding view
-  list-long = cut-length (wsizes n e) w 7 (omega arith) (omega (arith, t .fit .words))
+  list-long = cut-length (wsizes n e) w 6 (omega arith) (omega (arith, t .fit .words))
 
   long : length (take count (view n e a .list)) ≡ count
   long = length-take-le count (view n e a .list) (omega (arith, list-long, ap length (t .list)))

@@ -33,11 +33,11 @@ fn picks(side: Side, x: f32) -> bool
 
 // One more, if the turf r gives.
 fn count_one(r: u32, c: usize, e: usize, reals: &[f32]) -> usize
-    requires { ⌜ (e + r < length (now reals)) × (c < 4096) ⌝ }
-    ensures { λ k. ⌜ k ≡ cond (picks Giving (getD (now (reals .entry)) (e + r) nan)) (c + 1) c ⌝ }
+    requires { ⌜ (e + r + r < length (now reals)) × (c < 4096) ⌝ }
+    ensures { λ k. ⌜ k ≡ cond (picks Giving (getD (now (reals .entry)) (e + r + r) nan)) (c + 1) c ⌝ }
 {
     let row = r as usize;
-    if picks(Side::Giving, reals[e + row]) {
+    if picks(Side::Giving, reals[e + row + row]) {
         c + 1
     } else {
         c
@@ -83,11 +83,11 @@ fn choose(
     words: &mut [u32],
     reals: &[f32],
 ) -> usize
-    requires { ⌜ (list + c < length (now words)) × ((e + r < length (now reals)) × (c < 4096)) ⌝ }
-    ensures { λ k. ⌜ (k ≡ cond (picks side (getD (now (reals .entry)) (e + r) nan)) (c + 1) c) × (now (words .exit) ≡ cond (picks side (getD (now (reals .entry)) (e + r) nan)) (set (now (words .entry)) (list + c) r) (now (words .entry))) ⌝ }
+    requires { ⌜ (list + c < length (now words)) × ((e + r + r < length (now reals)) × (c < 4096)) ⌝ }
+    ensures { λ k. ⌜ (k ≡ cond (picks side (getD (now (reals .entry)) (e + r + r) nan)) (c + 1) c) × (now (words .exit) ≡ cond (picks side (getD (now (reals .entry)) (e + r + r) nan)) (set (now (words .entry)) (list + c) r) (now (words .entry))) ⌝ }
 {
     let row = r as usize;
-    if picks(side, reals[e + row]) {
+    if picks(side, reals[e + row + row]) {
         words[list + c] = r;
         return c + 1;
     }

@@ -7,6 +7,9 @@ use Rattle.plan_zone.proofs.choose.Tie as tie
 add-picks : tie.Need-add-picks
 add-picks c = search needs
 
+add-picks-2 : tie.Need-add-picks-2
+add-picks-2 c = search needs
+
 mul-picks : tie.Need-mul-picks
 mul-picks c = search needs
 
@@ -42,6 +45,7 @@ choose-spec =
     tie.close
     (tie.spec
     add-picks
+    add-picks-2
     mul-picks
     shared-slice-read-picks
     picks-requires

@@ -44,7 +44,7 @@ loop-less : tie.Need-loop-less Inv-loop μ-loop
 loop-less c = omega arith
 
 loop-again : tie.Need-loop-again Inv-loop μ-loop
-loop-again c = ((omega arith, omega (arith, c .before .before .before .loop .inv .0, c .count-one .ensures, cond-le (picks Giving (getD (c .before .before .before .before .before .before .args .reals .now) (c .before .before .before .before .before .before .args .e + getD (c .before .before .before .before .before .before .args .words .now) (c .before .before .before .before .before .before .args .first + c .before .before .before .loop .i) 0) nan)) (c .before .before .before .loop .c))), sym (count-next (c .before .before .before .before .before .before .pre .1 .0) _ _ (c .before .before .loop-test .taken) _ (c .count-one .ensures)) ∙ c .before .before .before .loop .inv .1)
+loop-again c = ((omega arith, omega (arith, c .before .before .before .loop .inv .0, c .count-one .ensures, cond-le (picks Giving (getD (c .before .before .before .before .before .before .args .reals .now) (c .before .before .before .before .before .before .args .e + getD (c .before .before .before .before .before .before .args .words .now) (c .before .before .before .before .before .before .args .first + c .before .before .before .loop .i) 0 + getD (c .before .before .before .before .before .before .args .words .now) (c .before .before .before .before .before .before .args .first + c .before .before .before .loop .i) 0) nan)) (c .before .before .before .loop .c))), sym (count-next (c .before .before .before .before .before .before .pre .1 .0) _ _ (c .before .before .loop-test .taken) _ (c .count-one .ensures)) ∙ c .before .before .before .loop .inv .1)
 
 returns : tie.Need-returns Inv-loop μ-loop
 returns c = sym (count-end (c .before .before .before .before .pre .1 .0) _ _ (c .loop-test .left)) ∙ c .before .loop .inv .1
