@@ -1,9 +1,7 @@
--- What a caller hands over and gets: the zones of a fill are such as planning asks for, the arrays that planning leaves are the same, and the plan is the whole board's.
--- Assumes nothing.
+-- What a caller hands over and gets: the zones of a fill are such as planning asks for, and the plan is the whole board's. Assumes nothing.
 use Prim.Native.Nat.{ℕ, _+_, _-_, _≤_, _<_}
 use native.Mathlib.Omega.{arith}
 use mathlib.Core.Path.{_≡_, ap, ap₂, _∙_, sym, subst}
-use mathlib.Core.Logic.{inl, inr}
 use mathlib.Core.List.{List, map}
 use lib.ListN.{length, take, drop, length-drop, length-map}
 use lib.Seq.{length-take-le}
@@ -12,7 +10,6 @@ use Rattle.basics.specs.Loops.{run, upFrom}
 use Rattle.basics.specs.Regions.{region}
 use Rattle.basics.proofs.Lists.{upFrom-length}
 use Rattle.basics.proofs.Regions.{cut-length}
-use Rattle.basics.proofs.Parts.{drop-alike}
 use Rattle.turfs.specs.Board.{Board, turfCount, linkCount}
 use Rattle.turfs.proofs.Line.{Line, line-short}
 use Rattle.index_set.specs.Line.{Below}
@@ -21,12 +18,10 @@ use Rattle.flood_fill.specs.Held.{sizes, nodesAt}
 use Rattle.process_zone.specs.Plan.{planZone}
 use Rattle.finalize_eq.specs.Turns.{Zone, zoneAt}
 use Rattle.equalize.specs.Equalize.{Filled, planAll}
-use Rattle.plan_state.specs.Held.{area, view, top}
+use Rattle.plan_state.specs.Held.{area, view}
 use Rattle.plan_zone.proofs.Whole.{tablesOf}
-use Rattle.fill_all.specs.Held.{floatSizes}
 use Rattle.plan_all.specs.Zones.{zoneOf, startOf, filledOf, Room, Zoned, blank, PlansAll}
-use Rattle.plan_all.proofs.Zones.{region-same}
-use Rattle.plan_all.proofs.Plans.{reals-rest, zone-is, plan-all-board}
+use Rattle.plan_all.proofs.Plans.{zone-is, plan-all-board}
 
 -- ---- before
 
@@ -60,36 +55,6 @@ zoned-of b {e} {zones} {w} {f} zs r few same rise has =
     }
 
 -- ---- afterwards
-
--- the arrays that planning leaves, and every word from the top of those that it works with on
-pub record Stays (n e : ℕ) (w w′ : List ℕ) (f f′ : List Float) : Type 0 where
-  pub owner : region (sizes n e) 0 w′ ≡ region (sizes n e) 0 w
-  pub found : region (sizes n e) 8 w′ ≡ region (sizes n e) 8 w
-  pub cursor : region (sizes n e) 9 w′ ≡ region (sizes n e) 9 w
-  pub live : region (sizes n e) 10 w′ ≡ region (sizes n e) 10 w
-  pub starts : region (sizes n e) 11 w′ ≡ region (sizes n e) 11 w
-  pub nodes : region (sizes n e) 12 w′ ≡ region (sizes n e) 12 w
-  pub more : drop (top n e) w′ ≡ drop (top n e) w
-  pub lifted : region (floatSizes n e) 3 f′ ≡ region (floatSizes n e) 3 f
-  pub moles : region (floatSizes n e) 4 f′ ≡ region (floatSizes n e) 4 f
-
-pub all-stays : {n e zones : ℕ} {b : Board} {gas : List Float} {w w′ : List ℕ} {f f′ : List Float} → nodesAt n e + n + e ≤ length w
-    → PlansAll n e zones b gas w w′ f f′ → Stays n e w w′ f f′
-unfolding view
-all-stays {n} {e} {w = w} {w′} {f} {f′} room p = record {
-  owner = region-same n e 0 (p .words) (omega arith) (omega (arith, room)) (λ i l k. inl (omega (arith, k)));
-  found = region-same n e 8 (p .words) (omega arith) (omega (arith, room)) (λ i l k. inr (omega (arith, l)));
-  cursor = region-same n e 9 (p .words) (omega arith) (omega (arith, room)) (λ i l k. inr (omega (arith, l)));
-  live = region-same n e 10 (p .words) (omega arith) (omega (arith, room)) (λ i l k. inr (omega (arith, l)));
-  starts = region-same n e 11 (p .words) (omega arith) (omega (arith, room)) (λ i l k. inr (omega (arith, l)));
-  nodes = region-same n e 12 (p .words) (omega arith) (omega (arith, room)) (λ i l k. inr (omega (arith, l)));
-  more = drop-alike (top n e) w′ w (p .words .len) (λ i l. p .words .same i (inr l));
-  lifted = ap (take e) rest;
-  moles = ap (λ (r : List Float). take n (drop e r)) rest;
-}
-  where
-    rest : drop n (drop n (drop e f′)) ≡ drop n (drop n (drop e f))
-    rest = reals-rest n e (area w′ f′) ∙ p .reals .1 ∙ sym (reals-rest n e (area w f))
 
 -- the plan of the whole board, of what filling came to
 pub planned-filled : (b : Board) (s : Filled) {zones : ℕ} {gas : List Float} {w w′ : List ℕ} {f f′ : List Float}

@@ -22,6 +22,8 @@ use Rattle.equalize.specs.Equalize.{Filled, planAll}
 use Rattle.reverse_links.specs.Reverse.{Reverses}
 use Rattle.reverse_links.specs.Words.{Outside, But}
 use Rattle.plan_state.specs.Held.{Area, area, wsizes, rsizes, viewIn, View, view, Fit, Frame, top, nodesOf}
+use Rattle.plan_state.specs.Pairs.{firsts, seconds}
+use Rattle.plan_state.proofs.Pairs.{firsts-all, seconds-all}
 use Rattle.plan_state.proofs.Stores.{frame-none, frame-then, owner-at}
 use Rattle.plan_state.proofs.Nodes.{rest-is}
 use Rattle.plan_zone.specs.Zone.{Plans}
@@ -36,27 +38,28 @@ use Rattle.plan_all.proofs.Zones.{Alike, zone-alike, zoned-alike, alike
 pub reals-rest : (n e : ℕ) (a : Area) → view n e a .restR ≡ drop (e + n + n) (a .reals)
 unfolding view
 reals-rest n e a =
-    let k : e + (n + (n + 0)) ≡ e + n + n = omega arith in
+    let k : e + (n + n + 0) ≡ e + n + n = omega arith in
     cut-rest (rsizes n e) (a .reals) ∙ ap (λ (m : ℕ). drop m (a .reals)) k
 
 pub blanked : {n e : ℕ} {w : List ℕ} {f : List Float} (w₁ w₂ : List ℕ) (f′ : List Float) → Fit n e (area w f)
-    → w₁ ≡ take (e + e) w ++ (replicate n 0 ++ drop n (drop (e + e) w))
+    → w₁ ≡ take (e + e) w ++ (replicate (n + n) 0 ++ drop (n + n) (drop (e + e) w))
     → w₂ ≡ take (e + e + n + n) w₁ ++ (replicate n 0 ++ drop n (drop (e + e + n + n) w₁))
     → f′ ≡ replicate (e + n + n) 0f ++ drop (e + n + n) f
     → length w₂ ≡ length w → length w₁ ≡ length w → length f′ ≡ length f → Blanks n e (area w f) (area w₂ f′)
 unfolding view
 blanked {n} {e} {w} {f} w₁ w₂ f′ h q₁ q₂ q l₂ l₁ l =
-    let c₁ : cut (wsizes n e) w₁ ≡ set (cut (wsizes n e) w) 2 (replicate n 0) =
-    ap (cut (wsizes n e)) q₁ ∙ cut-part (wsizes n e) w 2 (replicate n 0) (e + e) n (omega arith) (omega (arith, h .words)) (omega arith) refl (length-replicate {A = ℕ} n 0) in
-    let c₂ : cut (wsizes n e) w₂ ≡ set (set (cut (wsizes n e) w) 2 (replicate n 0)) 4 (replicate n 0) =
+    let c₁ : cut (wsizes n e) w₁ ≡ set (cut (wsizes n e) w) 2 (replicate (n + n) 0) =
+    ap (cut (wsizes n e)) q₁
+    ∙ cut-part (wsizes n e) w 2 (replicate (n + n) 0) (e + e) (n + n) (omega arith) (omega (arith, h .words)) (omega arith) refl (length-replicate {A = ℕ} (n + n) 0) in
+    let c₂ : cut (wsizes n e) w₂ ≡ set (set (cut (wsizes n e) w) 2 (replicate (n + n) 0)) 3 (replicate n 0) =
     ap (cut (wsizes n e)) q₂
-    ∙ cut-part (wsizes n e) w₁ 4 (replicate n 0) (e + e + n + n) n (omega arith) (omega (arith, h .words, l₁)) (omega arith) refl (length-replicate {A = ℕ} n 0)
-    ∙ ap (λ (x : List (List ℕ)). set x 4 (replicate n 0)) c₁ in
+    ∙ cut-part (wsizes n e) w₁ 3 (replicate n 0) (e + e + n + n) n (omega arith) (omega (arith, h .words, l₁)) (omega arith) refl (length-replicate {A = ℕ} n 0)
+    ∙ ap (λ (x : List (List ℕ)). set x 3 (replicate n 0)) c₁ in
     let k : e + n + n ≡ base (rsizes n e) (length (rsizes n e)) = omega arith in
-    let t : drop (e + n + n) f ≡ drop n (drop n (drop e f)) = sym (reals-rest n e (area w f)) in
-    let c : cut (rsizes n e) f′ ≡ replicate e 0f ∷ replicate n 0f ∷ replicate n 0f ∷ drop n (drop n (drop e f)) ∷ [] =
-    ap (cut (rsizes n e)) (q ∙ ap₂ (λ (m : ℕ) (x : List Float). replicate m 0f ++ x) k t) ∙ cut-clear 0f (rsizes n e) (drop n (drop n (drop e f))) in
-    let v : view n e (area w₂ f′) ≡ viewIn (set (set (cut (wsizes n e) w) 2 (replicate n 0)) 4 (replicate n 0)) (replicate e 0f ∷ replicate n 0f ∷ replicate n 0f ∷ drop n (drop n (drop e f)) ∷ []) =
+    let t : drop (e + n + n) f ≡ drop (n + n) (drop e f) = sym (reals-rest n e (area w f)) in
+    let c : cut (rsizes n e) f′ ≡ replicate e 0f ∷ replicate (n + n) 0f ∷ drop (n + n) (drop e f) ∷ [] =
+    ap (cut (rsizes n e)) (q ∙ ap₂ (λ (m : ℕ) (x : List Float). replicate m 0f ++ x) k t) ∙ cut-clear 0f (rsizes n e) (drop (n + n) (drop e f)) in
+    let v : view n e (area w₂ f′) ≡ viewIn (set (set (cut (wsizes n e) w) 2 (replicate (n + n) 0)) 3 (replicate n 0)) (replicate e 0f ∷ replicate (n + n) 0f ∷ drop (n + n) (drop e f) ∷ []) =
     ap₂ viewIn c₂ c in
     record {
       fit = record { words = omega (arith, h .words, l₂); reals = omega (arith, h .reals, l); turfs = h .turfs; links = h .links };
@@ -66,8 +69,12 @@ blanked {n} {e} {w} {f} w₁ w₂ f′ h q₁ q₂ q l₂ l₁ l =
         restW = ap (λ (x : View). x .restW) v;
         restR = ap (λ (x : View). x .restR) v;
       };
-      plan = ap (λ (x : View). x .plan) v;
+      plan = ap (λ (x : View). x .plan) v ∙ halves n e;
     }
+  where
+    -- pairs of zeros are zeros
+    halves : (n e : ℕ) → record { weight = replicate e 0f; delta = firsts (replicate (n + n) 0f); amount = seconds (replicate (n + n) 0f); direction = firsts (replicate (n + n) 0); fast = replicate n 0 } ≡ blank n e
+    halves n e = rw (firsts-all n (n + n) 0f refl, seconds-all n (n + n) 0f refl, firsts-all {A = ℕ} n (n + n) 0 refl) refl
 
 -- ---- one zone
 

@@ -7,13 +7,14 @@ use lib.ListN.{length, getD, take, drop}
 use lib.Seq.{drop-drop}
 use lib.Ieee.{Float, nan}
 use Rattle.basics.specs.Regions.{region, base}
-use Rattle.basics.proofs.Regions.{cut-get, region-part}
+use Rattle.basics.proofs.Regions.{cut-get, region-part, later-same}
 use Rattle.basics.proofs.Parts.{part-alike, take-in}
 use Rattle.index_set.specs.Line.{Below}
 use Rattle.flood_fill.specs.Held.{sizes, startsAt, nodesAt}
 use Rattle.finalize_eq.specs.Turns.{Zone}
 use Rattle.reverse_links.specs.Words.{Outside, But}
-use Rattle.plan_state.specs.Held.{Area, area, view, Fit, Frame, top, Nodes, nodesOf}
+use Rattle.plan_state.specs.Held.{Area, area, wsizes, rsizes, view, Fit, Frame, top, Nodes, nodesOf}
+use Rattle.plan_state.proofs.Nodes.{rest-is}
 use Rattle.fill_all.specs.Held.{floatSizes, molesAt, zoneIn}
 use Rattle.plan_all.specs.Zones.{zoneOf, startOf, Room, Ready, Zoned}
 
@@ -49,13 +50,19 @@ module _ {n e : ℕ} {w w′ : List ℕ} {f f′ : List Float} (h : Alike n e w 
 pub alike-then : {n e : ℕ} {w w′ w″ : List ℕ} {f f′ f″ : List Float} → Alike n e w w′ f f′ → Alike n e w′ w″ f′ f″ → Alike n e w w″ f f″
 alike-then a b = record { starts = b .starts ∙ a .starts; nodes = b .nodes ∙ a .nodes; moles = b .moles ∙ a .moles }
 
+-- an array past those that planning has is as it was where all past them is
+region-later : {A : Type 0} (own all : List ℕ) (k : ℕ) (w w′ : List A) → k < length all → base own (length own) ≤ base all k
+    → region own (length own) w′ ≡ region own (length own) w → region all k w′ ≡ region all k w
+region-later own all k w w′ h l e =
+    region-part all w′ k h ∙ ap (take (getD all k 0)) (later-same own (base all k) w w′ l e) ∙ sym (region-part all w k h)
+
 -- planning leaves the zones
 pub frame-alike : {n e : ℕ} {a a′ : Area} → Frame n e a a′ → Alike n e (a .words) (a′ .words) (a .reals) (a′ .reals)
 unfolding view
-frame-alike {n} {e} fr = record {
-  starts = ap (λ (r : List ℕ). take (n + 1) (drop n (drop n (drop n r)))) (fr .restW);
-  nodes = ap (λ (r : List ℕ). take (n + e) (drop (n + 1) (drop n (drop n (drop n r))))) (fr .restW);
-  moles = ap (λ (r : List Float). take n (drop e r)) (fr .restR);
+frame-alike {n} {e} {a} {a′} fr = record {
+  starts = region-later (wsizes n e) (sizes n e) 11 (a .words) (a′ .words) (omega arith) (omega arith) (fr .restW);
+  nodes = region-later (wsizes n e) (sizes n e) 12 (a .words) (a′ .words) (omega arith) (omega arith) (fr .restW);
+  moles = region-later (rsizes n e) (floatSizes n e) 4 (a .reals) (a′ .reals) (omega arith) (omega arith) (fr .restR);
 }
 
 -- ---- a part beside the changed one
@@ -88,20 +95,21 @@ module _ (n e z : ℕ) (w : List ℕ) (f : List Float) (h : z < n) where
   -- the nodes as planning takes them
   pub nodes-are : startOf n e w z ≤ startOf n e w (z + 1) → startOf n e w (z + 1) ≤ n + e
       → nodesOf n e (view n e (area w f)) (nodesAt n e + startOf n e w z) (startOf n e w (z + 1) - startOf n e w z) ≡ zoneOf n e w f z .nodes
-  unfolding view
   nodes-are up low =
-      nodes-in (view n e (area w f) .restW) (startOf n e w z) (startOf n e w (z + 1) - startOf n e w z) (omega (arith, up, low))
+      nodes-in (startOf n e w z) (startOf n e w (z + 1) - startOf n e w z) (omega (arith, up, low))
     where
-      nodes-in : (r : List ℕ) (s c : ℕ) → s + c ≤ n + e
-          → take c (drop (nodesAt n e + s - top n e) r) ≡ take c (drop s (take (n + e) (drop (n + 1) (drop n (drop n (drop n r))))))
-      nodes-in r s c l =
-          let k : nodesAt n e + s - top n e ≡ n + n + n + (n + 1) + s = omega arith in
-          ap (λ (m : ℕ). take c (drop m r)) k
-          ∙ ap (take c) (sym (drop-drop s (n + n + n + (n + 1)) r))
-          ∙ ap (λ (x : List ℕ). take c (drop s x)) (sym (drop-drop (n + 1) (n + n + n) r))
-          ∙ ap (λ (x : List ℕ). take c (drop s (drop (n + 1) x))) (sym (drop-drop n (n + n) r))
-          ∙ ap (λ (x : List ℕ). take c (drop s (drop (n + 1) (drop n x)))) (sym (drop-drop n n r))
-          ∙ sym (take-in (drop (n + 1) (drop n (drop n (drop n r)))) s c (n + e) l)
+      nodes-in : (s c : ℕ) → s + c ≤ n + e
+          → take c (drop (nodesAt n e + s - top n e) (view n e (area w f) .restW)) ≡ take c (drop s (region (sizes n e) 12 w))
+      nodes-in s c l =
+          let k : top n e + (nodesAt n e + s - top n e) ≡ nodesAt n e + s = omega arith in
+          let at : base (sizes n e) 12 ≡ nodesAt n e = omega arith in
+          ap (λ (r : List ℕ). take c (drop (nodesAt n e + s - top n e) r)) (rest-is n e (area w f))
+          ∙ ap (take c) (drop-drop (nodesAt n e + s - top n e) (top n e) w)
+          ∙ ap (λ (m : ℕ). take c (drop m w)) k
+          ∙ ap (take c) (sym (drop-drop s (nodesAt n e) w))
+          ∙ sym (take-in (drop (nodesAt n e) w) s c (n + e) l)
+          ∙ ap (λ (m : ℕ). take c (drop s (take (n + e) (drop m w)))) (sym at)
+          ∙ ap (λ (x : List ℕ). take c (drop s x)) (sym (region-part (sizes n e) w 12 (omega arith)))
 
 pub room-fit : {n e : ℕ} {w : List ℕ} {f : List Float} → Room n e w f → Fit n e (area w f)
 room-fit r = record { words = omega (arith, r .words); reals = omega (arith, r .reals); turfs = r .sizes .turfs; links = r .sizes .links }

@@ -15,9 +15,9 @@ fn clear_plan(n: usize, e: usize, words: &mut [u32], reals: &mut [f32])
     requires { ⌜ Fit n e (area (now words) (now reals)) ⌝ }
     ensures { λ _. ⌜ Blanks n e (area (now (words .entry)) (now (reals .entry))) (area (now (words .exit)) (now (reals .exit))) ⌝ }
 {
-    let direction = e + e;
-    basics::clear_part(words, direction, n);
-    basics::clear_part(words, direction + n + n, n);
+    let pairs = e + e;
+    basics::clear_part(words, pairs, n + n);
+    basics::clear_part(words, pairs + n + n, n);
     basics::clear_floats(reals, e + n + n);
 }
 

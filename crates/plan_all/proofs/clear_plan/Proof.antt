@@ -4,18 +4,23 @@ use Rattle.plan_all.proofs.Plans.{blanked}
 use borrow.Author.Needs.{needs}
 use Rattle.plan_all.proofs.clear_plan.Statement.{statement}
 use Rattle.plan_all.proofs.clear_plan.Tie as tie
+use Rattle.basics.proofs.clear_floats.Reads as clear-floats-reads
+use Rattle.basics.proofs.clear_part.Reads as clear-part-reads
 
-add-direction : tie.Need-add-direction
-add-direction c = search needs
-
-clear-part-requires : tie.Need-clear-part-requires
-clear-part-requires c κs = search needs
+add-pairs : tie.Need-add-pairs
+add-pairs c = search needs
 
 add-clear-part : tie.Need-add-clear-part
 add-clear-part c = search needs
 
+clear-part-requires : tie.Need-clear-part-requires
+clear-part-requires c κs = search needs
+
 add-clear-part-2 : tie.Need-add-clear-part-2
 add-clear-part-2 c = search needs
+
+add-clear-part-3 : tie.Need-add-clear-part-3
+add-clear-part-3 c = search needs
 
 clear-part-requires-2 : tie.Need-clear-part-requires-2
 clear-part-requires-2 c κs = search needs
@@ -42,10 +47,11 @@ pub clear-plan-spec : {M : Type 1} → statement M
 clear-plan-spec =
     tie.close
     (tie.spec
-    add-direction
-    clear-part-requires
+    add-pairs
     add-clear-part
+    clear-part-requires
     add-clear-part-2
+    add-clear-part-3
     clear-part-requires-2
     add-clear-floats
     add-clear-floats-2
