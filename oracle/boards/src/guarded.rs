@@ -7,31 +7,41 @@ use crate::{Board, Case, Outcome};
 pub struct Guarded<T> {
     cells: Vec<T>,
     canary: T,
+    from: usize,
+    len: usize,
 }
 
 const GUARD: usize = 16;
 
 impl<T: Copy + PartialEq> Guarded<T> {
     pub fn new(area: &[T], canary: T) -> Self {
-        let guard = vec![canary; GUARD];
-        Self { cells: [&guard[..], area, &guard[..]].concat(), canary }
+        Self::roomy(area, canary, 0)
+    }
+    /// One that can be moved by so many cells.
+    pub fn roomy(area: &[T], canary: T, spare: usize) -> Self {
+        let cells = [&vec![canary; GUARD], area, &vec![canary; GUARD + spare]].concat();
+        Self { cells, canary, from: GUARD, len: area.len() }
+    }
+    /// Starts so many cells later than at first; what it holds is whatever stands there.
+    pub fn move_to(&mut self, later: usize) {
+        self.from = GUARD + later;
+        assert!(self.from + self.len + GUARD <= self.cells.len());
     }
     pub fn len(&self) -> usize {
-        self.cells.len() - 2 * GUARD
+        self.len
     }
     pub fn start(&mut self) -> *mut T {
-        self.cells[GUARD..].as_mut_ptr()
+        self.cells[self.from..].as_mut_ptr()
     }
     /// The area, to be lent again with other cells.
     pub fn area(&mut self) -> &mut [T] {
-        let end = self.cells.len() - GUARD;
-        &mut self.cells[GUARD..end]
+        &mut self.cells[self.from..self.from + self.len]
     }
     /// The area; `None` where a canary died.
     pub fn take(self) -> Option<Vec<T>> {
-        let end = self.cells.len() - GUARD;
-        let alive = self.cells[..GUARD].iter().chain(&self.cells[end..]).all(|&cell| cell == self.canary);
-        alive.then(|| self.cells[GUARD..end].to_vec())
+        let end = self.from + self.len;
+        let alive = self.cells[..self.from].iter().chain(&self.cells[end..]).all(|&cell| cell == self.canary);
+        alive.then(|| self.cells[self.from..end].to_vec())
     }
 }
 
@@ -51,11 +61,15 @@ fn from_bits(bits: Vec<u32>) -> Vec<f32> {
 impl Lent {
     /// What a case lends, and an answer of so many numbers.
     pub fn new(case: &Case, numbers: usize) -> Self {
+        Self::roomy(case, numbers, 0)
+    }
+    /// The same with scratch that can be moved by so many cells.
+    pub fn roomy(case: &Case, numbers: usize, spare: usize) -> Self {
         Self {
             amounts: Guarded::new(&bits(&case.board.amounts), 0xdead_0001),
             events: Guarded::new(&case.events, 0xa5),
-            words: Guarded::new(&case.words, 0xdead_0002),
-            floats: Guarded::new(&bits(&case.floats), 0xdead_0003),
+            words: Guarded::roomy(&case.words, 0xdead_0002, spare),
+            floats: Guarded::roomy(&bits(&case.floats), 0xdead_0003, spare),
             answer: Guarded::new(&vec![0x5eed; numbers], 0xdead_0004),
         }
     }

@@ -2,7 +2,7 @@
 //! grows with.
 
 use crate::picture::{Family, Point};
-use crate::{Host, outcome};
+use crate::{Host, PAGE, outcome};
 use boards::bench::sized;
 use boards::clock::{own, wall};
 use boards::{Board, Call, Case};
@@ -62,13 +62,40 @@ fn both(case: &Case, seconds: Duration) -> (Duration, Duration) {
     (text, ours)
 }
 
-/// The boards that speed is measured on, so long each. Both sides must answer alike.
-pub fn table(seconds: Duration) {
+/// The boards that speed is measured on whose name has this part in it, so long each. Both sides must answer alike.
+pub fn table(seconds: Duration, part: &str) {
     println!("{}\n\n| board | text, ns | library, ns | times as fast |\n|---|--:|--:|--:|", heading());
-    for (name, case) in boards::bench::boards() {
+    for (name, case) in boards::bench::boards().into_iter().filter(|(name, _)| name.contains(part)) {
         assert_eq!(outcome(&case), Ok(filled::play::outcome(&case)), "{name}");
         let (text, ours) = both(&case, seconds);
         println!("| {name} | {} | {} | {:.1} |", text.as_nanos(), ours.as_nanos(), text.as_secs_f64() / ours.as_secs_f64());
+    }
+}
+
+/// Where the scratch may start within a page, by steps of 16 bytes, as an allocator gives it: first the words, then the floats.
+fn placements() -> Vec<[usize; 2]> {
+    let steps = || (0..PAGE).step_by(4);
+    steps().map(|later| [later, 0]).chain(steps().map(|later| [0, later])).collect()
+}
+
+/// The boards whose name has this part in it, so long each: the text's least time, and the library's least at each placement, in turns. What
+/// is printed is the best placement and the worst.
+pub fn places(seconds: Duration, part: &str) {
+    println!("{}\n\n| board | text, ns | library, best placement, ns | worst, ns | times as fast at the worst |\n|---|--:|--:|--:|--:|", heading());
+    for (name, case) in boards::bench::boards().into_iter().filter(|(name, _)| name.contains(part)) {
+        let (Call::Equalize(ask), mut host) = (&case.call, host(&case)) else { panic!("a case of equalize") };
+        let once = host.time(own);
+        let (clock, row) = (clock(once), (2_000_000 / (once.as_nanos() + 1)).clamp(1, 50) as u32);
+        let mut at = placements().into_iter().map(|place| (place, Duration::MAX)).collect::<Vec<_>>();
+        let text = least(seconds, || {
+            for (place, least) in &mut at {
+                host.place(*place);
+                *least = (0..row).map(|_| host.time(clock)).fold(*least, Duration::min);
+            }
+            filled::play::time_equalize(&case.board, ask, row, clock)
+        });
+        let (best, worst) = (at.iter().map(|at| at.1).min().unwrap_or_default(), at.iter().map(|at| at.1).max().unwrap_or_default());
+        println!("| {name} | {} | {} | {} | {:.1} |", text.as_nanos(), best.as_nanos(), worst.as_nanos(), text.as_secs_f64() / worst.as_secs_f64());
     }
 }
 

@@ -46,6 +46,9 @@ pub fn outcome(case: &Case) -> Result<Outcome, &'static str> {
     lent.outcome(number, &board, case)
 }
 
+/// How many cells of scratch a page of memory has.
+pub const PAGE: usize = 1_024;
+
 /// A host that calls `katmos_equalize` again and again, with the same gas each time.
 pub struct Host<'a> {
     board: &'a Board,
@@ -58,7 +61,12 @@ impl<'a> Host<'a> {
     /// For a case of equalize.
     pub fn new(case: &'a Case) -> Option<Self> {
         let Call::Equalize(ask) = &case.call else { return None };
-        Some(Self { board: &case.board, ask, gas: bits(&case.board.amounts), lent: Lent::new(case, 7) })
+        Some(Self { board: &case.board, ask, gas: bits(&case.board.amounts), lent: Lent::roomy(case, 7, PAGE) })
+    }
+    /// Lends the scratch from other addresses on, so many cells later than at first: words and floats.
+    pub fn place(&mut self, [words, floats]: [usize; 2]) {
+        self.lent.words.move_to(words);
+        self.lent.floats.move_to(floats);
     }
     /// How long one call takes by a clock, the gas put back before it. Whatever stands in the scratch stays: the call clears it itself.
     pub fn time(&mut self, clock: fn() -> Duration) -> Duration {

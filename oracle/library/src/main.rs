@@ -15,7 +15,8 @@ library walks EACH SEED      depressurize and the planet walk on EACH boards a f
 library equalize EACH SEED   equalize on EACH boards a family, with and without turns, against the text
 library paper                document 01's boards
 library events COUNT SEED    the reader and the writer on COUNT areas, against the independent ones
-library bench SECONDS        how long equalize takes, the text's and the library's by turns, SECONDS a board at least
+library bench SECONDS [NAME] how long equalize takes, the text's and the library's by turns, SECONDS a board at least; boards with NAME in their name
+library places SECONDS [NAME] the same with the scratch at every place within a page of memory, by 16 bytes: the best and the worst
 library parts SECONDS        what of the library's time is for refusals and for clearing
 library cost MILLISECONDS PICTURE   how long the library's takes on growing boards, as a table and as a picture (SVG)
 library stack                how much stack the deepest board takes; that 2 MiB are enough and half of what it takes isn't";
@@ -169,7 +170,8 @@ fn main() {
         ("equalize", Some(each), Some(seed)) => compare(&[1], each, seed),
         ("paper", None, None) => paper(),
         ("events", Some(count), Some(seed)) => events(count, seed),
-        ("bench", Some(seconds), None) => bench::table(Duration::from_secs(seconds)),
+        ("bench", Some(seconds), None) => bench::table(Duration::from_secs(seconds), words.get(2).map_or("", String::as_str)),
+        ("places", Some(seconds), None) => bench::places(Duration::from_secs(seconds), words.get(2).map_or("", String::as_str)),
         ("parts", Some(seconds), None) => bench::parts(Duration::from_secs(seconds)),
         ("cost", Some(milliseconds), None) if words.len() == 3 => {
             let picture = picture::svg(&bench::cost(Duration::from_millis(milliseconds)), &bench::machine());
