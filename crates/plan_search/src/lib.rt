@@ -541,13 +541,13 @@ pub fn serve(
 {
     let row = g as usize;
     let i = load(row, n, e, words, reals);
-    let first = MonstermosInfo {
+    let start = MonstermosInfo {
         delta: i.delta,
         amount: 0.0,
         direction: 0,
         fast: i.fast,
     };
-    store(row, first, n, e, words, reals);
+    store(row, start, n, e, words, reals);
     let queue = index_set::queue_at(n, e);
     let places = index_set::places_at(n, e);
     insert(g, 0, queue, places, words);

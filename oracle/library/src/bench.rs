@@ -78,25 +78,35 @@ fn placements() -> Vec<[usize; 2]> {
     steps().map(|later| [later, 0]).chain(steps().map(|later| [0, later])).collect()
 }
 
-/// The boards whose name has this part in it, so long each: the text's least time, and the library's least at each placement, in turns. What
-/// is printed is the best placement and the worst.
+/// The boards whose name has this part in it, so long each and five rounds at least: how long a call takes at each placement, by how long it takes
+/// at the first, timed just before it, so that a busy host slows both. Of each placement the middle of all rounds; printed are the best and the worst.
 pub fn places(seconds: Duration, part: &str) {
-    println!("{}\n\n| board | text, ns | library, best placement, ns | worst, ns | times as fast at the worst |\n|---|--:|--:|--:|--:|", heading());
+    println!("{}\n\n| board | rounds | best placement | worst | words, floats later |\n|---|--:|--:|--:|---|", heading());
     for (name, case) in boards::bench::boards().into_iter().filter(|(name, _)| name.contains(part)) {
-        let (Call::Equalize(ask), mut host) = (&case.call, host(&case)) else { panic!("a case of equalize") };
+        let mut host = host(&case);
         let once = host.time(own);
-        let (clock, row) = (clock(once), (2_000_000 / (once.as_nanos() + 1)).clamp(1, 50) as u32);
-        let mut at = placements().into_iter().map(|place| (place, Duration::MAX)).collect::<Vec<_>>();
-        let text = least(seconds, || {
-            for (place, least) in &mut at {
-                host.place(*place);
-                *least = (0..row).map(|_| host.time(clock)).fold(*least, Duration::min);
-            }
-            filled::play::time_equalize(&case.board, ask, row, clock)
-        });
-        let (best, worst) = (at.iter().map(|at| at.1).min().unwrap_or_default(), at.iter().map(|at| at.1).max().unwrap_or_default());
-        println!("| {name} | {} | {} | {} | {:.1} |", text.as_nanos(), best.as_nanos(), worst.as_nanos(), text.as_secs_f64() / worst.as_secs_f64());
+        let (clock, row) = (clock(once), (200_000 / (once.as_nanos() + 1)).clamp(1, 50));
+        let mut least_at = |place| {
+            host.place(place);
+            (0..row).map(|_| host.time(clock)).min().unwrap_or_default().as_secs_f64()
+        };
+        let mut at = placements().into_iter().map(|place| (place, Vec::new())).collect::<Vec<_>>();
+        let (begun, mut rounds) = (wall(), 0);
+        while rounds < 5 || wall() - begun < seconds {
+            at.iter_mut().for_each(|(place, times)| times.push(1.0 / (least_at([0, 0]) / least_at(*place))));
+            rounds += 1;
+        }
+        let mut middles = at.into_iter().map(|(place, times)| (middle(times), place)).collect::<Vec<_>>();
+        middles.sort_by(|a, b| a.0.total_cmp(&b.0));
+        let ((best, _), (worst, place)) = (middles[0], middles[middles.len() - 1]);
+        println!("| {name} | {rounds} | {best:.2} | {worst:.2} | {place:?} |");
     }
+}
+
+/// The middle one.
+fn middle(mut times: Vec<f64>) -> f64 {
+    times.sort_by(f64::total_cmp);
+    times[times.len() / 2]
 }
 
 /// The case with an area a byte short, which is refused after all tests, and the case with no hot ids, where nothing is filled.

@@ -16,7 +16,7 @@ library equalize EACH SEED   equalize on EACH boards a family, with and without 
 library paper                document 01's boards
 library events COUNT SEED    the reader and the writer on COUNT areas, against the independent ones
 library bench SECONDS [NAME] how long equalize takes, the text's and the library's by turns, SECONDS a board at least; boards with NAME in their name
-library places SECONDS [NAME] the same with the scratch at every place within a page of memory, by 16 bytes: the best and the worst
+library places SECONDS [NAME] how much longer the library's takes with the scratch at other places within a page of memory, by 16 bytes: the best and the worst
 library parts SECONDS        what of the library's time is for refusals and for clearing
 library cost MILLISECONDS PICTURE   how long the library's takes on growing boards, as a table and as a picture (SVG)
 library stack                how much stack the deepest board takes; that 2 MiB are enough and half of what it takes isn't";
