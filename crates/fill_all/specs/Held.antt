@@ -25,7 +25,8 @@ ask hot threshold limit allowance = record { hot = hot; threshold = threshold; l
 
 -- ---- the areas
 
--- The floats of the whole call. By link: weight. By row: delta, amount. By link: lifted. By zone: its total as filled.
+-- The floats of the whole call. By link: weight. By row: delta, amount. By link: lifted. By zone: its total as filled. Filling leaves delta and amount;
+-- planning has them as one array of pairs.
 abbrev pub floatSizes : ℕ → ℕ → List ℕ
 floatSizes n e = e ∷ n ∷ n ∷ e ∷ n ∷ []
 

@@ -18,7 +18,7 @@ use Rattle.flood_fill.specs.declared.Reached.{Reached}
 -- ---- the words
 
 -- The arrays of the whole call, for n turfs and e links. By link: owner, reverse. By row: direction, via, fast, queue, places, list, found, cursor,
--- live. By zone: where its nodes start. Then the nodes of all zones.
+-- live. By zone: where its nodes start. Then the nodes of all zones. Filling leaves direction and via; planning has them as one array of pairs.
 abbrev pub sizes : ℕ → ℕ → List ℕ
 sizes n e = e ∷ e ∷ n ∷ n ∷ n ∷ n ∷ n ∷ n ∷ n ∷ n ∷ n ∷ (n + 1) ∷ (n + e) ∷ []
 
