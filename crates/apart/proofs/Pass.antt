@@ -16,7 +16,7 @@ use Rattle.basics.proofs.Loops.{All, All-imp, All-getD}
 use Rattle.basics.proofs.Lists.{map-append, member-front, member-last, member-map, members, or-cases, all-every, upFrom-below, upFrom-length}
 use Rattle.basics.proofs.Tests.{differ, every-up-at}
 use Rattle.basics.proofs.Parts.{cleared-length, cleared-far, cleared-at}
-use Rattle.turfs.specs.Board.{Board, mixtureCount, mixOf, immutableMix}
+use Rattle.board_rules.specs.Board.{Board, mixtureCount, mixOf, immutableMix}
 use Rattle.reverse_links.specs.Words.{But}
 use Rattle.reverse_links.proofs.Places.{but-set, but-then}
 use Rattle.finalize_eq.specs.Turns.{Zone, zoneAt, nodesAt}

@@ -7,7 +7,7 @@ use Prim.Native.Nat.{ℕ, _+_, _≤_, _<_}
 use lib.Dec.{T, eqb}
 use lib.ListN.{length, getD, set, take}
 use Rattle.basics.specs.Loops.{member}
-use Rattle.turfs.specs.Board.{Board, mixtureCount, mixOf, immutableMix}
+use Rattle.board_rules.specs.Board.{Board, mixtureCount, mixOf, immutableMix}
 use Rattle.reverse_links.specs.Words.{But}
 use Rattle.finalize_eq.specs.Turns.{Zone, nodesAt}
 use Rattle.equalize.specs.Equalize.{apart}

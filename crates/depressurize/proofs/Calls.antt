@@ -16,39 +16,39 @@ use Rattle.basics.specs.declared.Spot.{Spot}
 use Rattle.basics.specs.declared.Spot.the-variants.{At, Nowhere}
 use Rattle.basics.proofs.Loops.{Found}
 use Rattle.basics.proofs.Regions.{cut-length, later-same}
-use Rattle.turfs.specs.Board.{Board, turfCount, linkCount, immutable, linksOf, rowOf}
+use Rattle.board_rules.specs.Board.{Board, turfCount, linkCount, immutable, linksOf, rowOf}
 use Rattle.turfs.proofs.Accepted.{row-below}
 use Rattle.turfs.proofs.Line.{Line}
-use Rattle.mixture.specs.Mixture.{amounts, change, totalMix, total, clearAir}
-use Rattle.events.specs.Events.{encodeAll}
+use Rattle.mixture_rules.specs.Mixture.{amounts, change, totalMix, total, clearAir}
+use Rattle.event_rules.specs.Events.{encodeAll}
 use Rattle.events.specs.Area.{Wrote}
-use Rattle.events.specs.declared.Event.{Event}
+use Rattle.event_rules.specs.declared.Event.{Event}
 use Rattle.events.proofs.Areas.{wrote-length}
 use Rattle.events.proofs.Sizes.{size}
 use Rattle.index_set.proofs.Queue.{Below-at, all-below, all-apart}
-use Rattle.lent.specs.Lent.{Lent, Extra, noExtra, wordsRoom, floatsRoom, refusal, after}
+use Rattle.lent_rules.specs.Lent.{Lent, Extra, noExtra, wordsRoom, floatsRoom, refusal, after}
 use Rattle.lent.specs.Given.{counted, cleared, lent, Given}
 use Rattle.lent.proofs.Numbers.{given, no-links}
 use Rattle.lent.proofs.Passed.{passed}
-use Rattle.walks.specs.Walk.{Walk, walk}
-use Rattle.walks.specs.Visit.{visitSpace, visit}
+use Rattle.walk_rules.specs.Walk.{Walk, walk}
+use Rattle.walk_rules.specs.Visit.{visitSpace, visit}
 use Rattle.walks.specs.Reached.{walkOf, Ground}
 use Rattle.walks.specs.Reached as walks
-use Rattle.walks.specs.declared.Kind.the-variants.{Space}
+use Rattle.walk_rules.specs.declared.Kind.the-variants.{Space}
 use Rattle.walks.specs.declared.Reach.{Reach}
 use Rattle.walks.proofs.Does.{none-wrote, both-wrote}
 use Rattle.walks.proofs.Links.{written-room}
 use Rattle.walks.proofs.Whole.{bare, ground-of, gasless}
-use Rattle.way_out.specs.Out.{Out, outTo, outLink, outRow, outNext, outward}
+use Rattle.out_rules.specs.Out.{Out, outTo, outLink, outRow, outNext, outward}
 use Rattle.way_out.specs.Outed.{at, sizes, outOf, coast, Coast, shore, Mixed, Outed}
 use Rattle.way_out.specs.declared.Front.{Front}
-use Rattle.way_back.specs.Back.{Back, backTo, back}
+use Rattle.back_rules.specs.Back.{Back, backTo, back}
 use Rattle.way_back.specs.Backed.{notNegative, lots, air, directions, Fits, Backed}
 use Rattle.way_back.proofs.Signs.{fits-every}
-use Rattle.depressurize.specs.Depressurize.{Depressurized, wayBack, fromWalk, fromRow, depressurize, depressurizeRoom, depressurizeNumber, depressurizeDone, depressurizeResult}
+use Rattle.depressurize_rules.specs.Depressurize.{Depressurized, wayBack, fromWalk, fromRow, depressurize, depressurizeRoom, depressurizeNumber, depressurizeDone, depressurizeResult}
 use Rattle.depressurize.specs.Ended.{Walked, Ended, Depressed}
 use Rattle.depressurize.specs.declared.Outcome.{Outcome}
-use Rattle.depressurize.specs.declared.DepressurizeAnswer.{DepressurizeAnswer}
+use Rattle.depressurize_rules.specs.declared.DepressurizeAnswer.{DepressurizeAnswer}
 use Rattle.depressurize.proofs.Room.{space-walk, depressurize-room}
 
 -- ---- what each way looks at

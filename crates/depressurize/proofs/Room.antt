@@ -19,27 +19,27 @@ use Rattle.basics.specs.declared.Spot.{Spot}
 use Rattle.basics.specs.declared.Spot.the-variants.{At, Nowhere}
 use Rattle.basics.proofs.Loops.{All, All-any, All-imp, All-getD, run-keeps, times-keeps, times-rests, Found, cond-both}
 use Rattle.basics.proofs.Lists.{All-snoc, All-front, apart-snoc, apart-at, not-member, one, count, count-append, count-reverse, count-none, count-length, replicate-at}
-use Rattle.turfs.specs.Board.{Board, turfCount, idOf, mixOf, end, planetary, immutable, linksOf, rowOf}
+use Rattle.board_rules.specs.Board.{Board, turfCount, idOf, mixOf, end, planetary, immutable, linksOf, rowOf}
 use Rattle.turfs.proofs.Accepted.{Accepted, row-below}
 use Rattle.turfs.proofs.Line.{Line, line-short, line-snoc}
-use Rattle.mixture.specs.Mixture.{total, clearAir}
-use Rattle.events.specs.Events.{kindOf, fieldsOf, sizeOf, wordsBytes, encode, encodeAll}
-use Rattle.events.specs.declared.Event.{Event}
-use Rattle.events.specs.declared.Event.the-variants.{Target, HighPressure, Difference, FloorRip}
+use Rattle.mixture_rules.specs.Mixture.{total, clearAir}
+use Rattle.event_rules.specs.Events.{kindOf, fieldsOf, sizeOf, wordsBytes, encode, encodeAll}
+use Rattle.event_rules.specs.declared.Event.{Event}
+use Rattle.event_rules.specs.declared.Event.the-variants.{Target, HighPressure, Difference, FloorRip}
 use Rattle.events.proofs.Sizes.{size, size-append, size-snoc}
-use Rattle.lent.specs.Lent.{Lent, noExtra}
+use Rattle.lent_rules.specs.Lent.{Lent, noExtra}
 use Rattle.lent.proofs.Passed.{passed}
-use Rattle.walks.specs.Walk as walks
-use Rattle.walks.specs.Walk.{Walk, mark, spread, walk}
-use Rattle.walks.specs.Visit.{atSpace, visitSpace}
-use Rattle.walks.specs.declared.Kind.the-variants.{Space}
+use Rattle.walk_rules.specs.Walk as walks
+use Rattle.walk_rules.specs.Walk.{Walk, mark, spread, walk}
+use Rattle.walk_rules.specs.Visit.{atSpace, visitSpace}
+use Rattle.walk_rules.specs.declared.Kind.the-variants.{Space}
 use Rattle.walks.proofs.Walks.{going, spreads, walk-keeps, walk-rests}
 use Rattle.walks.proofs.Visits.{visit-walked as visit-place}
 use Rattle.way_out.proofs.Rows.{row-place}
-use Rattle.way_out.specs.Out.{Out, outTo, outLink, outRow, outNext, outward}
-use Rattle.way_back.specs.Back.{Back, backTo, back}
-use Rattle.depressurize.specs.Depressurize.{Depressurized, wayBack, fromWalk, fromRow, depressurize, depressurizeRoom, depressurizeNumber}
-use Rattle.depressurize.specs.Worked as worked  -- checked before the laws
+use Rattle.out_rules.specs.Out.{Out, outTo, outLink, outRow, outNext, outward}
+use Rattle.back_rules.specs.Back.{Back, backTo, back}
+use Rattle.depressurize_rules.specs.Depressurize.{Depressurized, wayBack, fromWalk, fromRow, depressurize, depressurizeRoom, depressurizeNumber}
+use Rattle.depressurize_rules.specs.Worked as worked  -- checked before the laws
 
 target-size : (es : List Event) (i t : ℕ) → size (snoc es (Target i t)) ≡ size es + 12
 target-size es i t = size-snoc es (Target i t) ∙ ap (λ (n : ℕ). size es + n) (unfold sizeOf kindOf in refl)

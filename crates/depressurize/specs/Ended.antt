@@ -7,18 +7,18 @@ use lib.ListN.{length, take}
 use lib.Ieee.{Float}
 use Rattle.basics.specs.Loops.{every}
 use Rattle.basics.specs.Regions.{region}
-use Rattle.turfs.specs.Board.{Board, turfCount, mixtureCount}
+use Rattle.board_rules.specs.Board.{Board, turfCount, mixtureCount}
 use Rattle.turfs.specs.Tables.{Tables}
-use Rattle.events.specs.Events.{encodeAll}
+use Rattle.event_rules.specs.Events.{encodeAll}
 use Rattle.events.specs.Area.{Wrote}
-use Rattle.events.specs.declared.Event.{Event}
+use Rattle.event_rules.specs.declared.Event.{Event}
 use Rattle.index_set.specs.Line.{Below, Apart}
 use Rattle.walks.specs.Reached.{Fit, walkOf}
 use Rattle.walks.specs.Reached as walks
 use Rattle.walks.specs.declared.Reach.{Reach}
 use Rattle.way_out.specs.Outed.{sizes}
 use Rattle.way_back.specs.Backed.{notNegative, lots}
-use Rattle.depressurize.specs.Depressurize.{fromWalk, depressurize}
+use Rattle.depressurize_rules.specs.Depressurize.{fromWalk, depressurize}
 use Rattle.depressurize.specs.declared.Outcome.{Outcome}
 
 -- the areas hold the first walk, and have room for the rest

@@ -1,3 +1,1 @@
-pub mod Depressurize
 pub mod Ended
-pub mod Worked

@@ -1,24 +1,19 @@
 // `explosively_depressurize`, module 9 of document 01: the walk to space, out from space, and back.
+use depressurize_rules::DepressurizeAnswer;
 use basics::Spot;
 use lent::ExtraTests;
-use walks::Kind;
+use walk_rules::Kind;
 use walks::Reach;
 ghost use mathlib.Core.Path.{_≡_};
 ghost use Prim.Native.Nat.{_+_, _*_};
 ghost use lib.ListN.{length};
-ghost use Rattle.turfs.specs.Board.{Board};
+ghost use Rattle.board_rules.specs.Board.{Board};
 ghost use Rattle.turfs.specs.Tables.{board};
-ghost use Rattle.lent.specs.Lent.{noExtra, refusal};
+ghost use Rattle.lent_rules.specs.Lent.{noExtra, refusal};
 ghost use Rattle.lent.specs.Given.{lent};
-ghost use Rattle.depressurize.specs.Depressurize.{depressurizeResult};
+ghost use Rattle.depressurize_rules.specs.Depressurize.{depressurizeResult};
 ghost use Rattle.depressurize.specs.Ended.{Walked, Ended, Depressed};
 
-// What the call answers.
-pub struct DepressurizeAnswer {
-    pub number: u32,
-    pub outcome: u32,
-    pub bytes: u32,
-}
 
 // How it ended, and how many event bytes are written.
 pub struct Outcome {

@@ -13,7 +13,7 @@ use Rattle.basics.specs.Loops.{keep, consIf, upFrom, member}
 use Rattle.basics.specs.Floats.{0f}
 use Rattle.basics.proofs.Loops.{All, All-map, All-getD, All-any, every-all}
 use Rattle.basics.proofs.Lists.{All-unmap, or-cases, members, member-has, upFrom-at, upFrom-length}
-use Rattle.turfs.specs.Board.{Board, mixtureCount, mixOf, immutableMix, end}
+use Rattle.board_rules.specs.Board.{Board, mixtureCount, mixOf, immutableMix, end}
 use Rattle.mixture.proofs.Parts.{Fits}
 use Rattle.finalize_eq.specs.Finish.{Done}
 use Rattle.finalize_eq.specs.Turns.{Zone, zoneAt, nodesAt, turnOrder, finishAll}

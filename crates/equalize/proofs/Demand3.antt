@@ -9,14 +9,14 @@ use native.Mathlib.Nat.{suc-ne-zero}
 use lib.Dec.{T, ltb}
 use lib.ListN.{length, take, drop}
 use lib.Ieee.{Float}
-use Rattle.turfs.specs.Board.{Board, mixOf, end}
+use Rattle.board_rules.specs.Board.{Board, mixOf, end}
 use Rattle.turfs.proofs.Accepted.{Accepted}
-use Rattle.events.specs.Events.{encodeAll}
-use Rattle.events.specs.declared.Event.{Event}
+use Rattle.event_rules.specs.Events.{encodeAll}
+use Rattle.event_rules.specs.declared.Event.{Event}
 use Rattle.events.proofs.Compared.{records, requests, requests-same}
 use Rattle.events.proofs.Bytes.{same-size}
 use Rattle.events.proofs.ReadAll.{Readable, readAll, read-area}
-use Rattle.lent.specs.Lent.{Lent, Result, after}
+use Rattle.lent_rules.specs.Lent.{Lent, Result, after}
 use Rattle.lent.proofs.Passed.{passed}
 use Rattle.basics.proofs.Loops.{All}
 use Rattle.basics.proofs.Lists.{member-map}

@@ -13,8 +13,8 @@ use lib.Ieee.{Float}
 use Rattle.basics.specs.Loops.{member, snoc}
 use Rattle.basics.specs.Floats.{0f}
 use Rattle.basics.proofs.Lists.{replicate-at}
-use Rattle.turfs.specs.Board.{Board, linkCount, end}
-use Rattle.flood_fill.specs.Fill.{Reach, Fill}
+use Rattle.board_rules.specs.Board.{Board, linkCount, end}
+use Rattle.fill_rules.specs.Fill.{Reach, Fill}
 use Rattle.flood_fill.proofs.Joins.{Has, Joins, fill-joins}
 use Rattle.finalize_eq.specs.Turns.{Zone, nodesAt}
 use Rattle.equalize.specs.Equalize.{Ask, Filled, afterFill, fillFrom, fillAll}

@@ -10,10 +10,10 @@ use lib.Ieee.{Float}
 use Rattle.basics.specs.Loops.{upFrom}
 use Rattle.basics.specs.Floats.{0f}
 use Rattle.basics.proofs.Loops.{All-any, run-keeps, cond-both}
-use Rattle.turfs.specs.Board.{Board, turfCount, linkCount}
+use Rattle.board_rules.specs.Board.{Board, turfCount, linkCount}
 use Rattle.turfs.proofs.Accepted.{Accepted}
 use Rattle.events.proofs.Sizes.{size, requests-size}
-use Rattle.lent.specs.Lent.{Lent}
+use Rattle.lent_rules.specs.Lent.{Lent}
 use Rattle.lent.proofs.Passed.{passed}
 use Rattle.process_zone.proofs.Sizes.{plan-sized}
 use Rattle.finalize_eq.specs.Turns.{zoneAt, nodesAt, nodeCount}

@@ -14,9 +14,9 @@ use borrow.Author.Tests.{ltb-true, ltb-false}
 use Rattle.basics.specs.Loops.{run}
 use Rattle.basics.specs.declared.Spot.{Spot}
 use Rattle.basics.specs.declared.Spot.the-variants.{At, Nowhere}
-use Rattle.turfs.specs.Board.{Board, rowOf}
+use Rattle.board_rules.specs.Board.{Board, rowOf}
 use Rattle.turfs.proofs.Accepted.{Accepted}
-use Rattle.flood_fill.specs.Fill.{Fill, fill}
+use Rattle.fill_rules.specs.Fill.{Fill, fill}
 use Rattle.flood_fill.proofs.Rest.{fill-tests}
 use Rattle.finalize_eq.specs.Turns.{nodeCount}
 use Rattle.equalize.specs.Equalize.{Ask, Filled, Equalized, afterFill, passedOver, fillFrom, hotRow, hotId, fillAll, cancel, played, equalize}

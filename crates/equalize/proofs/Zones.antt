@@ -12,11 +12,11 @@ use Rattle.basics.specs.Floats.{0f}
 use Rattle.basics.specs.Loops.{run, snoc}
 use Rattle.basics.proofs.Loops.{All, All-getD, run-append}
 use Rattle.basics.proofs.Lists.{All-snoc, replicate-at}
-use Rattle.turfs.specs.Board.{Board, turfCount, linkCount}
+use Rattle.board_rules.specs.Board.{Board, turfCount, linkCount}
 use Rattle.turfs.proofs.Accepted.{Accepted, source}
 use Rattle.turfs.proofs.Line.{Line}
 use Rattle.events.proofs.Compared.{isRequest}
-use Rattle.flood_fill.specs.Fill.{Fill, fill}
+use Rattle.fill_rules.specs.Fill.{Fill, fill}
 use Rattle.flood_fill.proofs.Counts.{marked, marked-length, mark-new, was-new, Counted, fill-counts}
 use Rattle.flood_fill.proofs.Joins.{Rows, fill-rows}
 use Rattle.flood_fill.proofs.Owned.{Fresh, fill-fresh}

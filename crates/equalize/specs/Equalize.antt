@@ -9,13 +9,13 @@ use Rattle.basics.specs.Loops.{run, keep, every, upFrom, member, snoc, if_then_
 use Rattle.basics.specs.Floats.{0f, _-f_, abs}
 use Rattle.basics.specs.declared.Spot.{Spot}
 use Rattle.basics.specs.declared.Spot.the-variants.{At, Nowhere}
-use Rattle.turfs.specs.Board.{Board, turfCount, linkCount, mixtureCount, mixOf, end, enabled, immutableMix, linksOf, rowOf}
-use Rattle.mixture.specs.Mixture.{total}
-use Rattle.flood_fill.specs.Fill.{Reach, Fill, isOver, fill}
+use Rattle.board_rules.specs.Board.{Board, turfCount, linkCount, mixtureCount, mixOf, end, enabled, immutableMix, linksOf, rowOf}
+use Rattle.mixture_rules.specs.Mixture.{total}
+use Rattle.fill_rules.specs.Fill.{Reach, Fill, isOver, fill}
 use Rattle.process_zone.specs.Plan.{Plan, planZone}
 use Rattle.finalize_eq.specs.Finish.{Done}
 use Rattle.finalize_eq.specs.Turns.{Zone, zoneAt, nodesAt, nodeCount, finishAll}
-use Rattle.events.specs.declared.Event.{Event}
+use Rattle.event_rules.specs.declared.Event.{Event}
 
 -- what equalize alone is lent, beside the turns
 pub record Ask : Type 0 where

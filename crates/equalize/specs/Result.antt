@@ -6,10 +6,10 @@ use lib.Dec.{eqb, leb}
 use lib.ListN.{length}
 use Rattle.basics.specs.Loops.{if_then_else_}
 use Rattle.basics.specs.Floats.{finiteSignClear}
-use Rattle.turfs.specs.Board.{Board, turfCount, linkCount}
-use Rattle.turfs.specs.Refuse.{ascending}
-use Rattle.events.specs.Events.{encodeAll}
-use Rattle.lent.specs.Lent.{Lent, Result, Extra, refusal, after}
+use Rattle.board_rules.specs.Board.{Board, turfCount, linkCount}
+use Rattle.board_rules.specs.Refuse.{ascending}
+use Rattle.event_rules.specs.Events.{encodeAll}
+use Rattle.lent_rules.specs.Lent.{Lent, Result, Extra, refusal, after}
 use Rattle.equalize.specs.Equalize.{Ask, Equalized, equalize}
 use Rattle.equalize.specs.declared.EqualizeAnswer.{EqualizeAnswer}
 

@@ -7,16 +7,16 @@ use lib.Dec.{T}
 use lib.Ieee.{Float, add, sub, sum as isum, mul, div, neg, round, size, span, climb, units, odd, ofInt, ofBits, ofFields, toBits, lt, le, eq, ne}
 use Rattle.basics.specs.Loops.{run, times, keep, every, allOf, upFrom, member, first, same}
 use Rattle.basics.specs.Floats.{finiteSignClear, bits, ofCount, ofWord, whole, exact}
-use Rattle.turfs.specs.Board.{Board, enabled, planetary, immutable, firelock, linksOf, rowOf}
-use Rattle.turfs.specs.Refuse.{pairwise, distinct, sizesFit, tablesFit, rowFits, linksFit}
-use Rattle.turfs.specs.Draw.{Turf, to, turf, planet, startsFrom, allWays, draw, twenty, boardA, breached}
-use Rattle.mixture.specs.Mixture.{sum, scale, plus, ratio, remove, amounts, change, totalMix, total, moveAir, amountFits}
-use Rattle.events.specs.Events.{kindOf, fieldsOf, wordsBytes, encode, encodeAll}
-use Rattle.events.specs.declared.Event.{Event}
-use Rattle.events.specs.declared.Event.the-variants.{DepressurizeWanted, Pressure}
-use Rattle.lent.specs.Lent.{Lent, wordsRoom, floatsRoom, firstFailed, refusal, after}
-use Rattle.lent.specs.Worked.{lend, left, unchanged, lessArea}
-use Rattle.flood_fill.specs.Fill.{insert, endFill, reachLink, expand, pop, popNext, fill}
+use Rattle.board_rules.specs.Board.{Board, enabled, planetary, immutable, firelock, linksOf, rowOf}
+use Rattle.board_rules.specs.Refuse.{pairwise, distinct, sizesFit, tablesFit, rowFits, linksFit}
+use Rattle.board_rules.specs.Draw.{Turf, to, turf, planet, startsFrom, allWays, draw, twenty, boardA, breached}
+use Rattle.mixture_rules.specs.Mixture.{sum, scale, plus, ratio, remove, amounts, change, totalMix, total, moveAir, amountFits}
+use Rattle.event_rules.specs.Events.{kindOf, fieldsOf, wordsBytes, encode, encodeAll}
+use Rattle.event_rules.specs.declared.Event.{Event}
+use Rattle.event_rules.specs.declared.Event.the-variants.{DepressurizeWanted, Pressure}
+use Rattle.lent_rules.specs.Lent.{Lent, wordsRoom, floatsRoom, firstFailed, refusal, after}
+use Rattle.lent_rules.specs.Worked.{lend, left, unchanged, lessArea}
+use Rattle.fill_rules.specs.Fill.{insert, endFill, reachLink, expand, pop, popNext, fill}
 use Rattle.process_zone.specs.Edges.{edgesOf, edge, adjust}
 use Rattle.process_zone.specs.Plan.{chosen, trade, meet, seekTo, fastMove, eligible, fastTurf, seekLink, seekRow, seekNext, drainTo, drain, serve, fastPass, shareOut, deltas, planZone}
 use Rattle.finalize_eq.specs.Finish.{zeroLifted, pairs, finishGivers, send, finishPair, finish}

@@ -5,7 +5,7 @@ ghost use mathlib.Core.Bool.{_&&_};
 ghost use lib.Dec.{leb};
 ghost use lib.ListN.{length};
 ghost use Rattle.basics.specs.Floats.{finiteSignClear};
-ghost use Rattle.turfs.specs.Refuse.{ascending};
+ghost use Rattle.board_rules.specs.Refuse.{ascending};
 ghost use Rattle.lent.specs.Given.{extraOf};
 ghost use Rattle.equalize.specs.Equalize.{bit};
 

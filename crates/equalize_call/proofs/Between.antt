@@ -14,13 +14,13 @@ use Rattle.basics.specs.Regions.{region, cut, base}
 use Rattle.basics.proofs.Loops.{All, All-getD}
 use Rattle.basics.proofs.Regions.{cut-rest, later-same}
 use Rattle.basics.proofs.Parts.{part-alike, drop-alike, drop-later}
-use Rattle.turfs.specs.Board.{Board, turfCount, linkCount, mixtureCount, mixOf}
-use Rattle.turfs.specs.Refuse.{linksFit}
+use Rattle.board_rules.specs.Board.{Board, turfCount, linkCount, mixtureCount, mixOf}
+use Rattle.board_rules.specs.Refuse.{linksFit}
 use Rattle.turfs.proofs.Accepted.{Accepted}
 use Rattle.turfs.proofs.Line.{Line}
 use Rattle.events.proofs.Sizes.{size}
 use Rattle.events.proofs.Areas.{wrote-length}
-use Rattle.lent.specs.Lent.{Lent, wordsRoom, floatsRoom}
+use Rattle.lent_rules.specs.Lent.{Lent, wordsRoom, floatsRoom}
 use Rattle.flood_fill.specs.Held.{sizes, startsAt, nodesAt}
 use Rattle.process_zone.specs.Plan.{Plan}
 use Rattle.reverse_links.specs.Reverse.{Linked, Reverses}

@@ -4,7 +4,7 @@ use equalize::bit;
 use fill_all::Filling;
 ghost use mathlib.Core.Path.{_≡_};
 ghost use Rattle.turfs.specs.Tables.{board};
-ghost use Rattle.lent.specs.Lent.{Lent};
+ghost use Rattle.lent_rules.specs.Lent.{Lent};
 ghost use Rattle.lent.specs.Given.{lent};
 ghost use Rattle.fill_all.specs.Held.{ask};
 ghost use Rattle.equalize.specs.Equalize.{Ask, fillAll, played, equalize};

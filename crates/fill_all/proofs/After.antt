@@ -15,10 +15,10 @@ use Rattle.basics.proofs.Lists.{upFrom-length, map-append}
 use Rattle.basics.proofs.Regions.{cut-set, cut-length}
 use Rattle.basics.specs.declared.Spot.the-variants.{At}
 use Rattle.basics.proofs.Parts.{take-in}
-use Rattle.turfs.specs.Board.{Board, turfCount, linkCount}
+use Rattle.board_rules.specs.Board.{Board, turfCount, linkCount}
 use Rattle.turfs.proofs.Accepted.{Accepted}
-use Rattle.events.specs.declared.Event.{Event}
-use Rattle.flood_fill.specs.Fill.{Fill, isOver, fill}
+use Rattle.event_rules.specs.declared.Event.{Event}
+use Rattle.fill_rules.specs.Fill.{Fill, isOver, fill}
 use Rattle.flood_fill.specs.Held.{sizes, startsAt, nodesAt, Sizes, zeros}
 use Rattle.flood_fill.specs.Held as link
 use Rattle.flood_fill.proofs.Does.{does-plain}

@@ -8,10 +8,10 @@ use lib.Dec.{T, leb}
 use lib.Ieee.Bits.{is-true}
 use lib.ListN.{length}
 use Rattle.basics.specs.Floats.{finiteSignClear}
-use Rattle.turfs.specs.Board.{Board, turfCount, linkCount}
-use Rattle.turfs.specs.Refuse.{ascending, linksFit}
+use Rattle.board_rules.specs.Board.{Board, turfCount, linkCount}
+use Rattle.board_rules.specs.Refuse.{ascending, linksFit}
 use Rattle.turfs.proofs.Accepted.{Accepted}
-use Rattle.lent.specs.Lent.{Lent, Extra, wordsRoom, floatsRoom, refusal}
+use Rattle.lent_rules.specs.Lent.{Lent, Extra, wordsRoom, floatsRoom, refusal}
 use Rattle.lent.specs.Given.{Given}
 use Rattle.lent.proofs.Passed.{Passed, passed, links-pass}
 use Rattle.lent.proofs.Numbers.{given}

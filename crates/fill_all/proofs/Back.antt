@@ -16,10 +16,10 @@ use borrow.Author.Tests.{eqb-true, lt-ltb, le-ltb, le-leb, lt-leb, leb-true, ltb
 use Rattle.basics.specs.Loops.{run, member, snoc}
 use Rattle.basics.proofs.Loops.{All, All-imp, and-left, and-right}
 use Rattle.basics.proofs.Lists.{All-snoc, or-left, or-right, or-cases, member-has}
-use Rattle.turfs.specs.Board.{Board, turfCount, linkCount, end, enabled, linksOf}
+use Rattle.board_rules.specs.Board.{Board, turfCount, linkCount, end, enabled, linksOf}
 use Rattle.turfs.proofs.Accepted.{Accepted, source, links-in}
-use Rattle.events.specs.declared.Event.{Event}
-use Rattle.flood_fill.specs.Fill.{Reach, reachLink, fill}
+use Rattle.event_rules.specs.declared.Event.{Event}
+use Rattle.fill_rules.specs.Fill.{Reach, reachLink, fill}
 use Rattle.flood_fill.proofs.Counts.{was-new}
 use Rattle.flood_fill.proofs.Steps.{Keeps, fill-keeps}
 use Rattle.fill_zone.proofs.Boards.{parts, source-is}

@@ -15,12 +15,12 @@ use Rattle.basics.specs.Regions.{region}
 use Rattle.basics.specs.declared.Spot.{Spot}
 use Rattle.basics.specs.declared.Spot.the-variants.{At, Nowhere}
 use Rattle.basics.proofs.Loops.{Found}
-use Rattle.turfs.specs.Board.{Board, anyBit, turfCount, linkCount, enabled, linksOf, rowOf}
+use Rattle.board_rules.specs.Board.{Board, anyBit, turfCount, linkCount, enabled, linksOf, rowOf}
 use Rattle.turfs.specs.Tables.{Parts}
 use Rattle.turfs.proofs.Accepted.{Accepted, row-below}
-use Rattle.mixture.specs.Mixture.{total}
+use Rattle.mixture_rules.specs.Mixture.{total}
 use Rattle.mixture.specs.Moves.{Holds}
-use Rattle.flood_fill.specs.Fill.{fill}
+use Rattle.fill_rules.specs.Fill.{fill}
 use Rattle.flood_fill.specs.Held.{sizes, foundAt}
 use Rattle.flood_fill.proofs.Does.{does-as}
 use Rattle.flood_fill.proofs.Stores.{found-at}

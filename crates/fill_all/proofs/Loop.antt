@@ -14,11 +14,11 @@ use Rattle.basics.specs.Regions.{cut, region}
 use Rattle.basics.proofs.Loops.{run-append}
 use Rattle.basics.proofs.Lists.{one, count, upFrom-length}
 use Rattle.basics.proofs.Regions.{cut-length}
-use Rattle.turfs.specs.Board.{Board, turfCount, linkCount}
+use Rattle.board_rules.specs.Board.{Board, turfCount, linkCount}
 use Rattle.turfs.proofs.Accepted.{Accepted}
-use Rattle.events.specs.Events.{encodeAll}
+use Rattle.event_rules.specs.Events.{encodeAll}
 use Rattle.events.specs.Area.{Wrote}
-use Rattle.events.specs.declared.Event.{Event}
+use Rattle.event_rules.specs.declared.Event.{Event}
 use Rattle.events.proofs.Areas.{wrote-length}
 use Rattle.events.proofs.Sizes.{requests-size}
 use Rattle.flood_fill.specs.Held.{sizes, nodesAt, zeros}

@@ -13,8 +13,8 @@ use Rattle.basics.specs.Loops.{every, upFrom}
 use Rattle.basics.specs.Floats.{abs, finiteSignClear, _-f_}
 use Rattle.basics.proofs.Tests.{differ}
 use Rattle.basics.proofs.Lists.{upFrom-length}
-use Rattle.turfs.specs.Board.{Board, linkCount, linksOf}
-use Rattle.mixture.specs.Mixture.{total}
+use Rattle.board_rules.specs.Board.{Board, linkCount, linksOf}
+use Rattle.mixture_rules.specs.Mixture.{total}
 use Rattle.equalize.specs.Equalize.{Ask, 10f, near}
 
 -- ---- |d| < t

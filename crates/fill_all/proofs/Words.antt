@@ -14,7 +14,7 @@ use Rattle.basics.specs.Floats.{0f}
 use Rattle.basics.proofs.Lists.{upFrom-length, map-up}
 use Rattle.basics.proofs.Regions.{cut-get, region-part}
 use Rattle.basics.proofs.Parts.{take-in}
-use Rattle.turfs.specs.Board.{Board, turfCount, linkCount}
+use Rattle.board_rules.specs.Board.{Board, turfCount, linkCount}
 use Rattle.turfs.proofs.Accepted.{Accepted}
 use Rattle.turfs.proofs.Line.{Line}
 use Rattle.flood_fill.specs.Held.{sizes, startsAt, nodesAt}

@@ -8,11 +8,11 @@ use lib.Seq.{sets}
 use lib.Ieee.{Float, nan}
 use Rattle.basics.specs.Loops.{run, upFrom}
 use Rattle.basics.specs.Regions.{cut, region}
-use Rattle.turfs.specs.Board.{Board, turfCount, linkCount}
+use Rattle.board_rules.specs.Board.{Board, turfCount, linkCount}
 use Rattle.turfs.proofs.Accepted.{source}
 use Rattle.events.specs.Area.{Holds}
-use Rattle.events.specs.declared.Event.{Event}
-use Rattle.flood_fill.specs.Fill.{isOver}
+use Rattle.event_rules.specs.declared.Event.{Event}
+use Rattle.fill_rules.specs.Fill.{isOver}
 use Rattle.flood_fill.specs.Held.{sizes, startsAt, nodesAt, Sizes, zeros, Does}
 use Rattle.fill_zone.specs.declared.Flood.{Flood}
 use Rattle.finalize_eq.specs.Turns.{Zone}

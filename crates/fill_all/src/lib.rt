@@ -1,7 +1,7 @@
 // Filling: zones from the hot turfs. Its definition is `fillAll` of crate equalize; specs/Held.antt says how the work areas hold it.
 use basics::Spot;
 use fill_zone::Flood;
-use flood_fill::Going;
+use fill_rules::Going;
 use turfs::SimulationFlags;
 ghost use mathlib.Core.Path.{_≡_};
 ghost use mathlib.Core.Bool.{true, false, _||_};
@@ -13,12 +13,12 @@ ghost use lib.Ieee.{lt};
 ghost use Rattle.basics.specs.Loops.{run, every};
 ghost use Rattle.basics.specs.Floats.{abs, _-f_, finiteSignClear};
 ghost use Rattle.basics.specs.declared.Spot.the-variants.{At};
-ghost use Rattle.turfs.specs.Board.{Board, linksOf};
+ghost use Rattle.board_rules.specs.Board.{Board, linksOf};
 ghost use Rattle.turfs.specs.Tables.{Parts, board};
 ghost use Rattle.turfs.proofs.Accepted.{Accepted};
-ghost use Rattle.mixture.specs.Mixture.{total};
+ghost use Rattle.mixture_rules.specs.Mixture.{total};
 ghost use Rattle.mixture.specs.Moves.{Holds};
-ghost use Rattle.flood_fill.specs.Fill.{isOver};
+ghost use Rattle.fill_rules.specs.Fill.{isOver};
 ghost use Rattle.flood_fill.specs.Held.{nodesAt, Sizes};
 ghost use Rattle.equalize.specs.Equalize.{Ask, 10f, near, hotRow, hotId, fillAll};
 ghost use Rattle.fill_all.specs.Held.{ask, molesAt, Stored, Open, Fills, giveBack, pushed, GaveBack, Keeps, After, start, Begun, Cleared, FillsAll};

@@ -9,7 +9,7 @@ use Rattle.basics.specs.Loops.{upFrom}
 use Rattle.basics.proofs.Loops.{All-getD}
 use Rattle.basics.proofs.Lists.{upFrom-at, upFrom-length}
 use Rattle.basics.proofs.Parts.{part, part-length, part-at}
-use Rattle.turfs.specs.Board.{Board, turfCount, linkCount, mixOf, linksOf, mixtureCount}
+use Rattle.board_rules.specs.Board.{Board, turfCount, linkCount, mixOf, linksOf, mixtureCount}
 use Rattle.turfs.specs.Tables.{Parts}
 use Rattle.turfs.proofs.Accepted.{Accepted, source, sources}
 use Rattle.turfs.proofs.Tables.{accepted-parts}

@@ -10,10 +10,10 @@ use Rattle.basics.proofs.Loops.{All-imp, run-both}
 use Rattle.basics.proofs.Lists.{upFrom-below}
 use Rattle.basics.proofs.Parts.{part, part-at}
 use Rattle.basics.proofs.Parts as lists
-use Rattle.turfs.specs.Board.{Board, linkCount, idOf, end, enabled, planetary, immutable, firelock, linksOf}
-use Rattle.events.specs.declared.Event.{Event}
-use Rattle.events.specs.declared.Event.the-variants.{DepressurizeWanted, PlanetWanted}
-use Rattle.flood_fill.specs.Fill.{Reach, insert, reachLink}
+use Rattle.board_rules.specs.Board.{Board, linkCount, idOf, end, enabled, planetary, immutable, firelock, linksOf}
+use Rattle.event_rules.specs.declared.Event.{Event}
+use Rattle.event_rules.specs.declared.Event.the-variants.{DepressurizeWanted, PlanetWanted}
+use Rattle.fill_rules.specs.Fill.{Reach, insert, reachLink}
 use Rattle.flood_fill.specs.Steps.{metAt, edgeTo, mark, push, askSpace, askPlanet, discover, reachMet, reachPart}
 
 module _ (b : Board) (z r k : ℕ) where

@@ -14,15 +14,15 @@ use Rattle.basics.specs.Floats.{_+f_}
 use Rattle.basics.specs.Regions.{region}
 use Rattle.basics.proofs.Loops.{All-getD}
 use Rattle.basics.proofs.Parts.{part}
-use Rattle.turfs.specs.Board.{Board, turfCount, linkCount, idOf, planetary}
+use Rattle.board_rules.specs.Board.{Board, turfCount, linkCount, idOf, planetary}
 use Rattle.turfs.proofs.Accepted.{Accepted}
-use Rattle.mixture.specs.Mixture.{total}
-use Rattle.events.specs.declared.Event.{Event}
-use Rattle.flood_fill.specs.Fill.{Reach, Fill, isOn, endFill, expand, pop, popNext}
+use Rattle.mixture_rules.specs.Mixture.{total}
+use Rattle.event_rules.specs.declared.Event.{Event}
+use Rattle.fill_rules.specs.Fill.{Reach, Fill, isOn, endFill, expand, pop, popNext}
 use Rattle.flood_fill.specs.Steps.{reachPart}
 use Rattle.flood_fill.specs.Held.{sizes, queueAt, view, onReach, Fit, Bounded, Does, Reaches}
-use Rattle.flood_fill.specs.declared.Going.{Going}
-use Rattle.flood_fill.specs.declared.Going.the-variants.{On, Broken, Over}
+use Rattle.fill_rules.specs.declared.Going.{Going}
+use Rattle.fill_rules.specs.declared.Going.the-variants.{On, Broken, Over}
 use Rattle.flood_fill.specs.declared.Reached.{Reached}
 use Rattle.flood_fill.proofs.Does.{does-plain, does-as}
 use Rattle.flood_fill.proofs.Stores.{queue-at}

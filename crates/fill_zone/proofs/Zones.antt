@@ -14,14 +14,14 @@ use borrow.Author.Tests.{ltb-true, eq-eqb}
 use Rattle.basics.specs.Loops.{times, member}
 use Rattle.basics.specs.Floats.{0f}
 use Rattle.basics.proofs.Loops.{times-still}
-use Rattle.turfs.specs.Board.{Board, turfCount, linkCount}
+use Rattle.board_rules.specs.Board.{Board, turfCount, linkCount}
 use Rattle.turfs.proofs.Accepted.{Accepted}
-use Rattle.events.specs.declared.Event.{Event}
-use Rattle.flood_fill.specs.Fill.{Reach, Fill, isOn, popNext, fill}
+use Rattle.event_rules.specs.declared.Event.{Event}
+use Rattle.fill_rules.specs.Fill.{Reach, Fill, isOn, popNext, fill}
 use Rattle.flood_fill.specs.Steps.{mark, push}
 use Rattle.flood_fill.specs.Held.{sizes, queueAt, placesAt, foundAt, nodesAt, Sizes, view, Fit, Bounds, Bounded, Does, Moves, zeros}
-use Rattle.flood_fill.specs.declared.Going.{Going}
-use Rattle.flood_fill.specs.declared.Going.the-variants.{On, Broken, Over}
+use Rattle.fill_rules.specs.declared.Going.{Going}
+use Rattle.fill_rules.specs.declared.Going.the-variants.{On, Broken, Over}
 use Rattle.flood_fill.specs.declared.Met.{Met}
 use Rattle.flood_fill.proofs.Does.{does-plain, does-then, does-as}
 use Rattle.flood_fill.proofs.Stores.{holds-none, found-long, owner-long, marked-more, push-more, join-more, moves-then}

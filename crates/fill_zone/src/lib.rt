@@ -1,5 +1,5 @@
 // One zone: `flood_fill_zones` pop by pop.
-use flood_fill::Going;
+use fill_rules::Going;
 use flood_fill::Reached;
 ghost use mathlib.Core.Path.{_≡_};
 ghost use mathlib.Core.Bool.{true, not, _&&_, _||_};
@@ -9,10 +9,10 @@ ghost use lib.Dec.{eqb, ltb};
 ghost use lib.ListN.{length, getD};
 ghost use Rattle.turfs.specs.Tables.{board};
 ghost use Rattle.turfs.proofs.Accepted.{Accepted};
-ghost use Rattle.flood_fill.specs.Fill.{isOn, expand, popNext, fill};
+ghost use Rattle.fill_rules.specs.Fill.{isOn, expand, popNext, fill};
 ghost use Rattle.flood_fill.specs.Held.{queueAt, nodesAt, Sizes, view, Fit, Bounded};
 ghost use Rattle.flood_fill.proofs.Steps.{startFill};
-ghost use Rattle.flood_fill.specs.declared.Going.the-variants.{On};
+ghost use Rattle.fill_rules.specs.declared.Going.the-variants.{On};
 ghost use Rattle.fill_zone.specs.Held.{Floods, Starts, Begins, Free, Ready};
 
 // How far a fill has come.

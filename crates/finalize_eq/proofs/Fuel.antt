@@ -11,8 +11,8 @@ use lib.Ieee.{nan, lt}
 use Rattle.basics.specs.Loops.{run}
 use Rattle.basics.proofs.Loops.{All-any, run-keeps, run-same}
 use Rattle.basics.proofs.Lists.{count, count-length}
-use Rattle.turfs.specs.Board.{Board, end}
-use Rattle.mixture.specs.Mixture.{total}
+use Rattle.board_rules.specs.Board.{Board, end}
+use Rattle.mixture_rules.specs.Mixture.{total}
 use Rattle.process_zone.specs.Edges.{edgesOf, edge}
 use Rattle.finalize_eq.specs.Finish.{Done, Pair, zeroLifted, positive, negative, pairs, finishGivers, send, finishPair, finish}
 use Rattle.finalize_eq.proofs.Weights.{above, pending, aboveAt, lift-less, alter-less, lift-count, pairs-count, edges-apart}

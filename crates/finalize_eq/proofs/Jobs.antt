@@ -14,8 +14,8 @@ use lib.Ieee.{Float, nan}
 use borrow.Author.Tests.{eq-eqb, ne-eqb}
 use Rattle.basics.specs.Loops.{run, keep}
 use Rattle.basics.proofs.Loops.{All, run-keeps}
-use Rattle.turfs.specs.Board.{Board, linkCount, mixtureCount, mixOf, immutableMix, end}
-use Rattle.mixture.specs.Mixture.{amounts, part}
+use Rattle.board_rules.specs.Board.{Board, linkCount, mixtureCount, mixOf, immutableMix, end}
+use Rattle.mixture_rules.specs.Mixture.{amounts, part}
 use Rattle.mixture.proofs.Parts.{Fits}
 use Rattle.events.proofs.Compared.{records, others}
 use Rattle.finalize_eq.specs.Finish.{Done, finish}

@@ -11,10 +11,10 @@ use Rattle.basics.specs.Loops.{run}
 use Rattle.basics.specs.Floats.{0f}
 use Rattle.basics.proofs.Loops.{All-any, run-keeps}
 use Rattle.basics.proofs.Lists.{count, count-length}
-use Rattle.turfs.specs.Board.{Board, linkCount, idOf}
-use Rattle.mixture.specs.Mixture.{total}
-use Rattle.events.specs.Events.{kindOf, sizeOf}
-use Rattle.events.specs.declared.Event.the-variants.{Pressure}
+use Rattle.board_rules.specs.Board.{Board, linkCount, idOf}
+use Rattle.mixture_rules.specs.Mixture.{total}
+use Rattle.event_rules.specs.Events.{kindOf, sizeOf}
+use Rattle.event_rules.specs.declared.Event.the-variants.{Pressure}
 use Rattle.events.proofs.Sizes.{size, size-snoc}
 use Rattle.process_zone.specs.Edges.{edgesOf, edge, alter}
 use Rattle.finalize_eq.specs.Finish.{Done, Pair, zeroLifted, positive, negative, pairs, finishGivers, send, finishPair, finish}

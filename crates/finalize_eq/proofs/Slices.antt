@@ -16,9 +16,9 @@ use Rattle.basics.specs.Floats.{0f}
 use Rattle.basics.proofs.Loops.{All, All-any, All-imp, All-map, run-keeps, run-both, run-keep, run-map, every-all, cond-both}
 use Rattle.basics.proofs.Lists.{All-keep, members, member-has, or-left, or-right, or-cases, all-every, keep-none}
 use Rattle.basics.proofs.Tests.{not-of}
-use Rattle.turfs.specs.Board.{Board, end, linksOf}
+use Rattle.board_rules.specs.Board.{Board, end, linksOf}
 use Rattle.turfs.proofs.Accepted.{Accepted, source, sources}
-use Rattle.mixture.specs.Mixture.{total}
+use Rattle.mixture_rules.specs.Mixture.{total}
 use Rattle.process_zone.specs.Edges.{owned, edgesOf, edge}
 use Rattle.process_zone.proofs.Sizes.{alter-size}
 use Rattle.finalize_eq.specs.Finish.{Done, Pair, zeroLifted, positive, negative, pairs, finishGivers, send, finishPair, finish}

@@ -17,7 +17,7 @@ use Rattle.basics.specs.declared.Spot.{Spot}
 use Rattle.basics.specs.declared.Spot.the-variants.{At, Nowhere}
 use Rattle.basics.proofs.Loops.{All, All-any, run-keeps}
 use Rattle.basics.proofs.Lists.{or-cases, Apart, keep-apart, one, count}
-use Rattle.turfs.specs.Board.{Board, end, linksOf}
+use Rattle.board_rules.specs.Board.{Board, end, linksOf}
 use Rattle.turfs.proofs.Accepted.{links-apart}
 use Rattle.process_zone.specs.Edges.{alter, edgesOf}
 use Rattle.finalize_eq.specs.Finish.{zeroLifted, positive}

@@ -7,11 +7,11 @@ use lib.ListN.{getD, set}
 use lib.Ieee.{Float, nan, lt}
 use Rattle.basics.specs.Loops.{run, keep, snoc, if_then_else_}
 use Rattle.basics.specs.Floats.{0f}
-use Rattle.turfs.specs.Board.{Board, idOf, mixOf, end}
-use Rattle.mixture.specs.Mixture.{total, moveAir}
+use Rattle.board_rules.specs.Board.{Board, idOf, mixOf, end}
+use Rattle.mixture_rules.specs.Mixture.{total, moveAir}
 use Rattle.process_zone.specs.Edges.{alter, edgesOf, edge}
-use Rattle.events.specs.declared.Event.{Event}
-use Rattle.events.specs.declared.Event.the-variants.{Pressure}
+use Rattle.event_rules.specs.declared.Event.{Event}
+use Rattle.event_rules.specs.declared.Event.the-variants.{Pressure}
 
 -- what finishing changes
 pub record Done : Type 0 where

@@ -7,7 +7,7 @@ use lib.ListN.{length, getD, set, drop, replicate}
 use lib.Ieee.{Float}
 use Rattle.basics.specs.Loops.{run, keep, upFrom, if_then_else_}
 use Rattle.basics.specs.Floats.{0f}
-use Rattle.turfs.specs.Board.{Board, linkCount}
+use Rattle.board_rules.specs.Board.{Board, linkCount}
 use Rattle.finalize_eq.specs.Finish.{Done, finish}
 
 -- a kept zone: its nodes in order, and its total as filled

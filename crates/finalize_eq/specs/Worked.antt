@@ -7,14 +7,14 @@ use lib.ListN.{replicate}
 use lib.Ieee.{Float, add, sub, sum as isum, mul, div, neg, round, size, span, climb, units, odd, ofInt, ofBits, ofFields, toBits, lt, le, eq, ne}
 use Rattle.basics.specs.Loops.{run, keep, allOf, first, same, upFrom}
 use Rattle.basics.specs.Floats.{0f, bits, ofCount, whole}
-use Rattle.turfs.specs.Board.{Board, linkCount, linksOf}
-use Rattle.turfs.specs.Draw.{to, turf, startsFrom, allWays, draw, sharing, boardA, chain}
-use Rattle.mixture.specs.Mixture.{sum, scale, plus, ratio, remove, amounts, change, totalMix, total, moveAir}
+use Rattle.board_rules.specs.Board.{Board, linkCount, linksOf}
+use Rattle.board_rules.specs.Draw.{to, turf, startsFrom, allWays, draw, sharing, boardA, chain}
+use Rattle.mixture_rules.specs.Mixture.{sum, scale, plus, ratio, remove, amounts, change, totalMix, total, moveAir}
 use Rattle.process_zone.specs.Edges.{edgesOf, edge}
 use Rattle.process_zone.specs.Worked.{up, down}
-use Rattle.events.specs.Events.{kindOf, fieldsOf, wordsBytes, encode, encodeAll}
-use Rattle.events.specs.declared.Event.{Event}
-use Rattle.events.specs.declared.Event.the-variants.{Pressure}
+use Rattle.event_rules.specs.Events.{kindOf, fieldsOf, wordsBytes, encode, encodeAll}
+use Rattle.event_rules.specs.declared.Event.{Event}
+use Rattle.event_rules.specs.declared.Event.the-variants.{Pressure}
 use Rattle.finalize_eq.specs.Finish.{Done, zeroLifted, pairs, finishGivers, send, finishPair, finish}
 use Rattle.finalize_eq.specs.Turns.{Zone, Job, unfinished, jobsLeft, inOrder, order, turnOrder, work}
 

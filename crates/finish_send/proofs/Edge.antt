@@ -14,10 +14,10 @@ use Rattle.basics.specs.Floats.{0f}
 use Rattle.basics.specs.declared.Spot.{Spot}
 use Rattle.basics.specs.declared.Spot.the-variants.{At, Nowhere}
 use Rattle.basics.proofs.Loops.{Found}
-use Rattle.turfs.specs.Board.{Board, mixOf}
-use Rattle.mixture.specs.Mixture.{moveAir}
-use Rattle.events.specs.Events.{kindOf, encode, sizeOf}
-use Rattle.events.specs.declared.Event.the-variants.{Pressure}
+use Rattle.board_rules.specs.Board.{Board, mixOf}
+use Rattle.mixture_rules.specs.Mixture.{moveAir}
+use Rattle.event_rules.specs.Events.{kindOf, encode, sizeOf}
+use Rattle.event_rules.specs.declared.Event.the-variants.{Pressure}
 use Rattle.events.proofs.Sizes.{encode-size}
 use Rattle.plan_state.specs.Steps.{ownedBy, backLink}
 use Rattle.plan_state.proofs.Weights.{found-more}

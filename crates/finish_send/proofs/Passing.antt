@@ -13,9 +13,9 @@ use Rattle.basics.specs.Floats.{0f}
 use Rattle.basics.proofs.Lists.{one, count}
 use Rattle.basics.proofs.Tests.{both, differ}
 use Rattle.basics.proofs.Loops.{up-cons}
-use Rattle.turfs.specs.Board.{Board, turfCount, linkCount, mixtureCount, mixOf, end}
+use Rattle.board_rules.specs.Board.{Board, turfCount, linkCount, mixtureCount, mixOf, end}
 use Rattle.turfs.proofs.Accepted.{Accepted}
-use Rattle.mixture.specs.Mixture.{total}
+use Rattle.mixture_rules.specs.Mixture.{total}
 use Rattle.mixture.specs.Moves.{Holds}
 use Rattle.mixture.proofs.Parts.{holds-of}
 use Rattle.reverse_links.specs.Reverse.{InRow}

@@ -15,13 +15,13 @@ use Rattle.basics.specs.Floats.{0f}
 use Rattle.basics.specs.declared.Spot.{Spot}
 use Rattle.basics.specs.declared.Spot.the-variants.{At, Nowhere}
 use Rattle.basics.proofs.Loops.{Found}
-use Rattle.turfs.specs.Board.{Board, turfCount, linkCount, mixtureCount, mixOf, idOf, end}
-use Rattle.mixture.specs.Mixture.{moveAir}
+use Rattle.board_rules.specs.Board.{Board, turfCount, linkCount, mixtureCount, mixOf, idOf, end}
+use Rattle.mixture_rules.specs.Mixture.{moveAir}
 use Rattle.mixture.proofs.Parts.{Fits, move-fits}
-use Rattle.events.specs.Events.{encode, encodeAll}
+use Rattle.event_rules.specs.Events.{encode, encodeAll}
 use Rattle.events.specs.Area.{Wrote, Holds}
-use Rattle.events.specs.declared.Event.the-variants.{Pressure}
-use Rattle.events.specs.declared.Event.{Event}
+use Rattle.event_rules.specs.declared.Event.the-variants.{Pressure}
+use Rattle.event_rules.specs.declared.Event.{Event}
 use Rattle.events.proofs.Areas.{wrote-length, wrote-rest, adds-one, adds-adds}
 use Rattle.process_zone.specs.Edges.{alter}
 use Rattle.process_zone.proofs.Sizes.{alter-size}

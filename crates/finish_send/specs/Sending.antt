@@ -9,11 +9,11 @@ use lib.Ieee.{Float, nan, lt}
 use Rattle.basics.specs.Loops.{run, upFrom, if_then_else_}
 use Rattle.basics.specs.Floats.{0f}
 use Rattle.basics.proofs.Lists.{count}
-use Rattle.turfs.specs.Board.{Board, turfCount, linkCount, mixOf}
-use Rattle.mixture.specs.Mixture.{total, moveAir}
-use Rattle.events.specs.Events.{encode}
+use Rattle.board_rules.specs.Board.{Board, turfCount, linkCount, mixOf}
+use Rattle.mixture_rules.specs.Mixture.{total, moveAir}
+use Rattle.event_rules.specs.Events.{encode}
 use Rattle.events.specs.Area.{Wrote}
-use Rattle.events.specs.declared.Event.the-variants.{Pressure}
+use Rattle.event_rules.specs.declared.Event.the-variants.{Pressure}
 use Rattle.process_zone.specs.Edges.{alter, owned}
 use Rattle.plan_state.specs.Steps.{backLink}
 use Rattle.finalize_eq.proofs.Slices.{Held, sendHeld, giversHeld}

@@ -1,7 +1,7 @@
 // What a turf does with its own edges when it is finished: weights are lifted, and a lifted weight above 0 is sent. Of n turfs and e links the words hold
 // by link the owner and the reverse; the floats hold by link the weight, two arrays by row, and from `up` on by link the lifted weight.
 use basics::Spot;
-use events::Event;
+use event_rules::Event;
 ghost use mathlib.Core.Path.{_≡_};
 ghost use mathlib.Core.Bool.{_&&_};
 ghost use Prim.Native.Nat.{_+_, _*_, _-_, _≤_, _<_};
@@ -10,8 +10,8 @@ ghost use lib.Ieee.{nan, lt};
 ghost use Rattle.basics.specs.Loops.{run, upFrom};
 ghost use Rattle.basics.specs.Floats.{0f};
 ghost use Rattle.basics.proofs.Loops.{Found};
-ghost use Rattle.turfs.specs.Board.{Board};
-ghost use Rattle.mixture.specs.Mixture.{total};
+ghost use Rattle.board_rules.specs.Board.{Board};
+ghost use Rattle.mixture_rules.specs.Mixture.{total};
 ghost use Rattle.mixture.specs.Moves.{Holds};
 ghost use Rattle.process_zone.specs.Edges.{alter};
 ghost use Rattle.finish_send.specs.Areas.{ground, areas, liftedAt};

@@ -4,10 +4,10 @@ use mathlib.Core.List.{List}
 use Prim.Native.Nat.{ℕ, zero, suc}
 use lib.ListN.{length-replicate}
 use Rattle.basics.specs.Loops.{run}
-use Rattle.turfs.specs.Board.{Board, turfCount, linkCount, linksOf}
-use Rattle.turfs.specs.Refuse.{rowFits}
+use Rattle.board_rules.specs.Board.{Board, turfCount, linkCount, linksOf}
+use Rattle.board_rules.specs.Refuse.{rowFits}
 use Rattle.turfs.proofs.Accepted.{Accepted}
-use Rattle.mixture.specs.Mixture.{amounts, change, totalMix, total, moveAir}
+use Rattle.mixture_rules.specs.Mixture.{amounts, change, totalMix, total, moveAir}
 use Rattle.process_zone.specs.Edges.{edgesOf, edge}
 use Rattle.reverse_links.specs.Reverse.{reverseOf, Reverses}
 use Rattle.finalize_eq.specs.Finish.{Done, positive, zeroLifted, pairs, finishGivers, send, finishPair, finish}

@@ -6,11 +6,11 @@ use native.Mathlib.Omega.{arith}
 use lib.ListN.{length, drop}
 use lib.Ieee.{Float}
 use Rattle.basics.proofs.Parts.{drop-later}
-use Rattle.turfs.specs.Board.{Board, turfCount, linkCount}
+use Rattle.board_rules.specs.Board.{Board, turfCount, linkCount}
 use Rattle.turfs.proofs.Accepted.{Accepted}
-use Rattle.events.specs.Events.{encodeAll}
+use Rattle.event_rules.specs.Events.{encodeAll}
 use Rattle.events.specs.Area.{Holds}
-use Rattle.events.specs.declared.Event.{Event}
+use Rattle.event_rules.specs.declared.Event.{Event}
 use Rattle.events.proofs.Areas.{wrote-rest, wrote-length}
 use Rattle.reverse_links.specs.Reverse.{Linked, Reverses}
 use Rattle.finalize_eq.specs.Finish.{Done}

@@ -5,13 +5,13 @@ use mathlib.Core.Path.{_≡_, refl, ap, ap₂, _∙_, sym, subst}
 use mathlib.Core.List.{List, [], _∷_, _++_, append-nil}
 use mathlib.Core.Bool.{Bool, true, false, _||_, cond}
 use lib.ListN.{length}
-use Rattle.events.specs.Events.{encode, encodeAll, kindOf, sizeOf}
+use Rattle.event_rules.specs.Events.{encode, encodeAll, kindOf, sizeOf}
 use Rattle.events.specs.Area.{Wrote}
-use Rattle.events.specs.declared.Event.{Event}
-use Rattle.events.specs.declared.Event.the-variants.{DepressurizeWanted, PlanetWanted}
+use Rattle.event_rules.specs.declared.Event.{Event}
+use Rattle.event_rules.specs.declared.Event.the-variants.{DepressurizeWanted, PlanetWanted}
 use Rattle.events.proofs.Areas.{wrote-none}
 use Rattle.events.proofs.Sizes.{encode-size}
-use Rattle.flood_fill.specs.Fill.{Reach}
+use Rattle.fill_rules.specs.Fill.{Reach}
 use Rattle.flood_fill.specs.Steps.{push, askSpace, askPlanet, discover}
 use Rattle.flood_fill.specs.Held.{View, view, onReach, withEvents, Fit, Does, Moves, Asks, Discovers}
 use Rattle.flood_fill.specs.declared.Reached.{Reached}

@@ -13,7 +13,7 @@ use borrow.Author.Tests.{eq-eqb, ne-eqb, eqb-true}
 use Rattle.basics.specs.Loops.{snoc}
 use Rattle.basics.proofs.Loops.{All}
 use Rattle.basics.proofs.Lists.{All-snoc, one, count, count-set, count-length}
-use Rattle.flood_fill.specs.Fill.{Reach, insert}
+use Rattle.fill_rules.specs.Fill.{Reach, insert}
 use Rattle.flood_fill.specs.Steps.{edgeTo, mark, push, askSpace, askPlanet, discover, reachMet}
 use Rattle.flood_fill.specs.Held.{zeros, Bounds, Bounded}
 use Rattle.flood_fill.specs.declared.Met.{Met}

@@ -15,11 +15,11 @@ use borrow.Author.Tests.{eqb-true}
 use Rattle.basics.specs.Loops.{member, snoc}
 use Rattle.basics.proofs.Loops.{All}
 use Rattle.basics.proofs.Lists.{All-append, one, count, count-set, count-length}
-use Rattle.turfs.specs.Board.{Board, turfCount, idOf, end, enabled, planetary, immutable, firelock}
-use Rattle.events.specs.declared.Event.{Event}
-use Rattle.events.specs.declared.Event.the-variants.{DepressurizeWanted, PlanetWanted}
+use Rattle.board_rules.specs.Board.{Board, turfCount, idOf, end, enabled, planetary, immutable, firelock}
+use Rattle.event_rules.specs.declared.Event.{Event}
+use Rattle.event_rules.specs.declared.Event.the-variants.{DepressurizeWanted, PlanetWanted}
 use Rattle.events.proofs.Compared.{isRequest}
-use Rattle.flood_fill.specs.Fill.{Reach, Fill, insert, reachLink, fill}
+use Rattle.fill_rules.specs.Fill.{Reach, Fill, insert, reachLink, fill}
 use Rattle.flood_fill.proofs.Steps.{Keeps, fill-keeps}
 
 -- ---- marks

@@ -14,10 +14,10 @@ use lib.Ieee.{Float}
 use Rattle.basics.specs.Loops.{member, snoc}
 use Rattle.basics.proofs.Loops.{All, All-imp, cond-both}
 use Rattle.basics.proofs.Lists.{All-snoc, or-left, member-has, member-front, member-last}
-use Rattle.turfs.specs.Board.{Board, turfCount, end, enabled, linksOf}
+use Rattle.board_rules.specs.Board.{Board, turfCount, end, enabled, linksOf}
 use Rattle.turfs.proofs.Line.{Line, line-snoc}
-use Rattle.events.specs.declared.Event.{Event}
-use Rattle.flood_fill.specs.Fill.{Reach, insert, reachLink, fill}
+use Rattle.event_rules.specs.declared.Event.{Event}
+use Rattle.fill_rules.specs.Fill.{Reach, insert, reachLink, fill}
 use Rattle.flood_fill.proofs.Steps.{Keeps, fill-keeps}
 
 pub inserted : (x : ℕ) (xs : List ℕ) → T (member x (insert x xs))

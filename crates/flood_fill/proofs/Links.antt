@@ -14,9 +14,9 @@ use Rattle.basics.specs.Loops.{run, upFrom}
 use Rattle.basics.specs.Regions.{cut, region}
 use Rattle.basics.proofs.Lists.{one}
 use Rattle.basics.proofs.Loops.{run-suc}
-use Rattle.events.specs.declared.Event.{Event}
+use Rattle.event_rules.specs.declared.Event.{Event}
 use Rattle.events.proofs.Areas.{wrote-length}
-use Rattle.flood_fill.specs.Fill.{Reach}
+use Rattle.fill_rules.specs.Fill.{Reach}
 use Rattle.flood_fill.specs.Steps.{metAt, Rows, edgeTo, mark, discover, reachMet, reachPart}
 use Rattle.flood_fill.specs.Held.{sizes, nodesAt, foundAt, View, view, onReach, zeros, Fit, Bounds, Bounded, Does, Moves, Discovers, Reaches}
 use Rattle.flood_fill.specs.declared.Reached.{Reached}

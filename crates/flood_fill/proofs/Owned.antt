@@ -16,11 +16,11 @@ use borrow.Author.Tests.{eqb-true, ne-eqb}
 use Rattle.basics.specs.Loops.{run, member, snoc, times}
 use Rattle.basics.proofs.Loops.{All, All-imp, All-getD, times-keeps, and-right}
 use Rattle.basics.proofs.Lists.{All-snoc, Apart, apart-snoc, apart-at}
-use Rattle.turfs.specs.Board.{Board, turfCount, linkCount, end, enabled, planetary, linksOf}
+use Rattle.board_rules.specs.Board.{Board, turfCount, linkCount, end, enabled, planetary, linksOf}
 use Rattle.turfs.proofs.Accepted.{Accepted, source, sources, links-below, links-apart}
-use Rattle.events.specs.declared.Event.{Event}
-use Rattle.flood_fill.specs.Fill.{Reach, Fill, isOn, insert, reachLink, expand, endFill, pop, popNext, fill}
-use Rattle.flood_fill.specs.declared.Going.the-variants.{Broken, Over}
+use Rattle.event_rules.specs.declared.Event.{Event}
+use Rattle.fill_rules.specs.Fill.{Reach, Fill, isOn, insert, reachLink, expand, endFill, pop, popNext, fill}
+use Rattle.fill_rules.specs.declared.Going.the-variants.{Broken, Over}
 use Rattle.flood_fill.proofs.Steps.{startFill}
 use Rattle.flood_fill.proofs.Counts.{isMark, marked, mark-put, was-new}
 

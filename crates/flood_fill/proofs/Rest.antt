@@ -13,12 +13,12 @@ use borrow.Author.Tests.{ltb-true, ltb-false, le-ltb}
 use Rattle.basics.specs.Loops.{run, snoc}
 use Rattle.basics.proofs.Loops.{All, All-any, run-keeps, times-keeps, times-rests}
 use Rattle.basics.proofs.Tests.{and-false}
-use Rattle.turfs.specs.Board.{Board, turfCount, end, enabled, planetary, linksOf}
-use Rattle.events.specs.declared.Event.{Event}
+use Rattle.board_rules.specs.Board.{Board, turfCount, end, enabled, planetary, linksOf}
+use Rattle.event_rules.specs.declared.Event.{Event}
 use Rattle.events.proofs.Compared.{isRequest}
-use Rattle.flood_fill.specs.Fill.{Reach, Fill, isOn, isOver, reachLink, expand, endFill, pop, popNext, fill}
-use Rattle.flood_fill.specs.declared.Going.{Going}
-use Rattle.flood_fill.specs.declared.Going.the-variants.{On, Broken, Over}
+use Rattle.fill_rules.specs.Fill.{Reach, Fill, isOn, isOver, reachLink, expand, endFill, pop, popNext, fill}
+use Rattle.fill_rules.specs.declared.Going.{Going}
+use Rattle.fill_rules.specs.declared.Going.the-variants.{On, Broken, Over}
 use Rattle.flood_fill.proofs.Steps.{startFill}
 use Rattle.flood_fill.proofs.Counts.{queue-short}
 

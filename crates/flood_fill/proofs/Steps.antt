@@ -10,11 +10,11 @@ use Rattle.basics.specs.Loops.{run, member, snoc}
 use Rattle.basics.specs.Floats.{0f}
 use Rattle.basics.proofs.Loops.{All-getD, run-keeps, times-keeps, cond-both, and-right}
 use Rattle.basics.proofs.Lists.{members, member-front}
-use Rattle.turfs.specs.Board.{Board, turfCount, end, enabled, planetary, immutable, linksOf}
-use Rattle.events.specs.declared.Event.{Event}
-use Rattle.flood_fill.specs.Fill.{Reach, Fill, isOn, reachLink, expand, endFill, pop, popNext, fill}
-use Rattle.flood_fill.specs.declared.Going.the-variants.{On, Broken, Over}
-use Rattle.flood_fill.specs.Worked as worked  -- checked before the laws
+use Rattle.board_rules.specs.Board.{Board, turfCount, end, enabled, planetary, immutable, linksOf}
+use Rattle.event_rules.specs.declared.Event.{Event}
+use Rattle.fill_rules.specs.Fill.{Reach, Fill, isOn, reachLink, expand, endFill, pop, popNext, fill}
+use Rattle.fill_rules.specs.declared.Going.the-variants.{On, Broken, Over}
+use Rattle.fill_rules.specs.Worked as worked  -- checked before the laws
 
 -- where a fill from the turf r starts
 abbrev pub startReach : ℕ → List ℕ → List ℕ → List Event → Reach

@@ -15,8 +15,8 @@ use Rattle.basics.proofs.Regions.{cut-set, cut-get, cut-length}
 use Rattle.basics.proofs.Stores.{Far}
 use Rattle.index_set.specs.Line.{Below, Apart, Line, array, Holds}
 use Rattle.index_set.proofs.Queue.{line-more, count-below}
-use Rattle.events.specs.declared.Event.{Event}
-use Rattle.flood_fill.specs.Fill.{Reach, insert}
+use Rattle.event_rules.specs.declared.Event.{Event}
+use Rattle.fill_rules.specs.Fill.{Reach, insert}
 use Rattle.flood_fill.specs.Steps.{edgeTo, mark, push}
 use Rattle.flood_fill.specs.Held.{sizes, queueAt, placesAt, foundAt, nodesAt, View, viewIn, view, onReach, Fit, Moves}
 use Rattle.flood_fill.specs.declared.Reached.{Reached}

@@ -9,10 +9,10 @@ use Rattle.basics.specs.Regions.{cut}
 use Rattle.basics.proofs.Loops.{All}
 use Rattle.basics.proofs.Lists.{count}
 use Rattle.index_set.specs.Line.{Holds}
-use Rattle.events.specs.Events.{encodeAll}
+use Rattle.event_rules.specs.Events.{encodeAll}
 use Rattle.events.specs.Area.{Wrote}
-use Rattle.events.specs.declared.Event.{Event}
-use Rattle.flood_fill.specs.Fill.{Reach}
+use Rattle.event_rules.specs.declared.Event.{Event}
+use Rattle.fill_rules.specs.Fill.{Reach}
 use Rattle.flood_fill.specs.declared.Reached.{Reached}
 
 -- ---- the words

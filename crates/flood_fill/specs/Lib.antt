@@ -1,4 +1,2 @@
-pub mod Fill
 pub mod Steps
 pub mod Held
-pub mod Worked

@@ -6,10 +6,10 @@ use mathlib.Core.Path.{_≡_}
 use lib.Dec.{eqb}
 use lib.ListN.{length, getD, set}
 use Rattle.basics.specs.Loops.{snoc, if_then_else_}
-use Rattle.turfs.specs.Board.{Board, anyBit, lockBit}
-use Rattle.events.specs.declared.Event.{Event}
-use Rattle.events.specs.declared.Event.the-variants.{DepressurizeWanted, PlanetWanted}
-use Rattle.flood_fill.specs.Fill.{Reach, insert}
+use Rattle.board_rules.specs.Board.{Board, anyBit, lockBit}
+use Rattle.event_rules.specs.declared.Event.{Event}
+use Rattle.event_rules.specs.declared.Event.the-variants.{DepressurizeWanted, PlanetWanted}
+use Rattle.fill_rules.specs.Fill.{Reach, insert}
 use Rattle.flood_fill.specs.declared.Met.{Met}
 
 -- the row a at the end of the link k, read off the tables

@@ -1,5 +1,6 @@
 // `flood_fill_zones`: one zone, from one turf. Its definition stands in specs/Fill.antt; specs/Held.antt says how the work area holds it.
-use events::Event;
+use fill_rules::Going;
+use event_rules::Event;
 use turfs::AdjacentFlags;
 use turfs::SimulationFlags;
 ghost use mathlib.Core.Path.{_≡_};
@@ -9,16 +10,10 @@ ghost use Prim.Native.Nat.{ℕ, _+_, _≤_, _<_};
 ghost use lib.Dec.{eqb, ltb};
 ghost use lib.ListN.{length, getD};
 ghost use Rattle.basics.specs.Loops.{run, upFrom};
-ghost use Rattle.turfs.specs.Board.{lockBit};
+ghost use Rattle.board_rules.specs.Board.{lockBit};
 ghost use Rattle.flood_fill.specs.Steps.{metAt, Rows, edgeTo, push, askSpace, askPlanet, discover, reachMet, reachPart};
 ghost use Rattle.flood_fill.specs.Held.{foundAt, startsAt, nodesAt, Sizes, view, Fit, Bounded, Part, Moves, Asks, Discovers, Reaches};
 
-// How a fill stands: it goes on, it broke off at the planet limit, or the clock ran out.
-pub enum Going {
-    On,
-    Broken,
-    Over,
-}
 
 // How far a walk over links has come: rows pushed, nodes of the zone, `ignore_zone`, bytes of events.
 pub struct Reached {

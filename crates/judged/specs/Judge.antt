@@ -6,12 +6,12 @@ use lib.ListN.{length, drop, replicate}
 use lib.Ieee.{Float}
 use Rattle.basics.specs.Loops.{allOf, upFrom, same}
 use Rattle.basics.specs.Floats.{ofWord, bits, exact}
-use Rattle.turfs.specs.Board.{Board}
-use Rattle.lent.specs.Lent.{Lent}
+use Rattle.board_rules.specs.Board.{Board}
+use Rattle.lent_rules.specs.Lent.{Lent}
 use Rattle.equalize.specs.Equalize.{Ask}
 use Rattle.equalize.specs.Result.{equalizeResult}
 use Rattle.equalize.specs.Worked.{numbers}
-use Rattle.depressurize.specs.Depressurize.{depressurizeResult}
+use Rattle.depressurize_rules.specs.Depressurize.{depressurizeResult}
 use Rattle.planet_walk.specs.Planet.{planetResult}
 
 -- how long the lent areas are: event bytes, words, floats

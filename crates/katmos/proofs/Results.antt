@@ -3,7 +3,7 @@ use mathlib.Core.Path.{_≡_, ap}
 use mathlib.Core.List.{List}
 use Prim.Native.Nat.{ℕ}
 use lib.ListN.{getD}
-use Rattle.lent.specs.Lent.{Lent, Result}
+use Rattle.lent_rules.specs.Lent.{Lent, Result}
 use Rattle.katmos.specs.Answers.{Answers}
 
 module _ {A : Type 0} (numbers : A → List ℕ) (a : A) (l : Lent) (o : Result A) where

@@ -3,10 +3,10 @@ use mathlib.Core.Path.{_≡_}
 use mathlib.Core.List.{List, [], _∷_}
 use Prim.Native.Nat.{ℕ}
 use lib.ListN.{getD}
-use Rattle.lent.specs.Lent.{Lent, Result}
+use Rattle.lent_rules.specs.Lent.{Lent, Result}
 use Rattle.equalize.specs.declared.EqualizeAnswer.{EqualizeAnswer}
 use Rattle.planet_walk.specs.declared.PlanetAnswer.{PlanetAnswer}
-use Rattle.depressurize.specs.declared.DepressurizeAnswer.{DepressurizeAnswer}
+use Rattle.depressurize_rules.specs.declared.DepressurizeAnswer.{DepressurizeAnswer}
 
 -- number, cancelled, processed, tests, zones, apart, bytes
 abbrev pub equalizeNumbers : EqualizeAnswer → List ℕ

@@ -7,7 +7,7 @@ ghost use Rattle.lent.specs.Given.{lent};
 ghost use Rattle.fill_all.specs.Held.{ask};
 ghost use Rattle.equalize.specs.Result.{equalizeResult};
 ghost use Rattle.planet_walk.specs.Planet.{planetResult};
-ghost use Rattle.depressurize.specs.Depressurize.{depressurizeResult};
+ghost use Rattle.depressurize_rules.specs.Depressurize.{depressurizeResult};
 ghost use Rattle.katmos.specs.Answers.{Answers, equalizeNumbers, planetNumbers, depressurizeNumbers};
 
 // Evens out the gas of the rooms around the hot ones: number, cancelled, processed, tests, zones, apart, bytes.

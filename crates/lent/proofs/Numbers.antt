@@ -11,13 +11,13 @@ use borrow.Author.Tests.{leb-true}
 use Rattle.basics.specs.Loops.{every, allOf}
 use Rattle.basics.specs.Floats.{0f}
 use Rattle.basics.proofs.Tests.{each, one-fails}
-use Rattle.turfs.specs.Board.{Board}
-use Rattle.turfs.specs.Refuse.{sizesFit, tablesFit, idsFit, linksFit}
+use Rattle.board_rules.specs.Board.{Board}
+use Rattle.board_rules.specs.Refuse.{sizesFit, tablesFit, idsFit, linksFit}
 use Rattle.turfs.specs.Tables.{Small}
 use Rattle.turfs.proofs.Tables.{amounts-of, tables-of}
-use Rattle.mixture.specs.Mixture.{amountFits}
-use Rattle.events.specs.declared.Event.{Event}
-use Rattle.lent.specs.Lent.{Lent, Extra, wordsRoom, floatsRoom, firstFailed, refusal, after}
+use Rattle.mixture_rules.specs.Mixture.{amountFits}
+use Rattle.event_rules.specs.declared.Event.{Event}
+use Rattle.lent_rules.specs.Lent.{Lent, Extra, wordsRoom, floatsRoom, firstFailed, refusal, after}
 use Rattle.lent.specs.Given.{counted, cleared, Given}
 
 -- ---- the number of a list of requirements

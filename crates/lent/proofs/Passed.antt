@@ -9,14 +9,14 @@ use lib.ListN.{length, drop, length-append, length-drop}
 use lib.Ieee.{Float}
 use Rattle.basics.specs.Loops.{every}
 use Rattle.basics.proofs.Loops.{All, all-of}
-use Rattle.turfs.specs.Board.{Board}
-use Rattle.turfs.specs.Refuse.{linksFit}
+use Rattle.board_rules.specs.Board.{Board}
+use Rattle.board_rules.specs.Refuse.{linksFit}
 use Rattle.turfs.proofs.Accepted.{Accepted, accepted}
-use Rattle.mixture.specs.Mixture.{amountFits}
-use Rattle.events.specs.Events.{encodeAll}
-use Rattle.events.specs.declared.Event.{Event}
-use Rattle.lent.specs.Lent.{Lent, Extra, wordsRoom, floatsRoom, firstFailed, refusal, after}
-use Rattle.lent.specs.Worked as worked  -- checked before the laws
+use Rattle.mixture_rules.specs.Mixture.{amountFits}
+use Rattle.event_rules.specs.Events.{encodeAll}
+use Rattle.event_rules.specs.declared.Event.{Event}
+use Rattle.lent_rules.specs.Lent.{Lent, Extra, wordsRoom, floatsRoom, firstFailed, refusal, after}
+use Rattle.lent_rules.specs.Worked as worked  -- checked before the laws
 
 held : (t : Bool) (n x : ℕ) → zero < n → cond t x n ≡ 0 → T t × (x ≡ 0)
 held true n x h e = (tt, e)

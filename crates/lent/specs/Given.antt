@@ -3,10 +3,10 @@ use mathlib.Core.List.{List, [], _++_}
 use Prim.Native.Nat.{ℕ, _≤_}
 use lib.ListN.{length, drop, replicate}
 use lib.Ieee.{Float}
-use Rattle.turfs.specs.Board.{Board}
+use Rattle.board_rules.specs.Board.{Board}
 use Rattle.turfs.specs.Tables.{board}
 use Rattle.mixture.specs.Accepted.{Accepted}
-use Rattle.lent.specs.Lent.{Lent, Extra, wordsRoom, floatsRoom}
+use Rattle.lent_rules.specs.Lent.{Lent, Extra, wordsRoom, floatsRoom}
 use Rattle.lent.specs.declared.ExtraTests.{ExtraTests}
 
 -- a board of which no more than the counts is looked at

@@ -7,7 +7,7 @@ ghost use lib.ListN.{length};
 ghost use Rattle.basics.specs.Loops.{allOf};
 ghost use Rattle.basics.specs.Floats.{0f};
 ghost use Rattle.turfs.specs.Tables.{board, Small};
-ghost use Rattle.lent.specs.Lent.{wordsRoom, floatsRoom, noExtra, refusal};
+ghost use Rattle.lent_rules.specs.Lent.{wordsRoom, floatsRoom, noExtra, refusal};
 ghost use Rattle.lent.specs.Given.{counted, cleared, lent, extraOf};
 
 // The words of the scratch that a call may use.

@@ -6,8 +6,8 @@ use mathlib.Core.List.{List}
 use lib.ListN.{length, getD}
 use lib.Ieee.{Float, nan}
 use Rattle.basics.proofs.Tests.{every-at}
-use Rattle.turfs.specs.Board.{Board, turfCount, mixtureCount, mixOf}
-use Rattle.mixture.specs.Mixture.{amountFits}
+use Rattle.board_rules.specs.Board.{Board, turfCount, mixtureCount, mixOf}
+use Rattle.mixture_rules.specs.Mixture.{amountFits}
 use Rattle.mixture.specs.Moves.{Holds}
 use Rattle.mixture.specs.Accepted.{Accepted}
 use Rattle.mixture.proofs.Parts.{holds-of}

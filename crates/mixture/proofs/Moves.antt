@@ -13,8 +13,8 @@ use lib.Dec.{eqb}
 use lib.Ieee.{Float, nan}
 use Rattle.basics.specs.Floats.{0f, 1f, _+f_, _*f_, _-f_}
 use Rattle.basics.proofs.Stores.{Far, paste-far, paste-set, paste-next, paste-all}
-use Rattle.turfs.specs.Board.{Board, immutableMix}
-use Rattle.mixture.specs.Mixture.{sum, scale, plus, ratio, remove, part, putPart, amounts, change, totalMix, moveAir, clearAir}
+use Rattle.board_rules.specs.Board.{Board, immutableMix}
+use Rattle.mixture_rules.specs.Mixture.{sum, scale, plus, ratio, remove, part, putPart, amounts, change, totalMix, moveAir, clearAir}
 use Rattle.mixture.specs.Moves.{Holds, setIf, moveGas}
 use Rattle.mixture.proofs.Parts.{before, plus-length}
 

@@ -11,9 +11,9 @@ use lib.Dec.{T}
 use lib.ListN.{length, take, drop, length-append, length-drop, length-map, take-append-drop}
 use lib.Seq.{length-take-le, take-append-le, drop-append-le, drop-append-add, drop-drop, take-at, drop-at}
 use lib.Ieee.{Float}
-use Rattle.turfs.specs.Board.{Board, mixtureCount, immutableMix}
-use Rattle.mixture.specs.Mixture.{part, putPart, scale, plus, remove, amounts, change, moveAir}
-use Rattle.mixture.specs.Worked as worked  -- checked before the laws
+use Rattle.board_rules.specs.Board.{Board, mixtureCount, immutableMix}
+use Rattle.mixture_rules.specs.Mixture.{part, putPart, scale, plus, remove, amounts, change, moveAir}
+use Rattle.mixture_rules.specs.Worked as worked  -- checked before the laws
 use Rattle.mixture.specs.Moves.{Holds}
 
 -- the end of a mixture that comes before another

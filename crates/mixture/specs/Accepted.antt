@@ -6,9 +6,9 @@ use Prim.Native.Nat.{_*_}
 use lib.ListN.{length}
 use lib.Ieee.{Float}
 use Rattle.basics.specs.Loops.{every}
-use Rattle.turfs.specs.Board.{Board, mixtureCount}
+use Rattle.board_rules.specs.Board.{Board, mixtureCount}
 use Rattle.turfs.specs.Tables.{Tables}
-use Rattle.mixture.specs.Mixture.{amountFits}
+use Rattle.mixture_rules.specs.Mixture.{amountFits}
 
 -- the refusals 1 to 5 let them pass
 pub record Accepted (b : Board) (gas : List Float) : Type 0 where

@@ -1,4 +1,2 @@
-pub mod Mixture
-pub mod Worked
 pub mod Moves
 pub mod Accepted

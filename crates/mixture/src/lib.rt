@@ -5,8 +5,8 @@ ghost use Prim.Native.Nat.{_<_};
 ghost use lib.ListN.{length, getD};
 ghost use Rattle.basics.specs.Loops.{every};
 ghost use Rattle.basics.specs.Floats.{finiteSignClear};
-ghost use Rattle.turfs.specs.Board.{Board};
-ghost use Rattle.mixture.specs.Mixture.{sum, ratio, total, totalMix, moveAir, clearAir, amountFits};
+ghost use Rattle.board_rules.specs.Board.{Board};
+ghost use Rattle.mixture_rules.specs.Mixture.{sum, ratio, total, totalMix, moveAir, clearAir, amountFits};
 ghost use Rattle.mixture.specs.Moves.{Holds, setIf, moveGas};
 
 // The sum of the amounts from the left.

@@ -6,10 +6,10 @@ use mathlib.Core.List.{List}
 use lib.Dec.{T}
 use lib.ListN.{length}
 use lib.Ieee.{Float}
-use Rattle.turfs.specs.Board.{Board, turfCount, linkCount}
-use Rattle.turfs.specs.Refuse.{linksFit}
+use Rattle.board_rules.specs.Board.{Board, turfCount, linkCount}
+use Rattle.board_rules.specs.Refuse.{linksFit}
 use Rattle.turfs.proofs.Accepted.{Accepted}
-use Rattle.lent.specs.Lent.{wordsRoom, floatsRoom}
+use Rattle.lent_rules.specs.Lent.{wordsRoom, floatsRoom}
 use Rattle.fill_zone.proofs.Boards.{gas-holds}
 use Rattle.equalize.specs.Equalize.{Ask, fillAll}
 use Rattle.equalize.proofs.Zones.{zone-has}

@@ -10,7 +10,7 @@ use Rattle.basics.specs.Loops.{run, upFrom}
 use Rattle.basics.specs.Regions.{region}
 use Rattle.basics.proofs.Lists.{upFrom-length}
 use Rattle.basics.proofs.Regions.{cut-length}
-use Rattle.turfs.specs.Board.{Board, turfCount, linkCount}
+use Rattle.board_rules.specs.Board.{Board, turfCount, linkCount}
 use Rattle.turfs.proofs.Line.{Line, line-short}
 use Rattle.index_set.specs.Line.{Below}
 use Rattle.index_set.proofs.Queue.{all-below}

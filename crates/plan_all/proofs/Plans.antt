@@ -14,7 +14,7 @@ use Rattle.basics.specs.Regions.{cut, region, base}
 use Rattle.basics.proofs.Loops.{run-both, run-up, run-up-end}
 use Rattle.basics.proofs.Lists.{upFrom-length, upFrom-below, map-up}
 use Rattle.basics.proofs.Regions.{cut-part, cut-clear, cut-rest}
-use Rattle.turfs.specs.Board.{Board, turfCount, linkCount}
+use Rattle.board_rules.specs.Board.{Board, turfCount, linkCount}
 use Rattle.process_zone.specs.Plan.{Plan, planZone}
 use Rattle.flood_fill.specs.Held.{sizes, startsAt, nodesAt}
 use Rattle.finalize_eq.specs.Turns.{Zone, zoneAt}

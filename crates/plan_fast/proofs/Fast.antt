@@ -17,7 +17,7 @@ use Rattle.basics.specs.declared.Spot.the-variants.{At}
 use Rattle.basics.proofs.Loops.{All, All-any, run-both, run-keep}
 use Rattle.basics.proofs.Regions.{region-part}
 use Rattle.basics.proofs.Parts.{part}
-use Rattle.turfs.specs.Board.{Board, end, linksOf}
+use Rattle.board_rules.specs.Board.{Board, end, linksOf}
 use Rattle.process_zone.specs.Edges.{edgesOf, edge, adjust}
 use Rattle.process_zone.specs.Plan.{Plan, load, store, reweigh, withDelta, countOf, eligible, fastMove, fastTurf}
 use Rattle.process_zone.specs.declared.MonstermosInfo.{MonstermosInfo}

@@ -1,11 +1,6 @@
-pub mod Sides
-pub mod Lessers
-pub mod Trades
-pub mod Drains
 pub mod Seeks
 pub mod Rows
 pub mod Passes
 pub mod Search
-pub mod Nears
 pub mod Skips
 pub mod Serves

@@ -14,9 +14,9 @@ use Rattle.process_zone.specs.declared.Side.{Side}
 use Rattle.index_set.specs.Line.{array}
 use Rattle.plan_state.specs.Held.{Area, area, view, Does}
 use Rattle.plan_state.proofs.Stores.{does-as, delta-at}
-use Rattle.plan_search.specs.Search.{Seeking, seekOf, Sought, Passes}
-use Rattle.plan_search.specs.Steps.{point, alongPart}
-use Rattle.plan_search.proofs.Trades.{meet-none}
+use Rattle.plan_trade.specs.Search.{Seeking, seekOf, Sought, Passes}
+use Rattle.plan_trade.specs.Steps.{point, alongPart}
+use Rattle.plan_trade.proofs.Trades.{meet-none}
 use Rattle.plan_search.proofs.Seeks.{sought-none, keeps-none, idle-none, idle-then, link-foreign, link-queued, link-seeking, link-new, link-keeps, link-idle, link-deltas}
 use Rattle.plan_search.proofs.Rows.{leaves-then, keeps-next}
 

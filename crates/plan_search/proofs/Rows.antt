@@ -11,7 +11,7 @@ use lib.Ieee.{Float, nan}
 use Rattle.basics.specs.Loops.{run, upFrom}
 use Rattle.basics.proofs.Loops.{run-append, run-keep, run-up, up-append, run-still, All-any}
 use Rattle.basics.proofs.Parts.{part, part-at}
-use Rattle.turfs.specs.Board.{linksOf}
+use Rattle.board_rules.specs.Board.{linksOf}
 use Rattle.process_zone.specs.Edges.{edgesOf}
 use Rattle.process_zone.specs.Plan.{Plan, Seek, settled, seekTo, seekLink}
 use Rattle.process_zone.specs.declared.Side.{Side}
@@ -19,8 +19,8 @@ use Rattle.reverse_links.specs.Reverse.{InRow, Linked}
 use Rattle.plan_state.specs.Held.{grid, Area, area, View, view}
 use Rattle.plan_state.proofs.Stores.{frame-then, delta-at}
 use Rattle.plan_state.proofs.Parts.{part-run, part-length}
-use Rattle.plan_search.specs.Search.{Seeking, seekOf, Leaves, Sought, Leads, AllMet, KeepsMet, KeepsIdle, Passes}
-use Rattle.plan_search.specs.Steps.{alongPart}
+use Rattle.plan_trade.specs.Search.{Seeking, seekOf, Leaves, Sought, Leads, AllMet, KeepsMet, KeepsIdle, Passes}
+use Rattle.plan_trade.specs.Steps.{alongPart}
 use Rattle.plan_search.proofs.Seeks.{leaves-none, keeps-none, idle-none, idle-then, to-settled}
 
 -- ---- in a loop: what is left to do, f, from here on comes to what the whole, f₀, comes to from the start

@@ -12,14 +12,14 @@ use lib.Ieee.{Float, nan}
 use borrow.Author.Tests.{lt-ltb, le-ltb}
 use Rattle.basics.specs.Loops.{run, times}
 use Rattle.basics.proofs.Loops.{times-still}
-use Rattle.turfs.specs.Board.{Board}
+use Rattle.board_rules.specs.Board.{Board}
 use Rattle.process_zone.specs.Edges.{edgesOf}
 use Rattle.process_zone.specs.Plan.{Plan, Seek, settled, seekLink, seekRow, seekNext}
 use Rattle.process_zone.specs.declared.Side.{Side}
 use Rattle.index_set.proofs.Queue.{Below-at}
 use Rattle.plan_state.specs.Held.{Area, area, View, view}
 use Rattle.plan_state.proofs.Stores.{queue-at, delta-at}
-use Rattle.plan_search.specs.Search.{Seeking, seekOf, Leaves, Sought, Searched}
+use Rattle.plan_trade.specs.Search.{Seeking, seekOf, Leaves, Sought, Searched}
 use Rattle.plan_search.proofs.Seeks.{leaves-none}
 use Rattle.plan_search.proofs.Rows.{leaves-then}
 

@@ -22,10 +22,10 @@ use Rattle.index_set.specs.Line.{Line, array, Holds}
 use Rattle.index_set.proofs.Queue.{not-member, count-below, take-more, line-more}
 use Rattle.plan_state.specs.Held.{Area, area, wsizes, rsizes, View, viewIn, view, Fit, onPlan, Does}
 use Rattle.plan_state.proofs.Stores.{frame-none, owner-at, delta-at, direction-length, via-length, amount-length, paired, via-view}
-use Rattle.plan_search.specs.Search.{Seeking, seekOf, Leaves, Sought, Leads, Met, AllMet, KeepsMet, Idle, KeepsIdle}
-use Rattle.plan_search.specs.Steps.{lesser, point}
-use Rattle.plan_search.proofs.Lessers.{lesser-left, lesser-right}
-use Rattle.plan_search.proofs.Trades.{meet-none, meet-direction, meet-others, meet-here}
+use Rattle.plan_trade.specs.Search.{Seeking, seekOf, Leaves, Sought, Leads, Met, AllMet, KeepsMet, Idle, KeepsIdle}
+use Rattle.plan_trade.specs.Steps.{lesser, point}
+use Rattle.plan_trade.proofs.Lessers.{lesser-left, lesser-right}
+use Rattle.plan_trade.proofs.Trades.{meet-none, meet-direction, meet-others, meet-here}
 
 pub leaves-none : {n e : ℕ} {a : Area} → Leaves n e a a
 leaves-none = record { frame = frame-none; list = refl }

@@ -19,7 +19,7 @@ use Rattle.basics.specs.declared.Spot.{Spot}
 use Rattle.basics.specs.declared.Spot.the-variants.{At}
 use Rattle.basics.proofs.Loops.{All, run-both}
 use Rattle.basics.proofs.Regions.{cut-set, cut-length}
-use Rattle.turfs.specs.Board.{Board, end}
+use Rattle.board_rules.specs.Board.{Board, end}
 use Rattle.process_zone.specs.Edges.{edge, adjust}
 use Rattle.process_zone.specs.Plan.{Plan, Seek, load, store, reweigh, withAmount, drainTo, drain, serve, seekNext}
 use Rattle.process_zone.specs.declared.MonstermosInfo.{MonstermosInfo}
@@ -31,13 +31,13 @@ use Rattle.plan_state.specs.Held.{grid, Area, area, wsizes, rsizes, View, viewI
 use Rattle.plan_state.specs.Steps.{backLink, adjustAt}
 use Rattle.plan_state.proofs.Stores.{frame-then, does-frame, store-amount, setAmount, direction-length, amount-length}
 use Rattle.plan_state.proofs.Links.{link-below, edge-there, edge-back, reverse-within}
-use Rattle.plan_search.specs.Search.{Seeking, seekOf, Leaves, Searched, Leads, Met, AllMet, Idle, Within}
-use Rattle.plan_search.specs.Steps.{handOn, drainVia}
-use Rattle.plan_search.proofs.Drains.{all-of-rows, all-back}
+use Rattle.plan_trade.specs.Search.{Seeking, seekOf, Leaves, Searched, Leads, Met, AllMet, Idle, Within}
+use Rattle.plan_trade.specs.Steps.{handOn, drainVia}
+use Rattle.plan_drain.proofs.Drains.{all-of-rows, all-back}
 use Rattle.plan_search.proofs.Seeks.{none-left}
 use Rattle.plan_search.proofs.Rows.{leaves-then}
 use Rattle.plan_search.proofs.Search.{queue-below}
-use Rattle.plan_search.proofs.Nears.{Near, near-times}
+use Rattle.plan_trade.proofs.Nears.{Near, near-times}
 
 -- ---- the way back by the links is the way back by the edges
 

@@ -20,11 +20,11 @@ use Rattle.basics.proofs.Loops.{All, All-imp, run-back, run-still}
 use Rattle.process_zone.specs.Plan.{Plan, load}
 use Rattle.plan_state.specs.Held.{Area, area, View, view, Does}
 use Rattle.plan_state.proofs.Stores.{does-as, does-then}
-use Rattle.plan_search.specs.Search.{Seeking, seekOf, Idle, Within}
-use Rattle.plan_search.specs.Steps.{lesser, handOn, drainVia}
-use Rattle.plan_search.proofs.Lessers.{lesser-left, lesser-right, lesser-is}
-use Rattle.plan_search.proofs.Drains.{take-few, all-of-rows, all-back}
-use Rattle.plan_search.proofs.Nears.{Among, Near}
+use Rattle.plan_trade.specs.Search.{Seeking, seekOf, Idle, Within}
+use Rattle.plan_trade.specs.Steps.{lesser, handOn, drainVia}
+use Rattle.plan_trade.proofs.Lessers.{lesser-left, lesser-right, lesser-is}
+use Rattle.plan_drain.proofs.Drains.{take-few, all-of-rows, all-back}
+use Rattle.plan_trade.proofs.Nears.{Among, Near}
 
 -- a queue from its end, in two parts
 run-parts : {S : Type 0} (f : ℕ → S → S) (q : List ℕ) (from k to : ℕ) (s : S) → to ≡ from + k → to ≤ length q

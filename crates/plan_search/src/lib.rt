@@ -14,136 +14,23 @@ ghost use Rattle.process_zone.specs.Plan.{settled, wants, more, trade, meet, se
 ghost use Rattle.index_set.specs.Line.{Below};
 ghost use Rattle.reverse_links.specs.Reverse.{Linked, Reverses};
 ghost use Rattle.plan_state.specs.Held.{grid, area, view, Fit, Does, Serves};
-ghost use Rattle.plan_search.specs.Search.{Seeking, Sought, Searched, AllMet, KeepsMet, Idle, KeepsIdle, Passes, Within};
-ghost use Rattle.plan_search.specs.Steps.{lesser, given, bargain, point, alongPart, handOn, drainVia};
-use basics::Spot;
+ghost use Rattle.plan_trade.specs.Search.{Seeking, Sought, Searched, AllMet, KeepsMet, Idle, KeepsIdle, Passes, Within};
+ghost use Rattle.plan_trade.specs.Steps.{lesser, given, bargain, point, alongPart, handOn, drainVia};
 use index_set::contains;
 use index_set::insert;
-use plan_state::adjust_eq_movement;
-use plan_state::back_link;
 use plan_state::load;
 use plan_state::store;
 use process_zone::MonstermosInfo;
 use process_zone::Side;
-
-// A giver's number as it is, a taker's negated, so that one comparison serves both.
-fn given(side: Side, x: f32) -> f32
-    ensures { λ r. ⌜ r ≡ given side x ⌝ }
-{
-    match side {
-        Side::Giving => x,
-        Side::Taking => -x,
-    }
-}
-
-// The turf in hand has nothing more to give, or to take.
-fn settled(side: Side, x: f32) -> bool
-    ensures { λ r. ⌜ r ≡ settled side x ⌝ }
-{
-    given(side, x) <= 0.0
-}
-
-// The turf that is met can take, or give.
-fn wants(side: Side, y: f32) -> bool
-    ensures { λ r. ⌜ r ≡ wants side y ⌝ }
-{
-    given(side, y) < 0.0
-}
-
-// The turf that is met has room for all that the turf in hand has left, and some over.
-fn more(side: Side, x: f32, y: f32) -> bool
-    ensures { λ r. ⌜ r ≡ more side x y ⌝ }
-{
-    -given(side, y) > given(side, x)
-}
-
-// The turf in hand and the turf that is met.
-pub struct Both {
-    pub hand: MonstermosInfo,
-    pub met: MonstermosInfo,
-}
-
-fn barter(side: Side, hand: MonstermosInfo, met: MonstermosInfo) -> Both
-    ensures { λ r. ⌜ r ≡ bargain side hand met ⌝ }
-{
-    let x = hand.delta;
-    let y = met.delta;
-    if !wants(side, y) {
-        return Both { hand, met };
-    }
-    if more(side, x, y) {
-        let h = MonstermosInfo {
-            delta: 0.0,
-            amount: hand.amount,
-            direction: hand.direction,
-            fast: hand.fast,
-        };
-        let m = MonstermosInfo {
-            delta: y + x,
-            amount: met.amount - x,
-            direction: met.direction,
-            fast: met.fast,
-        };
-        return Both { hand: h, met: m };
-    }
-    let h = MonstermosInfo {
-        delta: x + y,
-        amount: hand.amount,
-        direction: hand.direction,
-        fast: hand.fast,
-    };
-    let m = MonstermosInfo {
-        delta: 0.0,
-        amount: met.amount + y,
-        direction: met.direction,
-        fast: met.fast,
-    };
-    Both { hand: h, met: m }
-}
-
-// The turf in hand, g, and the turf that is met, a.
-fn trade(side: Side, g: usize, a: usize, n: usize, e: usize, words: &mut [u32], reals: &mut [f32])
-    requires { ⌜ Fit n e (area (now words) (now reals)) × ((g < n) × (a < n)) ⌝ }
-    ensures { λ _. ⌜ Does n e (λ o p. trade side g a p) (area (now (words .entry)) (now (reals .entry))) (area (now (words .exit)) (now (reals .exit))) ⌝ }
-{
-    let hand = load(g, n, e, words, reals);
-    let met = load(a, n, e, words, reals);
-    let both = barter(side, hand, met);
-    store(a, both.met, n, e, words, reals);
-    store(g, both.hand, n, e, words, reals);
-}
-
-// The turf at row a points at d - 1, and has moved nothing yet.
-fn point(a: usize, d: u32, n: usize, e: usize, words: &mut [u32], reals: &mut [f32])
-    requires { ⌜ Fit n e (area (now words) (now reals)) × (a < n) ⌝ }
-    ensures { λ _. ⌜ Does n e (λ o p. point a d p) (area (now (words .entry)) (now (reals .entry))) (area (now (words .exit)) (now (reals .exit))) ⌝ }
-{
-    words[e + e + a + a] = d;
-    reals[e + a + a + 1] = 0.0;
-}
-
-// A turf that is met for the first time, from r; whether it traded.
-fn meet(
-    side: Side,
-    g: usize,
-    r: u32,
-    a: usize,
-    n: usize,
-    e: usize,
-    words: &mut [u32],
-    reals: &mut [f32],
-) -> bool
-    requires { ⌜ Fit n e (area (now words) (now reals)) × ((g < n) × ((a < n) × (r < n))) ⌝ }
-    ensures { λ _. ⌜ Does n e (λ o p. meet side g r a p) (area (now (words .entry)) (now (reals .entry))) (area (now (words .exit)) (now (reals .exit))) ⌝ }
-    ensures { λ t. ⌜ t ≡ wants side (getD (view n e (area (now (words .entry)) (now (reals .entry))) .plan .delta) a nan) ⌝ }
-{
-    point(a, r + 1, n, e, words, reals);
-    let can = wants(side, reals[e + a + a]);
-    if can {
-        trade(side, g, a, n, e, words, reals);
-    }
-    can
-}
+use plan_trade::settled;
+use plan_trade::wants;
+use plan_trade::trade;
+use plan_trade::point;
+use plan_trade::meet;
+use plan_trade::settles;
+use plan_trade::least;
+use plan_trade::first_traded;
+use plan_drain::drain;
 
 // How many rows the queue has, and the first place whose row traded; n if none did.
 pub struct Reach {
@@ -156,36 +43,6 @@ pub struct Step {
     pub count: usize,
     pub first: usize,
     pub done: bool,
-}
-
-// Whether the turf in hand is settled with what it has left, once it traded or didn't.
-fn settles(traded: bool, side: Side, x: f32) -> bool
-    ensures { λ r. ⌜ r ≡ cond traded (settled side x) false ⌝ }
-{
-    if traded {
-        return settled(side, x);
-    }
-    false
-}
-
-// The lesser one.
-fn least(a: usize, b: usize) -> usize
-    ensures { λ r. ⌜ r ≡ lesser a b ⌝ }
-{
-    if a < b {
-        return a;
-    }
-    b
-}
-
-// The first place that traded, once the row at a place traded or didn't.
-fn first_traded(traded: bool, first: usize, place: usize) -> usize
-    ensures { λ r. ⌜ r ≡ cond traded (lesser first place) first ⌝ }
-{
-    if traded {
-        return least(first, place);
-    }
-    first
 }
 
 // A link of the turf r, which ends at the row a. The turf in hand is g, and isn't settled.
@@ -467,59 +324,6 @@ fn seek(
         count,
         first,
         looked,
-    }
-}
-
-// The turf r hands its amount on to the turf d, over the edges at hand.
-fn hand_on(
-    there: Spot,
-    back: Spot,
-    r: usize,
-    d: usize,
-    n: usize,
-    e: usize,
-    words: &[u32],
-    reals: &mut [f32],
-)
-    requires { ⌜ Fit n e (area (now words) (now reals)) × ((r < n) × (d < n)) ⌝ }
-    requires { ⌜ Found (λ k. k < e) there × Found (λ k. k < e) back ⌝ }
-    ensures { λ _. ⌜ Does n e (λ o p. handOn there back r d p) (area (now (words .entry)) (now (reals .entry))) (area (now (words .exit)) (now (reals .exit))) ⌝ }
-{
-    let x = reals[e + r + r + 1];
-    adjust_eq_movement(there, back, x, reals);
-    reals[e + d + d + 1] = reals[e + d + d + 1] + x;
-    reals[e + r + r + 1] = 0.0;
-}
-
-// The turf r of the queue, on the way back.
-fn drain_turf(r: u32, z: u32, n: usize, e: usize, words: &[u32], reals: &mut [f32])
-    requires { ⌜ Fit n e (area (now words) (now reals)) × ((z < 4096) × ((r < n) × Within n e (view n e (area (now words) (now reals))) r)) ⌝ }
-    ensures { λ _. ⌜ Does n e (λ o p. drainVia (view n e (area (now (words .entry)) (now (reals .entry))) .reverse) (view n e (area (now (words .entry)) (now (reals .entry))) .via) z o r p) (area (now (words .entry)) (now (reals .entry))) (area (now (words .exit)) (now (reals .exit))) ⌝ }
-{
-    let row = r as usize;
-    let i = load(row, n, e, words, reals);
-    let amount = i.amount;
-    let direction = i.direction as usize;
-    if amount != 0.0 {
-        if direction != 0 {
-            let k = words[e + e + row + row + 1] as usize;
-            let there = back_link(k, z, e, words);
-            hand_on(there, Spot::At(k), row, direction - 1, n, e, words, reals);
-        }
-    }
-}
-
-// The rows of the queue from the place `to` back to the place `from`.
-fn drain(from: usize, to: usize, z: u32, n: usize, e: usize, words: &[u32], reals: &mut [f32])
-    requires { ⌜ Fit n e (area (now words) (now reals)) × ((z < 4096) × (to ≤ n)) ⌝ }
-    requires { ⌜ ((i : ℕ) → i < to → (getD (view n e (area (now words) (now reals)) .queue) i 0 < n) × Within n e (view n e (area (now words) (now reals))) (getD (view n e (area (now words) (now reals)) .queue) i 0)) ⌝ }
-    ensures { λ _. ⌜ Does n e (λ o p. run (drainVia (view n e (area (now (words .entry)) (now (reals .entry))) .reverse) (view n e (area (now (words .entry)) (now (reals .entry))) .via) z o) (reverse (take (to - from) (drop from (view n e (area (now (words .entry)) (now (reals .entry))) .queue)))) p) (area (now (words .entry)) (now (reals .entry))) (area (now (words .exit)) (now (reals .exit))) ⌝ }
-{
-    let queue = index_set::queue_at(n, e);
-    let mut i = to;
-    while i > from {
-        i -= 1;
-        drain_turf(words[queue + i], z, n, e, words, reals);
     }
 }
 

@@ -9,7 +9,7 @@ use lib.Ieee.{Float}
 use Rattle.basics.specs.Loops.{run}
 use Rattle.basics.proofs.Regions.{cut-rest}
 use Rattle.basics.proofs.Loops.{run-at, run-stop}
-use Rattle.turfs.specs.Board.{Board}
+use Rattle.board_rules.specs.Board.{Board}
 use Rattle.process_zone.specs.Plan.{Plan}
 use Rattle.index_set.specs.Line.{Below}
 use Rattle.index_set.proofs.Queue.{Below-at}

@@ -7,7 +7,7 @@ use lib.ListN.{length, getD}
 use Rattle.basics.specs.Loops.{run, upFrom}
 use Rattle.basics.proofs.Parts as lists
 use Rattle.basics.proofs.Parts.{part, part-at}
-use Rattle.turfs.specs.Board.{linksOf}
+use Rattle.board_rules.specs.Board.{linksOf}
 use Rattle.index_set.specs.Line.{Below}
 use Rattle.index_set.proofs.Queue.{Below-of}
 use Rattle.reverse_links.specs.Reverse.{Linked}

@@ -5,7 +5,7 @@ use mathlib.Core.List.{List, [], _∷_}
 use lib.ListN.{length, getD, take, drop, replicate}
 use lib.Ieee.{Float, nan}
 use Rattle.basics.specs.Regions.{cut}
-use Rattle.turfs.specs.Board.{Board}
+use Rattle.board_rules.specs.Board.{Board}
 use Rattle.process_zone.specs.Plan.{Plan}
 use Rattle.index_set.specs.Line.{Below}
 use Rattle.plan_state.specs.Pairs.{firsts, seconds}

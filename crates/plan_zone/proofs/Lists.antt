@@ -14,7 +14,7 @@ use Rattle.basics.specs.Loops.{run, keep, consIf}
 use Rattle.basics.specs.Regions.{cut}
 use Rattle.basics.proofs.Regions.{cut-set, cut-length}
 use Rattle.basics.proofs.Loops.{run-at, run-stop}
-use Rattle.turfs.specs.Board.{Board}
+use Rattle.board_rules.specs.Board.{Board}
 use Rattle.process_zone.specs.Plan.{Plan, picks, chosen, serve, fastTurf, log2, fastPass, shareOut}
 use Rattle.process_zone.specs.declared.Side.{Side}
 use Rattle.process_zone.specs.declared.Side.the-variants.{Giving, Taking}

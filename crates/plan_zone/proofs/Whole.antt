@@ -7,8 +7,8 @@ use lib.ListN.{length, length-replicate}
 use lib.Ieee.{Float, ofInt, binary32}
 use Rattle.basics.specs.Floats.{0f, _-f_, _/f_}
 use Rattle.basics.specs.Loops.{run, times}
-use Rattle.turfs.specs.Board.{Board, turfCount, linksOf}
-use Rattle.mixture.specs.Mixture.{amounts, totalMix, total}
+use Rattle.board_rules.specs.Board.{Board, turfCount, linksOf}
+use Rattle.mixture_rules.specs.Mixture.{amounts, totalMix, total}
 use Rattle.process_zone.specs.Edges.{edgesOf, edge, adjust}
 use Rattle.process_zone.specs.Plan.{Plan, Seek, load, store, fastMove, eligible, fastTurf, seekLink, seekRow, seekNext, drainTo, drain, serve, fastPass, shareOut, deltas, planZone}
 use Rattle.process_zone.specs.declared.Side.{Side}

@@ -7,7 +7,7 @@ ghost use lib.Ieee.{nan};
 ghost use lib.ListN.{length, getD, take, set};
 ghost use Rattle.basics.specs.Loops.{run};
 ghost use Rattle.basics.specs.Floats.{0f, _-f_};
-ghost use Rattle.mixture.specs.Mixture.{total};
+ghost use Rattle.mixture_rules.specs.Mixture.{total};
 ghost use Rattle.process_zone.specs.Plan.{store, log2, picks, chosen, serve, fastPass, shareOut, deltas, planZone};
 ghost use Rattle.process_zone.specs.declared.Side.the-variants.{Giving, Taking};
 ghost use Rattle.index_set.specs.Line.{Below};

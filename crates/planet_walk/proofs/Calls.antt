@@ -13,21 +13,21 @@ use Rattle.basics.specs.declared.Spot.{Spot}
 use Rattle.basics.specs.declared.Spot.the-variants.{At, Nowhere}
 use Rattle.basics.proofs.Loops.{Found}
 use Rattle.basics.proofs.Regions.{later-same}
-use Rattle.turfs.specs.Board.{Board, turfCount, linkCount, rowOf}
-use Rattle.turfs.specs.Refuse.{ascending}
+use Rattle.board_rules.specs.Board.{Board, turfCount, linkCount, rowOf}
+use Rattle.board_rules.specs.Refuse.{ascending}
 use Rattle.turfs.proofs.Accepted.{row-below}
-use Rattle.events.specs.Events.{encodeAll}
+use Rattle.event_rules.specs.Events.{encodeAll}
 use Rattle.events.specs.Area.{Wrote}
-use Rattle.events.specs.declared.Event.{Event}
+use Rattle.event_rules.specs.declared.Event.{Event}
 use Rattle.events.proofs.Sizes.{size}
-use Rattle.lent.specs.Lent.{Lent, Extra, Result, noExtra, wordsRoom, floatsRoom, refusal, after}
+use Rattle.lent_rules.specs.Lent.{Lent, Extra, Result, noExtra, wordsRoom, floatsRoom, refusal, after}
 use Rattle.lent.specs.Given.{counted, cleared, lent, Given}
 use Rattle.lent.proofs.Numbers.{given, no-links}
 use Rattle.lent.proofs.Passed.{passed}
-use Rattle.walks.specs.Walk.{Walk, walk}
-use Rattle.walks.specs.Visit.{visitPlanet, visit}
+use Rattle.walk_rules.specs.Walk.{Walk, walk}
+use Rattle.walk_rules.specs.Visit.{visitPlanet, visit}
 use Rattle.walks.specs.Reached.{at, sizes, walkOf, Ground, Walked}
-use Rattle.walks.specs.declared.Kind.the-variants.{Planet}
+use Rattle.walk_rules.specs.declared.Kind.the-variants.{Planet}
 use Rattle.walks.specs.declared.Reach.{Reach}
 use Rattle.walks.proofs.Does.{none-wrote}
 use Rattle.walks.proofs.Whole.{bare, ground-of, gasless}

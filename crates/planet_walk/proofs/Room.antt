@@ -8,16 +8,16 @@ use lib.ListN.{length, getD}
 use Rattle.basics.specs.declared.Spot.{Spot}
 use Rattle.basics.specs.declared.Spot.the-variants.{At, Nowhere}
 use Rattle.basics.proofs.Loops.{Found, cond-both}
-use Rattle.turfs.specs.Board.{Board, turfCount, planetary, immutable, rowOf}
+use Rattle.board_rules.specs.Board.{Board, turfCount, planetary, immutable, rowOf}
 use Rattle.turfs.proofs.Accepted.{Accepted, row-below}
 use Rattle.turfs.proofs.Line.{Line, line-short}
-use Rattle.events.specs.Events.{encodeAll}
+use Rattle.event_rules.specs.Events.{encodeAll}
 use Rattle.events.proofs.Sizes.{size}
-use Rattle.lent.specs.Lent.{Lent, noExtra}
+use Rattle.lent_rules.specs.Lent.{Lent, noExtra}
 use Rattle.lent.proofs.Passed.{passed}
-use Rattle.walks.specs.Walk.{Walk, count, mark, spread, walk}
-use Rattle.walks.specs.Visit.{visitPlanet}
-use Rattle.walks.specs.declared.Kind.the-variants.{Planet}
+use Rattle.walk_rules.specs.Walk.{Walk, count, mark, spread, walk}
+use Rattle.walk_rules.specs.Visit.{visitPlanet}
+use Rattle.walk_rules.specs.declared.Kind.the-variants.{Planet}
 use Rattle.walks.proofs.Walks.{going, spreads, walk-keeps, walk-rests}
 use Rattle.walks.proofs.Visits.{visit-walked as visit-place}
 use Rattle.planet_walk.specs.Planet.{planetFrom, planetWalk, planetRoom, planetNumber}

@@ -7,12 +7,12 @@ use lib.ListN.{length}
 use Rattle.basics.specs.Loops.{if_then_else_}
 use Rattle.basics.specs.declared.Spot.{Spot}
 use Rattle.basics.specs.declared.Spot.the-variants.{At, Nowhere}
-use Rattle.turfs.specs.Board.{Board, turfCount, rowOf}
-use Rattle.events.specs.Events.{encodeAll}
-use Rattle.events.specs.declared.Event.{Event}
-use Rattle.lent.specs.Lent.{Lent, Result, noExtra, refusal, after}
-use Rattle.walks.specs.Walk.{walk}
-use Rattle.walks.specs.Visit.{visitPlanet}
+use Rattle.board_rules.specs.Board.{Board, turfCount, rowOf}
+use Rattle.event_rules.specs.Events.{encodeAll}
+use Rattle.event_rules.specs.declared.Event.{Event}
+use Rattle.lent_rules.specs.Lent.{Lent, Result, noExtra, refusal, after}
+use Rattle.walk_rules.specs.Walk.{walk}
+use Rattle.walk_rules.specs.Visit.{visitPlanet}
 use Rattle.planet_walk.specs.declared.PlanetAnswer.{PlanetAnswer}
 
 module _ (b : Board) where

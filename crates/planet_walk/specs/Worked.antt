@@ -6,17 +6,17 @@ use lib.Dec.{T}
 use lib.Ieee.{Float, add, sub, sum as isum, mul, div, neg, round, size, span, climb, units, odd, ofInt, ofBits, ofFields, toBits, lt, le, eq, ne}
 use Rattle.basics.specs.Loops.{run, times, every, allOf, member, first, same, upFrom}
 use Rattle.basics.specs.Floats.{finiteSignClear, bits, whole}
-use Rattle.turfs.specs.Board.{Board, enabled, planetary, immutable, firelock, linksOf, rowOf}
-use Rattle.turfs.specs.Refuse.{pairwise, distinct, sizesFit, tablesFit, rowFits, linksFit}
-use Rattle.turfs.specs.Draw.{Turf, to, lock, turf, planet, space, startsFrom, allWays, draw, lockedPair, lockedChain, twenty, asIs}
-use Rattle.mixture.specs.Mixture.{amountFits}
-use Rattle.events.specs.Events.{kindOf, fieldsOf, wordsBytes, encode, encodeAll}
-use Rattle.events.specs.declared.Event.{Event}
-use Rattle.events.specs.declared.Event.the-variants.{Firelock}
-use Rattle.lent.specs.Lent.{wordsRoom, floatsRoom, firstFailed, refusal, after}
-use Rattle.lent.specs.Worked.{lend, left}
-use Rattle.walks.specs.Walk.{walkLink, spread, walkNext, walk}
-use Rattle.walks.specs.Visit.{visitPlanet}
+use Rattle.board_rules.specs.Board.{Board, enabled, planetary, immutable, firelock, linksOf, rowOf}
+use Rattle.board_rules.specs.Refuse.{pairwise, distinct, sizesFit, tablesFit, rowFits, linksFit}
+use Rattle.board_rules.specs.Draw.{Turf, to, lock, turf, planet, space, startsFrom, allWays, draw, lockedPair, lockedChain, twenty, asIs}
+use Rattle.mixture_rules.specs.Mixture.{amountFits}
+use Rattle.event_rules.specs.Events.{kindOf, fieldsOf, wordsBytes, encode, encodeAll}
+use Rattle.event_rules.specs.declared.Event.{Event}
+use Rattle.event_rules.specs.declared.Event.the-variants.{Firelock}
+use Rattle.lent_rules.specs.Lent.{wordsRoom, floatsRoom, firstFailed, refusal, after}
+use Rattle.lent_rules.specs.Worked.{lend, left}
+use Rattle.walk_rules.specs.Walk.{walkLink, spread, walkNext, walk}
+use Rattle.walk_rules.specs.Visit.{visitPlanet}
 use Rattle.planet_walk.specs.Planet.{planetFrom, planetWalk, planetRoom, planetNumber, planetDone, planetResult}
 
 -- limit, id, gas; then the bytes and the events

@@ -1,15 +1,15 @@
 // `planet_equalize`: the planet walk, module 10 of document 01.
 use basics::Spot;
 use lent::ExtraTests;
-use walks::Kind;
+use walk_rules::Kind;
 ghost use mathlib.Core.Path.{_≡_};
 ghost use mathlib.Core.Bool.{true};
 ghost use Prim.Native.Nat.{_*_, _≤_};
 ghost use lib.ListN.{length};
 ghost use Rattle.basics.specs.Regions.{region};
-ghost use Rattle.turfs.specs.Refuse.{ascending};
+ghost use Rattle.board_rules.specs.Refuse.{ascending};
 ghost use Rattle.turfs.specs.Tables.{board};
-ghost use Rattle.events.specs.Events.{encodeAll};
+ghost use Rattle.event_rules.specs.Events.{encodeAll};
 ghost use Rattle.events.specs.Area.{Wrote};
 ghost use Rattle.lent.specs.Given.{lent};
 ghost use Rattle.walks.specs.Reached.{sizes, Ground};

@@ -10,7 +10,7 @@ use lib.ListN.{length, getD}
 use borrow.Author.Tests.{le-ltb}
 use Rattle.basics.specs.Loops.{times, member, snoc}
 use Rattle.basics.proofs.Loops.{All-any, run-keeps, times-keeps, times-rests, cond-both}
-use Rattle.turfs.specs.Board.{Board, turfCount, end}
+use Rattle.board_rules.specs.Board.{Board, turfCount, end}
 use Rattle.turfs.proofs.Line.{Line, line-short, line-snoc}
 use Rattle.process_zone.specs.Edges.{edgesOf}
 use Rattle.process_zone.specs.Plan.{Plan, Seek, stopped, meet, seekTo, seekLink, seekRow, seekNext}

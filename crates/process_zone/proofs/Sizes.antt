@@ -11,7 +11,7 @@ use Rattle.basics.specs.Floats.{0f, _+f_, _-f_, _/f_}
 use Rattle.basics.specs.declared.Spot.{Spot}
 use Rattle.basics.specs.declared.Spot.the-variants.{At, Nowhere}
 use Rattle.basics.proofs.Loops.{All-any, run-keeps, times-keeps, cond-both}
-use Rattle.turfs.specs.Board.{Board, turfCount, end}
+use Rattle.board_rules.specs.Board.{Board, turfCount, end}
 use Rattle.process_zone.specs.Edges.{alter, adjust, edge, edgesOf}
 use Rattle.process_zone.specs.Plan.{Plan, load, countOf, log2, chosen, Seek, stopped, trade, meet, seekTo, fastMove, fastTurf, seekLink, seekRow, seekNext, drainTo, drain, serve, fastPass, shareOut, deltas, planZone}
 use Rattle.process_zone.specs.declared.Side.{Side}

@@ -9,7 +9,7 @@ use Rattle.basics.specs.Loops.{keep, first}
 use Rattle.basics.specs.Floats.{_+f_, _-f_}
 use Rattle.basics.specs.declared.Spot.{Spot}
 use Rattle.basics.specs.declared.Spot.the-variants.{At, Nowhere}
-use Rattle.turfs.specs.Board.{Board, end, linksOf}
+use Rattle.board_rules.specs.Board.{Board, end, linksOf}
 
 -- `if let Some(cell) = graph.edge_weight(..)`: set where the search found a place
 abbrev pub alter : Spot → (Float → Float) → List Float → List Float

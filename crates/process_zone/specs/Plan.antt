@@ -8,8 +8,8 @@ use lib.ListN.{length, getD, set}
 use lib.Ieee.{Float, nan, lt, le, ne, neg}
 use Rattle.basics.specs.Loops.{run, times, keep, member, snoc, if_then_else_}
 use Rattle.basics.specs.Floats.{0f, _+f_, _-f_, _/f_, ofCount}
-use Rattle.turfs.specs.Board.{Board, turfCount, end}
-use Rattle.mixture.specs.Mixture.{total}
+use Rattle.board_rules.specs.Board.{Board, turfCount, end}
+use Rattle.mixture_rules.specs.Mixture.{total}
 use Rattle.process_zone.specs.Edges.{edgesOf, adjust}
 use Rattle.process_zone.specs.declared.MonstermosInfo.{MonstermosInfo}
 use Rattle.process_zone.specs.declared.Side.{Side}

@@ -8,9 +8,9 @@ use lib.ListN.{replicate}
 use lib.Ieee.{Float, add, sub, sum as isum, mul, div, neg, round, size, span, climb, units, odd, ofInt, ofBits, ofFields, toBits, lt, le, eq, ne}
 use Rattle.basics.specs.Loops.{run, times, keep, allOf, member, first, same, upFrom}
 use Rattle.basics.specs.Floats.{0f, bits, ofCount, whole}
-use Rattle.turfs.specs.Board.{Board, turfCount, linkCount, linksOf}
-use Rattle.turfs.specs.Draw.{to, turf, startsFrom, allWays, draw, boardA, chain, four, ring, six}
-use Rattle.mixture.specs.Mixture.{sum, amounts, totalMix, total}
+use Rattle.board_rules.specs.Board.{Board, turfCount, linkCount, linksOf}
+use Rattle.board_rules.specs.Draw.{to, turf, startsFrom, allWays, draw, boardA, chain, four, ring, six}
+use Rattle.mixture_rules.specs.Mixture.{sum, amounts, totalMix, total}
 use Rattle.process_zone.specs.Edges.{edgesOf, edge, adjust}
 use Rattle.process_zone.specs.Plan.{Plan, chosen, trade, meet, seekTo, fastMove, eligible, fastTurf, seekLink, seekRow, seekNext, drainTo, drain, serve, fastPass, shareOut, deltas, planZone}
 

@@ -4,19 +4,19 @@ use mathlib.Core.Path.{_≡_, ap, _∙_, sym}
 use mathlib.Core.List.{List, _++_}
 use Prim.Native.Nat.{ℕ}
 use lib.ListN.{take, drop}
-use Rattle.turfs.specs.Board.{Board}
+use Rattle.board_rules.specs.Board.{Board}
 use Rattle.events.specs.Area.{Wrote}
-use Rattle.events.specs.Events.{Put, put, readAt}
-use Rattle.events.specs.Lister.{listing}
+use Rattle.event_rules.specs.Events.{Put, put, readAt}
+use Rattle.event_rules.specs.Lister.{listing}
 use Rattle.events.specs.Interface.{WriteEvent, readEvent, writeEvent}
-use Rattle.events.specs.declared.Event.{Event}
-use Rattle.events.specs.declared.Reading.{Reading}
-use Rattle.lent.specs.Lent.{Lent, Result, Extra, refusal}
+use Rattle.event_rules.specs.declared.Event.{Event}
+use Rattle.event_rules.specs.declared.Reading.{Reading}
+use Rattle.lent_rules.specs.Lent.{Lent, Result, Extra, refusal}
 use Rattle.equalize.specs.Equalize.{Ask}
 use Rattle.equalize.specs.Result.{equalizeResult}
 use Rattle.equalize.specs.declared.EqualizeAnswer.{EqualizeAnswer}
-use Rattle.depressurize.specs.Depressurize.{depressurizeResult}
-use Rattle.depressurize.specs.declared.DepressurizeAnswer.{DepressurizeAnswer}
+use Rattle.depressurize_rules.specs.Depressurize.{depressurizeResult}
+use Rattle.depressurize_rules.specs.declared.DepressurizeAnswer.{DepressurizeAnswer}
 use Rattle.planet_walk.specs.Planet.{planetResult}
 use Rattle.planet_walk.specs.declared.PlanetAnswer.{PlanetAnswer}
 use Rattle.katmos.specs.Answers.{Answers}

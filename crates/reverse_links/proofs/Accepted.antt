@@ -15,8 +15,8 @@ use lib.Seq.{getD-take, getD-drop, length-take-le}
 use Rattle.basics.specs.Loops.{every, allOf, upFrom, member}
 use Rattle.basics.proofs.Loops.{All, All-getD, every-all, and-left, and-right, all-of}
 use Rattle.basics.proofs.Lists.{at-member}
-use Rattle.turfs.specs.Board.{Board, turfCount, linkCount, neighboursOf, degree}
-use Rattle.turfs.specs.Refuse.{rising, distinct, rowFits, linksFit}
+use Rattle.board_rules.specs.Board.{Board, turfCount, linkCount, neighboursOf, degree}
+use Rattle.board_rules.specs.Refuse.{rising, distinct, rowFits, linksFit}
 use Rattle.turfs.proofs.Order.{rising-to}
 use Rattle.reverse_links.specs.Reverse.{InRow, Linked}
 

@@ -15,7 +15,7 @@ use Rattle.basics.specs.Loops.{first, upFrom}
 use Rattle.basics.specs.declared.Spot.{Spot}
 use Rattle.basics.specs.declared.Spot.the-variants.{At, Nowhere}
 use Rattle.basics.proofs.Loops.{Found, first-found, first-passes}
-use Rattle.turfs.specs.Board.{Board, linksOf}
+use Rattle.board_rules.specs.Board.{Board, linksOf}
 use Rattle.reverse_links.specs.Reverse.{InRow, Linked, reverseOf, wordOf, Reverses}
 use Rattle.reverse_links.specs.Words.{But, found, sizeOf, back, Paired}
 use Rattle.reverse_links.proofs.Firsts.{first-only, up-all}

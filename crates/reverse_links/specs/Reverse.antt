@@ -8,7 +8,7 @@ use lib.ListN.{length, getD}
 use Rattle.basics.specs.Loops.{first}
 use Rattle.basics.specs.declared.Spot.{Spot}
 use Rattle.basics.specs.declared.Spot.the-variants.{At, Nowhere}
-use Rattle.turfs.specs.Board.{Board, end, linksOf}
+use Rattle.board_rules.specs.Board.{Board, end, linksOf}
 
 -- k is a link of the turf r
 pub record InRow (starts : List ℕ) (r k : ℕ) : Type 0 where

@@ -3,7 +3,7 @@
 ghost use mathlib.Core.Path.{_≡_};
 ghost use Prim.Native.Nat.{ℕ, _+_, _-_, _≤_, _<_};
 ghost use lib.ListN.{length, getD, take, drop};
-ghost use Rattle.turfs.specs.Board.{Board};
+ghost use Rattle.board_rules.specs.Board.{Board};
 ghost use Rattle.reverse_links.specs.Reverse.{InRow, Linked, Reverses};
 ghost use Rattle.reverse_links.specs.Words.{But, found, Paired};
 

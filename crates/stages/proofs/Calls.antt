@@ -7,8 +7,8 @@ use mathlib.Core.List.{List, []}
 use mathlib.Core.Bool.{true, false, true≢false}
 use lib.Ieee.{Float}
 use lib.ListN.{length}
-use Rattle.turfs.specs.Board.{Board, turfCount, linkCount}
-use Rattle.lent.specs.Lent.{Lent, refusal}
+use Rattle.board_rules.specs.Board.{Board, turfCount, linkCount}
+use Rattle.lent_rules.specs.Lent.{Lent, refusal}
 use Rattle.lent.specs.Given.{lent}
 use Rattle.reverse_links.specs.Reverse.{Linked}
 use Rattle.plan_zone.specs.Zone.{Gassed}

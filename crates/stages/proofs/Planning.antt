@@ -1,8 +1,8 @@
 -- The plan of what filling left is the whole board's. Assumes nothing.
 use Prim.Native.Nat.{ℕ}
 use mathlib.Core.Path.{_≡_, refl, sym}
-use Rattle.turfs.specs.Board.{Board, turfCount, linkCount}
-use Rattle.lent.specs.Lent.{Lent}
+use Rattle.board_rules.specs.Board.{Board, turfCount, linkCount}
+use Rattle.lent_rules.specs.Lent.{Lent}
 use Rattle.plan_zone.proofs.Whole.{tablesOf}
 use Rattle.plan_all.proofs.Calls.{planned-filled}
 use Rattle.fill_all.specs.Held.{FillsAll}

@@ -5,8 +5,8 @@ use mathlib.Core.Bool.{true, false}
 use Prim.Native.Nat.{ℕ, _+_, _≤_}
 use lib.ListN.{length, take, drop}
 use lib.Ieee.{Float}
-use Rattle.turfs.specs.Board.{Board, turfCount, linkCount}
-use Rattle.lent.specs.Lent.{Lent}
+use Rattle.board_rules.specs.Board.{Board, turfCount, linkCount}
+use Rattle.lent_rules.specs.Lent.{Lent}
 use Rattle.reverse_links.specs.Reverse.{Reverses}
 use Rattle.reverse_links.specs.Words.{But}
 use Rattle.plan_state.specs.Held.{area, view, top}

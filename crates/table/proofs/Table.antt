@@ -4,15 +4,15 @@ use lib.Count.{leadingZeros, trailingZeros}
 use lib.Ieee.{add, sub, sum as isum, mul, div, neg, round, size, span, climb, units, odd, ofInt, ofBits, ofFields, toBits, lt, le, eq, ne}
 use Rattle.basics.specs.Loops.{run, times, keep, every, allOf, upFrom, member, first, same}
 use Rattle.basics.specs.Floats.{finite, finiteSignClear, bits, whole, exact}
-use Rattle.turfs.specs.Board.{enabled, planetary, immutable, firelock, linksOf, rowOf}
-use Rattle.turfs.specs.Refuse.{pairwise, distinct, sizesFit, tablesFit, rowFits, linksFit}
-use Rattle.turfs.specs.Draw.{startsFrom, allWays, draw, sharing, withGases}
-use Rattle.mixture.specs.Mixture.{sum, scale, plus, ratio, remove, amounts, change, totalMix, total, moveAir, clearAir, amountFits}
-use Rattle.events.specs.Events.{kindOf, fieldsOf, sound, wordsBytes, encode, encodeAll, sizeOf, decode, whole as wholeRecord, readAt, readNumbers}
-use Rattle.events.specs.Lister.{digits, hex, line, badLine, listReading, listNext, listAll, listing}
-use Rattle.lent.specs.Lent.{wordsRoom, floatsRoom, firstFailed, refusal, after}
-use Rattle.lent.specs.Worked.{lend, left, unchanged}
-use Rattle.flood_fill.specs.Fill.{insert, endFill, reachLink, expand, pop, popNext, fill}
+use Rattle.board_rules.specs.Board.{enabled, planetary, immutable, firelock, linksOf, rowOf}
+use Rattle.board_rules.specs.Refuse.{pairwise, distinct, sizesFit, tablesFit, rowFits, linksFit}
+use Rattle.board_rules.specs.Draw.{startsFrom, allWays, draw, sharing, withGases}
+use Rattle.mixture_rules.specs.Mixture.{sum, scale, plus, ratio, remove, amounts, change, totalMix, total, moveAir, clearAir, amountFits}
+use Rattle.event_rules.specs.Events.{kindOf, fieldsOf, sound, wordsBytes, encode, encodeAll, sizeOf, decode, whole as wholeRecord, readAt, readNumbers}
+use Rattle.event_rules.specs.Lister.{digits, hex, line, badLine, listReading, listNext, listAll, listing}
+use Rattle.lent_rules.specs.Lent.{wordsRoom, floatsRoom, firstFailed, refusal, after}
+use Rattle.lent_rules.specs.Worked.{lend, left, unchanged}
+use Rattle.fill_rules.specs.Fill.{insert, endFill, reachLink, expand, pop, popNext, fill}
 use Rattle.process_zone.specs.Edges.{edgesOf, edge, adjust}
 use Rattle.process_zone.specs.Plan.{chosen, trade, meet, seekTo, fastMove, eligible, fastTurf, seekLink, seekRow, seekNext, drainTo, drain, serve, fastPass, shareOut, deltas, planZone}
 use Rattle.finalize_eq.specs.Finish.{zeroLifted, pairs, finishGivers, send, finishPair, finish}
@@ -20,14 +20,14 @@ use Rattle.finalize_eq.specs.Turns.{nodeCount, unfinished, jobsLeft, inOrder, o
 use Rattle.equalize.specs.Equalize.{afterFill, near, passedOver, fillFrom, hotRow, hotId, fillAll, planAll, hasMix, apart, cancel, planned, played, equalize}
 use Rattle.equalize.specs.Result.{equalizeNumber, equalizeDone, equalizeResult}
 use Rattle.equalize.specs.Worked.{numbers, equalizes, refused}
-use Rattle.walks.specs.Walk.{walkLink, spread, walkNext, walk}
-use Rattle.walks.specs.Visit.{visitPlanet, atSpace, visitSpace}
+use Rattle.walk_rules.specs.Walk.{walkLink, spread, walkNext, walk}
+use Rattle.walk_rules.specs.Visit.{visitPlanet, atSpace, visitSpace}
 use Rattle.planet_walk.specs.Planet.{planetFrom, planetWalk, planetNumber, planetDone, planetResult}
 use Rattle.planet_walk.specs.Worked.{walksPlanet}
-use Rattle.way_out.specs.Out.{outTo, outLink, outRow, outNext, outward}
-use Rattle.way_back.specs.Back.{backTo, back}
-use Rattle.depressurize.specs.Depressurize.{wayBack, fromWalk, fromRow, depressurize, depressurizeNumber, depressurizeDone, depressurizeResult}
-use Rattle.depressurize.specs.Worked.{depressurizes}
+use Rattle.out_rules.specs.Out.{outTo, outLink, outRow, outNext, outward}
+use Rattle.back_rules.specs.Back.{backTo, back}
+use Rattle.depressurize_rules.specs.Depressurize.{wayBack, fromWalk, fromRow, depressurize, depressurizeNumber, depressurizeDone, depressurizeResult}
+use Rattle.depressurize_rules.specs.Worked.{depressurizes}
 use Rattle.table.specs.Rows.{marks, rooms, writes, documentRows, misreadRows, ruleRows, refusalRows, rows}
 
 pub table : T (allOf rows)

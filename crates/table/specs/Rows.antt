@@ -6,23 +6,23 @@ use lib.ListN.{replicate}
 use lib.Ieee.{Float}
 use Rattle.basics.specs.Loops.{same}
 use Rattle.basics.specs.Floats.{0f, ofCount, ofWord, whole, exact}
-use Rattle.turfs.specs.Board.{Board}
-use Rattle.turfs.specs.Draw.{Turf, to, lock, turf, disabled, planet, space, draw, sharing, withGases, pairWith, twenty, boardA, chain, lockedPair, lockedChain, asIs, star, four, ring, six, breached}
-use Rattle.events.specs.Events.{encodeAll}
-use Rattle.events.specs.Lister.{listing}
-use Rattle.events.specs.Worked.{p1Bytes}
-use Rattle.events.specs.declared.Event.{Event}
-use Rattle.events.specs.declared.Event.the-variants.{DepressurizeWanted, PlanetWanted, Pressure, Firelock, Target, HighPressure, FloorRip}
-use Rattle.lent.specs.Lent.{Lent, wordsRoom, floatsRoom}
-use Rattle.lent.specs.Worked.{lend, lessArea, lessWords, lessFloats}
+use Rattle.board_rules.specs.Board.{Board}
+use Rattle.board_rules.specs.Draw.{Turf, to, lock, turf, disabled, planet, space, draw, sharing, withGases, pairWith, twenty, boardA, chain, lockedPair, lockedChain, asIs, star, four, ring, six, breached}
+use Rattle.event_rules.specs.Events.{encodeAll}
+use Rattle.event_rules.specs.Lister.{listing}
+use Rattle.event_rules.specs.Worked.{p1Bytes}
+use Rattle.event_rules.specs.declared.Event.{Event}
+use Rattle.event_rules.specs.declared.Event.the-variants.{DepressurizeWanted, PlanetWanted, Pressure, Firelock, Target, HighPressure, FloorRip}
+use Rattle.lent_rules.specs.Lent.{Lent, wordsRoom, floatsRoom}
+use Rattle.lent_rules.specs.Worked.{lend, lessArea, lessWords, lessFloats}
 use Rattle.equalize.specs.Equalize.{Ask, fillAll, planAll}
 use Rattle.equalize.specs.Result.{equalizeRoom}
 use Rattle.equalize.specs.Worked.{ask, limited, allowed, threshold, done, cancelled, equalizes, refused}
 use Rattle.planet_walk.specs.Planet.{planetRoom}
 use Rattle.planet_walk.specs.Worked.{walksPlanet}
-use Rattle.depressurize.specs.Depressurize.{depressurizeRoom}
-use Rattle.depressurize.specs.Worked.{depressurizes}
-use Rattle.way_back.specs.Worked.{difference}
+use Rattle.depressurize_rules.specs.Depressurize.{depressurizeRoom}
+use Rattle.depressurize_rules.specs.Worked.{depressurizes}
+use Rattle.back_rules.specs.Worked.{difference}
 
 -- which turfs have the fast mark after planning
 unfoldable pub marks : Board → Ask → List Float → List ℕ → Bool

@@ -12,9 +12,9 @@ use borrow.Author.Tests.{le-leb, lt-leb}
 use Rattle.basics.specs.Loops.{every, upFrom, first}
 use Rattle.basics.proofs.Loops.{All, All-imp, All-getD, every-all, and-left, and-right, all-of, Found, first-found}
 use Rattle.basics.proofs.Lists.{upFrom-above, upFrom-below, upFrom-apart, Apart, one, count}
-use Rattle.turfs.specs.Board.{Board, turfCount, linkCount, mixtureCount, idOf, mixOf, end, linksOf, rowOf}
-use Rattle.turfs.specs.Refuse.{within, pairwise, ascending, rising, rowFits, sizesFit, tablesFit, idsFit, linksFit}
-use Rattle.turfs.specs.Worked as worked  -- checked before the laws
+use Rattle.board_rules.specs.Board.{Board, turfCount, linkCount, mixtureCount, idOf, mixOf, end, linksOf, rowOf}
+use Rattle.board_rules.specs.Refuse.{within, pairwise, ascending, rising, rowFits, sizesFit, tablesFit, idsFit, linksFit}
+use Rattle.board_rules.specs.Worked as worked  -- checked before the laws
 
 -- the tables that 1 to 4 let pass, with `amounts` amounts
 pub record Accepted (b : Board) (amounts : ℕ) : Type 0 where

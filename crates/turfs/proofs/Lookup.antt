@@ -14,8 +14,8 @@ use Rattle.basics.specs.Loops.{first, upFrom}
 use Rattle.basics.specs.declared.Spot.{Spot}
 use Rattle.basics.specs.declared.Spot.the-variants.{At, Nowhere}
 use Rattle.basics.proofs.Loops.{first-here, first-on, first-end, Found, first-found, first-passes, up-below}
-use Rattle.turfs.specs.Board.{Board, turfCount, idOf, rowOf}
-use Rattle.turfs.specs.Refuse.{ascending, idsFit}
+use Rattle.board_rules.specs.Board.{Board, turfCount, idOf, rowOf}
+use Rattle.board_rules.specs.Refuse.{ascending, idsFit}
 use Rattle.turfs.specs.Tables.{Bracket}
 use Rattle.turfs.proofs.Order.{ascending-to}
 

@@ -12,8 +12,8 @@ use lib.Ieee.Bits.{is-true}
 use borrow.Author.Tests.{leb-true, eqb-true}
 use Rattle.basics.specs.Loops.{every, upFrom}
 use Rattle.basics.proofs.Tests.{both, each, every-up-at}
-use Rattle.turfs.specs.Board.{Board, turfCount, linkCount, mixtureCount}
-use Rattle.turfs.specs.Refuse.{within, rising, sizesFit, tablesFit, idsFit, linksFit, rowFits}
+use Rattle.board_rules.specs.Board.{Board, turfCount, linkCount, mixtureCount}
+use Rattle.board_rules.specs.Refuse.{within, rising, sizesFit, tablesFit, idsFit, linksFit, rowFits}
 use Rattle.turfs.specs.Tables.{Parts, Sizes, Tables}
 use Rattle.turfs.proofs.Order.{rising-to}
 use Rattle.turfs.proofs.Accepted.{Accepted, accepted}

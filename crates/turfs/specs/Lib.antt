@@ -1,5 +1,1 @@
-pub mod Board
-pub mod Refuse
 pub mod Tables
-pub mod Draw
-pub mod Worked

@@ -4,8 +4,8 @@ use mathlib.Core.Path.{_≡_}
 use mathlib.Core.Bool.{true}
 use Prim.Native.Nat.{ℕ, _+_, _≤_, _<_}
 use lib.ListN.{length, getD}
-use Rattle.turfs.specs.Board.{Board, turfCount, linkCount, mixtureCount}
-use Rattle.turfs.specs.Refuse.{ascending, rowFits}
+use Rattle.board_rules.specs.Board.{Board, turfCount, linkCount, mixtureCount}
+use Rattle.board_rules.specs.Refuse.{ascending, rowFits}
 
 -- the tables in the order of the C interface
 abbrev pub board : List ℕ → List ℕ → List ℕ → List ℕ → List ℕ → List ℕ → List ℕ → List ℕ → ℕ → Board

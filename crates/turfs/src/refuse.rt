@@ -7,7 +7,7 @@ ghost use lib.Dec.{ltb};
 ghost use lib.ListN.{length};
 ghost use Rattle.basics.specs.Loops.{every, member, upFrom};
 ghost use Rattle.turfs.specs.Tables.{board, Parts};
-ghost use Rattle.turfs.specs.Refuse.{within, ascending, rising, distinct, rowFits, sizesFit, tablesFit, linksFit};
+ghost use Rattle.board_rules.specs.Refuse.{within, ascending, rising, distinct, rowFits, sizesFit, tablesFit, linksFit};
 
 fn within(lo: usize, hi: usize, n: usize) -> bool
     ensures { λ r. ⌜ r ≡ within lo hi n ⌝ }

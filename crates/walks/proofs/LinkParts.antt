@@ -10,13 +10,13 @@ use borrow.Author.Tests.{le-leb, lt-leb}
 use Rattle.basics.specs.Loops.{run, upFrom}
 use Rattle.basics.proofs.Parts as lists
 use Rattle.turfs.specs.Tables.{Parts}
-use Rattle.turfs.specs.Board.{Board, anyBit, enabled, firelock, linksOf}
-use Rattle.events.specs.declared.Event.{Event}
+use Rattle.board_rules.specs.Board.{Board, anyBit, enabled, firelock, linksOf}
+use Rattle.event_rules.specs.declared.Event.{Event}
 use Rattle.index_set.specs.Line.{Below}
 use Rattle.index_set.proofs.Queue.{Below-take, Below-drop, Below-of}
-use Rattle.walks.specs.Walk.{Walk, walkLink, spread}
+use Rattle.walk_rules.specs.Walk.{Walk, walkLink, spread}
 use Rattle.walks.specs.Reached.{State, walkOf, links, Near, grid, Linked}
-use Rattle.walks.specs.Worked as worked  -- checked before the laws
+use Rattle.walk_rules.specs.Worked as worked  -- checked before the laws
 
 -- a loop from the start
 pub run-start : {S : Type 0} (f : ℕ → S → S) (e : ℕ) (s : S) → run f (upFrom 0 (e - 0)) s ≡ run f (upFrom 0 e) s

@@ -8,16 +8,16 @@ use lib.ListN.{length, getD, take, set, length-set}
 use Rattle.basics.specs.Loops.{member, snoc}
 use Rattle.basics.specs.Regions.{cut, region, base}
 use Rattle.basics.proofs.Regions.{cut-set}
-use Rattle.turfs.specs.Board.{Board, lockBit, firelock}
-use Rattle.events.specs.Events.{encode, encodeAll, kindOf, sizeOf}
+use Rattle.board_rules.specs.Board.{Board, lockBit, firelock}
+use Rattle.event_rules.specs.Events.{encode, encodeAll, kindOf, sizeOf}
 use Rattle.events.specs.Area.{Wrote}
-use Rattle.events.specs.declared.Event.{Event}
-use Rattle.events.specs.declared.Event.the-variants.{Firelock}
+use Rattle.event_rules.specs.declared.Event.{Event}
+use Rattle.event_rules.specs.declared.Event.the-variants.{Firelock}
 use Rattle.events.proofs.Areas.{wrote-length}
 use Rattle.events.proofs.Sizes.{encode-size}
 use Rattle.index_set.specs.Line.{array, Line}
 use Rattle.index_set.proofs.Queue.{Below-at, count-below, take-more, line-more}
-use Rattle.walks.specs.Walk.{Walk, walkLink}
+use Rattle.walk_rules.specs.Walk.{Walk, walkLink}
 use Rattle.walks.specs.Does.{Does}
 use Rattle.walks.specs.Reached.{State, at, sizes, walkIn, walkOf, Rest, Fit, walking, links, Near}
 use Rattle.walks.specs.declared.Reach.{Reach}

@@ -12,20 +12,20 @@ use Rattle.basics.specs.Loops.{snoc}
 use Rattle.basics.specs.Regions.{cut, region, base}
 use Rattle.basics.proofs.Loops.{cond-both}
 use Rattle.basics.proofs.Regions.{cut-set, cut-length}
-use Rattle.turfs.specs.Board.{Board, turfCount, idOf, planetary, immutable, enabled, firelock, linksOf}
-use Rattle.events.specs.Events.{encode, kindOf, sizeOf}
+use Rattle.board_rules.specs.Board.{Board, turfCount, idOf, planetary, immutable, enabled, firelock, linksOf}
+use Rattle.event_rules.specs.Events.{encode, kindOf, sizeOf}
 use Rattle.events.specs.Area.{Wrote}
-use Rattle.events.specs.declared.Event.{Event}
-use Rattle.events.specs.declared.Event.the-variants.{Target}
+use Rattle.event_rules.specs.declared.Event.{Event}
+use Rattle.event_rules.specs.declared.Event.the-variants.{Target}
 use Rattle.events.proofs.Areas.{wrote-length}
 use Rattle.events.proofs.Sizes.{encode-size}
 use Rattle.index_set.specs.Line.{Line}
-use Rattle.walks.specs.Walk.{Walk, mark, walkLink, spread}
-use Rattle.walks.specs.Visit.{visitPlanet, atSpace, visitSpace, visit}
+use Rattle.walk_rules.specs.Walk.{Walk, mark, walkLink, spread}
+use Rattle.walk_rules.specs.Visit.{visitPlanet, atSpace, visitSpace, visit}
 use Rattle.walks.specs.Does.{Does}
 use Rattle.walks.specs.Reached.{State, at, sizes, walkIn, walkOf, Rest, Fit, walking, links, grid, Linked, Visits}
-use Rattle.walks.specs.declared.Kind.{Kind}
-use Rattle.walks.specs.declared.Kind.the-variants.{Planet, Space}
+use Rattle.walk_rules.specs.declared.Kind.{Kind}
+use Rattle.walk_rules.specs.declared.Kind.the-variants.{Planet, Space}
 use Rattle.walks.specs.declared.Reach.{Reach}
 use Rattle.walks.proofs.Does.{does-as, does-then, none-wrote, one-wrote}
 use Rattle.walks.proofs.Links.{written-room}

@@ -13,14 +13,14 @@ use borrow.Author.Tests.{le-ltb}
 use Rattle.basics.specs.Loops.{times, member, snoc}
 use Rattle.basics.proofs.Loops.{All-any, run-keeps, times-keeps, times-rests, and-right}
 use Rattle.basics.proofs.Tests.{and-false}
-use Rattle.turfs.specs.Board.{Board, turfCount, idOf, end, enabled, firelock, linksOf}
+use Rattle.board_rules.specs.Board.{Board, turfCount, idOf, end, enabled, firelock, linksOf}
 use Rattle.turfs.proofs.Line.{Line, line-snoc}
-use Rattle.events.specs.Events.{kindOf, sizeOf}
-use Rattle.events.specs.declared.Event.{Event}
-use Rattle.events.specs.declared.Event.the-variants.{Firelock}
+use Rattle.event_rules.specs.Events.{kindOf, sizeOf}
+use Rattle.event_rules.specs.declared.Event.{Event}
+use Rattle.event_rules.specs.declared.Event.the-variants.{Firelock}
 use Rattle.events.proofs.Sizes.{size, size-snoc}
-use Rattle.walks.specs.Walk.{Walk, count, walkLink, spread, walkNext, walk}
-use Rattle.walks.specs.Worked as worked  -- checked before the laws
+use Rattle.walk_rules.specs.Walk.{Walk, count, walkLink, spread, walkNext, walk}
+use Rattle.walk_rules.specs.Worked as worked  -- checked before the laws
 
 -- where a walk from r starts
 abbrev pub startWalk : ℕ → Walk

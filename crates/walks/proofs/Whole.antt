@@ -14,17 +14,17 @@ use Rattle.basics.specs.Regions.{cut, region}
 use Rattle.basics.proofs.Loops.{times-still}
 use Rattle.basics.proofs.Regions.{cut-length}
 use Rattle.basics.proofs.Tests.{both}
-use Rattle.turfs.specs.Board.{Board, turfCount, lockBit, enabled, planetary, immutable, firelock, linksOf}
+use Rattle.board_rules.specs.Board.{Board, turfCount, lockBit, enabled, planetary, immutable, firelock, linksOf}
 use Rattle.turfs.specs.Tables.{board, Tables}
-use Rattle.events.specs.declared.Event.{Event}
+use Rattle.event_rules.specs.declared.Event.{Event}
 use Rattle.index_set.specs.Line.{Below, Apart, Line}
 use Rattle.index_set.proofs.Queue.{Below-at}
-use Rattle.walks.specs.Walk.{Walk, count, walkLink, spread, walkNext, walk}
-use Rattle.walks.specs.Visit.{visitPlanet, atSpace, visitSpace, visit}
+use Rattle.walk_rules.specs.Walk.{Walk, count, walkLink, spread, walkNext, walk}
+use Rattle.walk_rules.specs.Visit.{visitPlanet, atSpace, visitSpace, visit}
 use Rattle.walks.specs.Does.{Does}
 use Rattle.walks.specs.Reached.{State, at, sizes, walkOf, Rest, Fit, walking, links, Near, Ground, perTurf, Visits, visitNext, Walked}
-use Rattle.walks.specs.declared.Kind.{Kind}
-use Rattle.walks.specs.declared.Kind.the-variants.{Planet, Space}
+use Rattle.walk_rules.specs.declared.Kind.{Kind}
+use Rattle.walk_rules.specs.declared.Kind.the-variants.{Planet, Space}
 use Rattle.walks.specs.declared.Reach.{Reach}
 use Rattle.walks.proofs.Does.{does-then}
 use Rattle.walks.proofs.Links.{joined, link-open}

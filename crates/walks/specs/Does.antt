@@ -2,9 +2,9 @@
 use mathlib.Core.Path.{_≡_}
 use mathlib.Core.List.{List, _++_}
 use Prim.Native.Nat.{ℕ}
-use Rattle.events.specs.Events.{encodeAll}
+use Rattle.event_rules.specs.Events.{encodeAll}
 use Rattle.events.specs.Area.{Wrote}
-use Rattle.events.specs.declared.Event.{Event}
+use Rattle.event_rules.specs.declared.Event.{Event}
 
 -- how areas A hold a state S of the definition
 pub record Held (A S F : Type 0) : Type 1 where

@@ -5,17 +5,17 @@ use mathlib.Core.Bool.{false}
 use Prim.Native.Nat.{ℕ, _+_, _*_, _≤_, _<_}
 use lib.ListN.{length, getD, take}
 use Rattle.basics.specs.Regions.{cut, region}
-use Rattle.turfs.specs.Board.{Board, turfCount, linkCount, mixtureCount, mixOf, end}
+use Rattle.board_rules.specs.Board.{Board, turfCount, linkCount, mixtureCount, mixOf, end}
 use Rattle.turfs.specs.Tables.{board, Parts}
-use Rattle.events.specs.Events.{encodeAll}
+use Rattle.event_rules.specs.Events.{encodeAll}
 use Rattle.events.specs.Area.{Wrote}
-use Rattle.events.specs.declared.Event.{Event}
+use Rattle.event_rules.specs.declared.Event.{Event}
 use Rattle.index_set.specs.Line.{Below, Line}
-use Rattle.walks.specs.Walk.{Walk, count, walk}
-use Rattle.walks.specs.Visit.{visit}
+use Rattle.walk_rules.specs.Walk.{Walk, count, walk}
+use Rattle.walk_rules.specs.Visit.{visit}
 use Rattle.walks.specs.Does.{Held}
-use Rattle.walks.specs.declared.Kind.{Kind}
-use Rattle.walks.specs.declared.Kind.the-variants.{Planet, Space}
+use Rattle.walk_rules.specs.declared.Kind.{Kind}
+use Rattle.walk_rules.specs.declared.Kind.the-variants.{Planet, Space}
 use Rattle.walks.specs.declared.Reach.{Reach}
 
 -- what a function of the walk may change

@@ -1,5 +1,6 @@
 // The walk from one turf that `planet_equalize` and `explosively_depressurize` share: module 10 and the first part of module 9 of document 01.
-use events::Event;
+use walk_rules::Kind;
+use event_rules::Event;
 use turfs::AdjacentFlags;
 use turfs::SimulationFlags;
 ghost use mathlib.Core.Path.{_≡_};
@@ -9,19 +10,14 @@ ghost use Prim.Native.Nat.{_+_, _*_, _≤_, _<_};
 ghost use lib.Dec.{ltb};
 ghost use lib.ListN.{length, getD};
 ghost use Rattle.basics.specs.Loops.{run, times, upFrom};
-ghost use Rattle.turfs.specs.Board as tables;
-ghost use Rattle.turfs.specs.Board.{Board};
+ghost use Rattle.board_rules.specs.Board as tables;
+ghost use Rattle.board_rules.specs.Board.{Board};
 ghost use Rattle.turfs.specs.Tables.{board};
-ghost use Rattle.walks.specs.Walk.{walkLink, spread, walkNext};
-ghost use Rattle.walks.specs.Visit.{visitPlanet, atSpace, visitSpace, visit};
+ghost use Rattle.walk_rules.specs.Walk.{walkLink, spread, walkNext};
+ghost use Rattle.walk_rules.specs.Visit.{visitPlanet, atSpace, visitSpace, visit};
 ghost use Rattle.walks.specs.Does.{Does};
 ghost use Rattle.walks.specs.Reached.{at, Fit, walking, links, Near, grid, Linked, Ground, perTurf, Visits, visitNext, Walked};
 
-// Which walk it is: what differs is what a visit does.
-pub enum Kind {
-    Planet,
-    Space,
-}
 
 // How far a walk has come: turfs in the queue, turfs visited, space turfs met, whether a planetary turf was met, whether the walk has ended, event bytes written.
 pub struct Reach {

@@ -13,12 +13,12 @@ use Rattle.basics.specs.Loops.{every, snoc}
 use Rattle.basics.specs.Floats.{_+f_}
 use Rattle.basics.specs.Regions.{cut, region, base}
 use Rattle.basics.proofs.Regions.{cut-set, cut-get, cut-length}
-use Rattle.turfs.specs.Board.{Board, turfCount, idOf, mixOf}
-use Rattle.mixture.specs.Mixture.{total, clearAir}
-use Rattle.events.specs.Events.{encodeAll, encode, kindOf, sizeOf}
+use Rattle.board_rules.specs.Board.{Board, turfCount, idOf, mixOf}
+use Rattle.mixture_rules.specs.Mixture.{total, clearAir}
+use Rattle.event_rules.specs.Events.{encodeAll, encode, kindOf, sizeOf}
 use Rattle.events.specs.Area.{Wrote}
-use Rattle.events.specs.declared.Event.{Event}
-use Rattle.events.specs.declared.Event.the-variants.{HighPressure, Difference, FloorRip}
+use Rattle.event_rules.specs.declared.Event.{Event}
+use Rattle.event_rules.specs.declared.Event.the-variants.{HighPressure, Difference, FloorRip}
 use Rattle.events.proofs.Areas.{wrote-length}
 use Rattle.events.proofs.Sizes.{encode-size, size, size-cons, size-append}
 use Rattle.index_set.specs.Line.{Below}
@@ -26,12 +26,12 @@ use Rattle.index_set.proofs.Queue.{Below-snoc}
 use Rattle.walks.specs.Does.{Does}
 use Rattle.walks.proofs.Does.{none-wrote, both-wrote, one-wrote}
 use Rattle.way_out.specs.Outed.{sizes}
-use Rattle.way_back.specs.Back.{Back, backTo, back}
+use Rattle.back_rules.specs.Back.{Back, backTo, back}
 use Rattle.way_back.specs.Backed.{notNegative, State, at, lots, ripsOf, backIn, backOf, Rest, Fit, backing, directions, Settled, told, backNext}
 use Rattle.way_back.specs.declared.Way.{Way}
 use Rattle.way_back.specs.declared.Sums.{Sums}
 use Rattle.way_back.proofs.Signs.{add-clear, clear-number, every-at, every-set, every-snoc, total-clear, cleared-clear}
-use Rattle.way_back.specs.Worked as worked  -- checked before the laws
+use Rattle.back_rules.specs.Worked as worked  -- checked before the laws
 
 -- ---- the events of a turf
 

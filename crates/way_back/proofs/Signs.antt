@@ -11,8 +11,8 @@ use Rattle.basics.specs.Loops.{run, every, snoc}
 use Rattle.basics.specs.Floats.{0f, _+f_, finiteSignClear}
 use Rattle.basics.proofs.Loops.{All, All-imp, All-getD, every-all, run-keeps, cond-both, and-left}
 use Rattle.basics.proofs.Lists.{All-append, All-drop, all-every}
-use Rattle.turfs.specs.Board.{Board, mixOf, immutableMix}
-use Rattle.mixture.specs.Mixture.{sum, amounts, change, totalMix, total, clearAir, amountFits}
+use Rattle.board_rules.specs.Board.{Board, mixOf, immutableMix}
+use Rattle.mixture_rules.specs.Mixture.{sum, amounts, change, totalMix, total, clearAir, amountFits}
 use Rattle.way_back.specs.Backed.{notNegative}
 
 -- ---- one sum

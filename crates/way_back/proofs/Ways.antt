@@ -15,11 +15,11 @@ use Rattle.basics.specs.Floats.{0f}
 use Rattle.basics.specs.Regions.{cut, region, base}
 use Rattle.basics.proofs.Regions.{cut-get, cut-length}
 use Rattle.basics.proofs.Loops.{run-back}
-use Rattle.turfs.specs.Board.{Board, turfCount}
-use Rattle.events.specs.Events.{encodeAll, encode, kindOf, sizeOf}
+use Rattle.board_rules.specs.Board.{Board, turfCount}
+use Rattle.event_rules.specs.Events.{encodeAll, encode, kindOf, sizeOf}
 use Rattle.events.specs.Area.{Wrote}
-use Rattle.events.specs.declared.Event.{Event}
-use Rattle.events.specs.declared.Event.the-variants.{FloorRip}
+use Rattle.event_rules.specs.declared.Event.{Event}
+use Rattle.event_rules.specs.declared.Event.the-variants.{FloorRip}
 use Rattle.events.proofs.Areas.{wrote-length}
 use Rattle.events.proofs.Sizes.{encode-size, size, size-cons}
 use Rattle.index_set.specs.Line.{Below}
@@ -27,7 +27,7 @@ use Rattle.index_set.proofs.Queue.{Below-at}
 use Rattle.walks.specs.Does.{Does}
 use Rattle.walks.proofs.Does.{does-as, none-wrote, both-wrote, Going}
 use Rattle.way_out.specs.Outed.{sizes}
-use Rattle.way_back.specs.Back.{Back, backTo, back}
+use Rattle.back_rules.specs.Back.{Back, backTo, back}
 use Rattle.way_back.specs.Backed.{notNegative, State, at, lots, ripsOf, backIn, backOf, Rest, Fit, backing, directions, backNext, Ripping, Fits, Backed}
 use Rattle.way_back.specs.declared.Way.{Way}
 use Rattle.way_back.proofs.Signs.{zero-clear, clear-number, every-at, every-replicate}

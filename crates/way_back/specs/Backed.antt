@@ -9,17 +9,17 @@ use lib.Ieee.{Float, nan, inf, fin}
 use Rattle.basics.specs.Loops.{run, every, if_then_else_}
 use Rattle.basics.specs.Floats.{0f, _+f_}
 use Rattle.basics.specs.Regions.{cut, region}
-use Rattle.turfs.specs.Board.{Board, turfCount, mixtureCount, mixOf}
+use Rattle.board_rules.specs.Board.{Board, turfCount, mixtureCount, mixOf}
 use Rattle.turfs.specs.Tables.{board}
-use Rattle.mixture.specs.Mixture.{total, clearAir}
-use Rattle.events.specs.Events.{encodeAll}
+use Rattle.mixture_rules.specs.Mixture.{total, clearAir}
+use Rattle.event_rules.specs.Events.{encodeAll}
 use Rattle.events.specs.Area.{Wrote}
-use Rattle.events.specs.declared.Event.{Event}
-use Rattle.events.specs.declared.Event.the-variants.{HighPressure, Difference, FloorRip}
+use Rattle.event_rules.specs.declared.Event.{Event}
+use Rattle.event_rules.specs.declared.Event.the-variants.{HighPressure, Difference, FloorRip}
 use Rattle.index_set.specs.Line.{Below}
 use Rattle.walks.specs.Does.{Held}
 use Rattle.way_out.specs.Outed.{sizes, Mixed, shore}
-use Rattle.way_back.specs.Back.{Back, back}
+use Rattle.back_rules.specs.Back.{Back, back}
 use Rattle.way_back.specs.declared.Way.{Way}
 use Rattle.way_back.specs.declared.Sums.{Sums}
 

@@ -1,3 +1,1 @@
-pub mod Back
 pub mod Backed
-pub mod Worked

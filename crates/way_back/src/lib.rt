@@ -1,5 +1,5 @@
 // The way back of `explosively_depressurize`, and the floor rips at its end: module 9 of document 01.
-use events::Event;
+use event_rules::Event;
 ghost use mathlib.Core.Path.{_≡_};
 ghost use mathlib.Core.Bool.{not};
 ghost use mathlib.Core.List.{[], _∷_, _++_, reverse};
@@ -9,14 +9,14 @@ ghost use lib.ListN.{length, getD, take, drop};
 ghost use lib.Ieee.{nan, isNan};
 ghost use Rattle.basics.specs.Loops.{run};
 ghost use Rattle.basics.specs.Regions.{region};
-ghost use Rattle.turfs.specs.Board.{Board};
+ghost use Rattle.board_rules.specs.Board.{Board};
 ghost use Rattle.mixture.specs.Moves.{Holds};
-ghost use Rattle.events.specs.Events.{encodeAll};
+ghost use Rattle.event_rules.specs.Events.{encodeAll};
 ghost use Rattle.events.specs.Area.{Wrote};
-ghost use Rattle.events.specs.declared.Event.the-variants.{FloorRip};
+ghost use Rattle.event_rules.specs.declared.Event.the-variants.{FloorRip};
 ghost use Rattle.walks.specs.Does.{Does};
 ghost use Rattle.way_out.specs.Outed.{sizes, Mixed, shore};
-ghost use Rattle.way_back.specs.Back.{backTo, back};
+ghost use Rattle.back_rules.specs.Back.{backTo, back};
 ghost use Rattle.way_back.specs.Backed.{at, Fit, backing, air, directions, Settled, told, backNext, ripsOf, Ripping, Fits, Backed};
 
 // How far the way back has come: turfs of the order that are left, turfs that the floor rips off, event bytes written.

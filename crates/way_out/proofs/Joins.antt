@@ -10,21 +10,21 @@ use lib.Seq.{getD-set-same, getD-set-other, drop-drop}
 use Rattle.basics.specs.Loops.{member, snoc}
 use Rattle.basics.specs.Regions.{cut, region, base}
 use Rattle.basics.proofs.Regions.{cut-set, cut-get, cut-length}
-use Rattle.turfs.specs.Board.{Board, immutable}
-use Rattle.events.specs.Events.{encode, encodeAll, kindOf, sizeOf}
+use Rattle.board_rules.specs.Board.{Board, immutable}
+use Rattle.event_rules.specs.Events.{encode, encodeAll, kindOf, sizeOf}
 use Rattle.events.specs.Area.{Wrote}
-use Rattle.events.specs.declared.Event.{Event}
-use Rattle.events.specs.declared.Event.the-variants.{Target}
+use Rattle.event_rules.specs.declared.Event.{Event}
+use Rattle.event_rules.specs.declared.Event.the-variants.{Target}
 use Rattle.events.proofs.Areas.{wrote-length}
 use Rattle.index_set.specs.Line.{Below, Line, array, Holds}
 use Rattle.index_set.proofs.Queue.{Below-at, count-below, take-more, line-more}
 use Rattle.walks.specs.Does.{Does}
 use Rattle.walks.proofs.Does.{does-none, does-as, one-wrote, Going}
 use Rattle.walks.proofs.Visits.{target-size}
-use Rattle.way_out.specs.Out.{Out, outTo, outLink}
+use Rattle.out_rules.specs.Out.{Out, outTo, outLink}
 use Rattle.way_out.specs.Outed.{State, at, sizes, outIn, outOf, Rest, Fit, outing, shore, Mixed}
 use Rattle.way_out.specs.declared.Front.{Front}
-use Rattle.way_out.specs.Worked as worked  -- checked before the laws
+use Rattle.out_rules.specs.Worked as worked  -- checked before the laws
 
 -- what is written stands in the area
 pub written-room : (n : ℕ) (a : State) → Fit n a → a .front .used ≤ length (a .area)

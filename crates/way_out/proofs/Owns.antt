@@ -14,12 +14,12 @@ use Rattle.basics.proofs.Regions.{cut-set, cut-get, cut-length, cut-part}
 use Rattle.basics.proofs.Loops.{run-at, run-stop}
 use Rattle.basics.proofs.Lists.{apart-at}
 use Rattle.basics.proofs.Parts.{cleared-length}
-use Rattle.turfs.specs.Board.{Board, turfCount, idOf}
-use Rattle.events.specs.declared.Event.{Event}
+use Rattle.board_rules.specs.Board.{Board, turfCount, idOf}
+use Rattle.event_rules.specs.declared.Event.{Event}
 use Rattle.index_set.specs.Line.{Below, Apart, Line}
 use Rattle.index_set.proofs.Queue.{Below-at, apart-all}
 use Rattle.walks.specs.Does.{Does}
-use Rattle.way_out.specs.Out.{Out, outNext, outward}
+use Rattle.out_rules.specs.Out.{Out, outNext, outward}
 use Rattle.way_out.specs.Outed.{State, at, sizes, outIn, outOf, Rest, Fit, outing, Owned, Outed}
 use Rattle.way_out.specs.declared.Front.{Front}
 

@@ -14,14 +14,14 @@ use Rattle.basics.specs.Regions.{cut, region, base}
 use Rattle.basics.proofs.Loops.{All-any, run-keeps, cond-both, times-still}
 use Rattle.basics.proofs.Regions.{cut-get}
 use Rattle.basics.proofs.Parts.{part-at}
-use Rattle.turfs.specs.Board.{Board, end, immutable, linksOf}
-use Rattle.events.specs.declared.Event.{Event}
+use Rattle.board_rules.specs.Board.{Board, end, immutable, linksOf}
+use Rattle.event_rules.specs.declared.Event.{Event}
 use Rattle.index_set.specs.Line.{Below}
 use Rattle.index_set.proofs.Queue.{Below-at}
 use Rattle.walks.specs.Does.{Does}
 use Rattle.walks.proofs.LinkParts.{part-run}
 use Rattle.walks.proofs.Does.{none-wrote}
-use Rattle.way_out.specs.Out.{Out, outTo, outLink, outRow, outNext}
+use Rattle.out_rules.specs.Out.{Out, outTo, outLink, outRow, outNext}
 use Rattle.way_out.specs.Outed.{State, at, sizes, outIn, outOf, Rest, Fit, outing, shore, coast, Coast, passNext}
 use Rattle.way_out.specs.declared.Front.{Front}
 use Rattle.way_out.proofs.Joins.{written-room}

@@ -1,3 +1,1 @@
-pub mod Out
 pub mod Outed
-pub mod Worked

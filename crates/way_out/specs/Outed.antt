@@ -5,14 +5,14 @@ use Prim.Native.Nat.{ℕ, _+_, _*_, _≤_, _<_}
 use lib.ListN.{length, getD, set, take}
 use Rattle.basics.specs.Loops.{run}
 use Rattle.basics.specs.Regions.{cut, region}
-use Rattle.turfs.specs.Board.{Board, turfCount, linkCount, mixtureCount, mixOf, end}
+use Rattle.board_rules.specs.Board.{Board, turfCount, linkCount, mixtureCount, mixOf, end}
 use Rattle.turfs.specs.Tables.{board, Parts}
-use Rattle.events.specs.Events.{encodeAll}
+use Rattle.event_rules.specs.Events.{encodeAll}
 use Rattle.events.specs.Area.{Wrote}
-use Rattle.events.specs.declared.Event.{Event}
+use Rattle.event_rules.specs.declared.Event.{Event}
 use Rattle.index_set.specs.Line.{Below, Apart, Line}
 use Rattle.walks.specs.Does.{Held}
-use Rattle.way_out.specs.Out.{Out, outRow, outward}
+use Rattle.out_rules.specs.Out.{Out, outRow, outward}
 use Rattle.way_out.specs.declared.Front.{Front}
 
 -- what a function of the way out may change

@@ -1,5 +1,5 @@
 // Out from space: the second floodfill of `explosively_depressurize`, module 9 of document 01.
-use events::Event;
+use event_rules::Event;
 ghost use mathlib.Core.Path.{_≡_};
 ghost use mathlib.Core.Bool.{false};
 ghost use mathlib.Core.List.{[]};
@@ -9,7 +9,7 @@ ghost use Rattle.basics.specs.Loops.{run, times, upFrom, member};
 ghost use Rattle.basics.specs.Regions.{base, cut, region};
 ghost use Rattle.index_set.specs.Line.{Below, Apart};
 ghost use Rattle.walks.specs.Does.{Does};
-ghost use Rattle.way_out.specs.Out.{outTo, outLink, outNext};
+ghost use Rattle.out_rules.specs.Out.{outTo, outLink, outNext};
 ghost use Rattle.way_out.specs.Outed.{at, sizes, Fit, outing, shore, Mixed, coast, Coast, passNext, Owned, Outed};
 
 // How far the way out has come: turfs in the order, turfs passed, event bytes written.

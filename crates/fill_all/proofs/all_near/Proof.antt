@@ -1,6 +1,6 @@
 -- The loop's invariant: the turfs left, from here on, are near exactly when all are. Assumes nothing.
-use Rattle.mixture.specs.Mixture.{total}
-use Rattle.turfs.specs.Board.{Board}
+use Rattle.mixture_rules.specs.Mixture.{total}
+use Rattle.board_rules.specs.Board.{Board}
 use Rattle.basics.proofs.Tests.{every-next, every-fails, every-end}
 use Rattle.basics.specs.Floats.{abs, _-f_}
 use Rattle.basics.specs.Loops.{every}

@@ -1,7 +1,7 @@
 -- No links, few moles, or all neighbours near. Assumes nothing.
 use Rattle.fill_all.proofs.Near.{none-linked, few-moles, all-tested, near-asks}
 use Rattle.mixture.specs.Moves.{Holds}
-use Rattle.mixture.specs.Mixture.{total}
+use Rattle.mixture_rules.specs.Mixture.{total}
 use Rattle.basics.specs.Floats.{abs, _-f_}
 use Rattle.basics.specs.Loops.{every}
 use lib.Ieee.{Float, lt}

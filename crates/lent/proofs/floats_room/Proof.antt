@@ -1,6 +1,6 @@
 -- The same sum. Assumes nothing.
 use mathlib.Core.Path.{refl}
-use Rattle.lent.specs.Lent.{floatsRoom}
+use Rattle.lent_rules.specs.Lent.{floatsRoom}
 use borrow.Author.Needs.{needs}
 use Rattle.lent.proofs.floats_room.Statement.{statement}
 use Rattle.lent.proofs.floats_room.Tie as tie

@@ -9,12 +9,12 @@ use borrow.Author.Needs.{needs}
 use borrow.Author.Tests.{not-true, not-false}
 use Rattle.basics.specs.Loops.{every, allOf}
 use Rattle.basics.proofs.Tests.{all-hold, all-none, yes, no}
-use Rattle.turfs.specs.Board.{Board}
-use Rattle.turfs.specs.Refuse.{sizesFit, tablesFit, idsFit, linksFit, rowFits}
+use Rattle.board_rules.specs.Board.{Board}
+use Rattle.board_rules.specs.Refuse.{sizesFit, tablesFit, idsFit, linksFit, rowFits}
 use Rattle.turfs.specs.Tables.{board, Sizes}
 use Rattle.turfs.proofs.Tables.{sizes-of, starts-of}
-use Rattle.mixture.specs.Mixture.{amountFits}
-use Rattle.lent.specs.Lent.{Lent, Extra, wordsRoom, floatsRoom}
+use Rattle.mixture_rules.specs.Mixture.{amountFits}
+use Rattle.lent_rules.specs.Lent.{Lent, Extra, wordsRoom, floatsRoom}
 use Rattle.lent.specs.Given.{lent, extraOf}
 use Rattle.lent.proofs.Numbers.{areas, is-0, is-1, is-1-extra, is-2, is-3, is-4, is-5, is-5-extra, is-6, is-7, small-of}
 use Rattle.lent.proofs.refusal.Statement.{statement}

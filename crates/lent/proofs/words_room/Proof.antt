@@ -1,6 +1,6 @@
 -- The same sum. Assumes nothing.
 use mathlib.Core.Path.{refl}
-use Rattle.lent.specs.Lent.{wordsRoom}
+use Rattle.lent_rules.specs.Lent.{wordsRoom}
 use borrow.Author.Needs.{needs}
 use Rattle.lent.proofs.words_room.Statement.{statement}
 use Rattle.lent.proofs.words_room.Tie as tie

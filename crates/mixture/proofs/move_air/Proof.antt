@@ -5,7 +5,7 @@ use native.Mathlib.Omega.{arith}
 use lib.ListN.{length}
 use denote.Ref.{now}
 use Rattle.basics.specs.Floats.{_-f_}
-use Rattle.mixture.specs.Mixture.{ratio}
+use Rattle.mixture_rules.specs.Mixture.{ratio}
 use Rattle.mixture.proofs.Moves.{moved, moved-none, moved-length, moved-next, moved-all, changeable, total-is}
 use borrow.Author.Needs.{needs}
 use Rattle.mixture.proofs.move_air.Statement.{statement}

@@ -12,8 +12,8 @@ use Rattle.index_set.proofs.contains.Reads as contains-reads
 use Rattle.index_set.proofs.insert.Reads as insert-reads
 use Rattle.index_set.proofs.places_at.Reads as places-at-reads
 use Rattle.index_set.proofs.queue_at.Reads as queue-at-reads
-use Rattle.plan_search.proofs.point.Reads as point-reads
-use Rattle.plan_search.proofs.wants.Reads as wants-reads
+use Rattle.plan_trade.proofs.point.Reads as point-reads
+use Rattle.plan_trade.proofs.wants.Reads as wants-reads
 
 mul-if1 : tie.Need-mul-if1
 mul-if1 c = search needs

@@ -6,13 +6,13 @@ use lib.ListN.{length, getD}
 use borrow.Author.Needs.{needs}
 use Rattle.process_zone.specs.Plan.{seekNext}
 use Rattle.plan_state.specs.Held.{grid, area, view}
-use Rattle.plan_search.specs.Search.{AllMet, Idle}
+use Rattle.plan_trade.specs.Search.{AllMet, Idle}
 use Rattle.plan_search.proofs.Search.{Trail, trail-start, trail-next, trail-end, seen-below, turn-on, turn-settled, turn-end}
 use Rattle.plan_search.proofs.seek.Statement.{statement}
 use Rattle.plan_search.proofs.seek.Tie as tie
 use Rattle.index_set.proofs.queue_at.Reads as queue-at-reads
 use Rattle.plan_search.proofs.seek_turf.Reads as seek-turf-reads
-use Rattle.plan_search.proofs.settled.Reads as settled-reads
+use Rattle.plan_trade.proofs.settled.Reads as settled-reads
 
 abbrev Inv-loop : tie.InvT-loop
 Inv-loop side g starts neighbours z n e words₀ reals₀ queue count₀ first₀ looked₀ words reals count first looked =

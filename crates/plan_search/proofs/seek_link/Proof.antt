@@ -10,9 +10,9 @@ use Rattle.index_set.proofs.contains.Reads as contains-reads
 use Rattle.index_set.proofs.insert.Reads as insert-reads
 use Rattle.index_set.proofs.places_at.Reads as places-at-reads
 use Rattle.index_set.proofs.queue_at.Reads as queue-at-reads
-use Rattle.plan_search.proofs.first_traded.Reads as first-traded-reads
-use Rattle.plan_search.proofs.meet.Reads as meet-reads
-use Rattle.plan_search.proofs.settles.Reads as settles-reads
+use Rattle.plan_trade.proofs.first_traded.Reads as first-traded-reads
+use Rattle.plan_trade.proofs.meet.Reads as meet-reads
+use Rattle.plan_trade.proofs.settles.Reads as settles-reads
 
 mul-if1 : tie.Need-mul-if1
 mul-if1 c = search needs

@@ -8,7 +8,7 @@ use lib.Ieee.{Float}
 use borrow.Author.Needs.{needs}
 use Rattle.basics.specs.Floats.{0f, _-f_}
 use Rattle.basics.specs.Loops.{run}
-use Rattle.mixture.specs.Mixture.{total}
+use Rattle.mixture_rules.specs.Mixture.{total}
 use Rattle.process_zone.specs.Plan.{Plan, store, deltas}
 use Rattle.plan_state.specs.Held.{area, ground, view, nodesOf}
 use Rattle.plan_state.proofs.Nodes.{Onto, onto-start, onto-next, onto-end, onto-frame, now-below, walk-next, walk-end}

@@ -1,6 +1,6 @@
 -- The turf's planetary byte. Assumes nothing.
 use mathlib.Core.Path.{sym, _∙_}
-use Rattle.turfs.specs.Board.{planetary}
+use Rattle.board_rules.specs.Board.{planetary}
 use borrow.Author.Needs.{needs}
 use Rattle.walks.proofs.met.Statement.{statement}
 use Rattle.walks.proofs.met.Tie as tie

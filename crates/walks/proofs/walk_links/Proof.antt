@@ -5,7 +5,7 @@ use native.Mathlib.Omega.{arith}
 use lib.ListN.{length}
 use Rattle.basics.specs.Loops.{run, upFrom}
 use Rattle.basics.proofs.Loops.{run-up, run-up-end}
-use Rattle.walks.specs.Walk.{walkLink}
+use Rattle.walk_rules.specs.Walk.{walkLink}
 use Rattle.walks.specs.Reached.{at, walking, links}
 use Rattle.walks.proofs.Does.{Going, going-start, going-next, going-end}
 use Rattle.walks.proofs.Links.{written-room, kept-words, kept-area}

@@ -1,6 +1,6 @@
 -- The next turf is counted, and visited as the kind of walk says. Assumes nothing.
 use mathlib.Core.Path.{refl}
-use Rattle.walks.specs.declared.Kind.the-variants.{Planet, Space}
+use Rattle.walk_rules.specs.declared.Kind.the-variants.{Planet, Space}
 use Rattle.walks.proofs.Whole.{next-row, counted-fit, next-visits, next-does}
 use native.Mathlib.Omega.{arith}
 use borrow.Author.Needs.{needs}

@@ -7,8 +7,8 @@ use mathlib.Core.Path.{_∙_, sym}
 use lib.ListN.{length}
 use Rattle.basics.specs.Loops.{times}
 use Rattle.turfs.specs.Tables.{board}
-use Rattle.walks.specs.Walk.{walkNext}
-use Rattle.walks.specs.Visit.{visit}
+use Rattle.walk_rules.specs.Walk.{walkNext}
+use Rattle.walk_rules.specs.Visit.{visit}
 use Rattle.walks.specs.Reached.{at, walking, perTurf}
 use Rattle.walks.proofs.Does.{Going, going-start, going-next, going-end}
 use Rattle.walks.proofs.Links.{written-room, kept-words, kept-area}

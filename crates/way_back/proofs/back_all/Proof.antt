@@ -9,7 +9,7 @@ use Rattle.basics.specs.Loops.{run}
 use Rattle.basics.specs.Regions.{region}
 use Rattle.walks.proofs.Does.{Going, going-start, going-next, going-end}
 use Rattle.way_out.specs.Outed.{sizes}
-use Rattle.way_back.specs.Back.{back}
+use Rattle.back_rules.specs.Back.{back}
 use Rattle.way_back.specs.Backed.{at, backing, air, directions}
 use Rattle.way_back.proofs.Backs.{written-room}
 use Rattle.way_back.proofs.Ways.{kept-words, kept-floats, kept-gas, kept-area, turn-as, back-next, order-long}

@@ -4,7 +4,7 @@ use Prim.Native.Nat.{_≤_, _-_}
 use native.Mathlib.Omega.{arith}
 use denote.Ref.{now}
 use lib.ListN.{length, take, drop}
-use Rattle.events.specs.Events.{encodeAll}
+use Rattle.event_rules.specs.Events.{encodeAll}
 use Rattle.events.specs.Area.{Wrote}
 use Rattle.events.proofs.Areas.{wrote-length}
 use Rattle.way_back.specs.Backed.{ripsOf}

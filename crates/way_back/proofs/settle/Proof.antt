@@ -4,7 +4,7 @@ use mathlib.Core.Path.{refl, ap, sym, _∙_}
 use mathlib.Core.List.{List}
 use lib.ListN.{getD}
 use denote.Ref.{now}
-use Rattle.mixture.specs.Mixture.{clearAir}
+use Rattle.mixture_rules.specs.Mixture.{clearAir}
 use borrow.Author.Needs.{needs}
 use Rattle.way_back.proofs.settle.Statement.{statement}
 use Rattle.way_back.proofs.settle.Tie as tie

@@ -7,7 +7,7 @@ use Rattle.basics.specs.Loops.{run, upFrom}
 use Rattle.basics.proofs.Loops.{run-up, run-up-end}
 use Rattle.walks.proofs.Does.{Going, going-start, going-next, going-end}
 use Rattle.walks.proofs.LinkParts.{run-start}
-use Rattle.way_out.specs.Out.{outLink}
+use Rattle.out_rules.specs.Out.{outLink}
 use Rattle.way_out.specs.Outed.{at, outing, shore}
 use Rattle.way_out.proofs.Joins.{written-room, kept-words, kept-area}
 use Rattle.way_out.proofs.out_links.Statement.{statement}

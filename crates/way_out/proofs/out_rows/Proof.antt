@@ -5,7 +5,7 @@ use denote.Ref.{now}
 use lib.ListN.{length}
 use Rattle.basics.specs.Loops.{times}
 use Rattle.walks.proofs.Does.{Going, going-start, going-next, going-end}
-use Rattle.way_out.specs.Out.{outNext}
+use Rattle.out_rules.specs.Out.{outNext}
 use Rattle.way_out.specs.Outed.{at, outing, coast}
 use Rattle.way_out.proofs.Joins.{written-room, kept-words, kept-area}
 use Rattle.way_out.proofs.Rows.{steps-start, steps-next, steps-end, turn-counts}

@@ -1,0 +1,4 @@
+pub mod Board
+pub mod Refuse
+pub mod Draw
+pub mod Worked

@@ -1,0 +1,2 @@
+pub mod Depressurize
+pub mod Worked

@@ -1,0 +1,2 @@
+pub mod Mixture
+pub mod Worked

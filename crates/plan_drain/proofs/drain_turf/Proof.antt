@@ -1,0 +1,87 @@
+-- By the three ways out: nothing to hand on, nowhere to hand it, over the link by which the turf was met. Assumes nothing.
+use native.Mathlib.Omega.{arith}
+use Prim.Native.Nat.{_+_}
+use Rattle.plan_drain.proofs.Drains.{drained, drained-still, drained-none, back-row, back-k, back-p, back-there}
+use borrow.Author.Needs.{needs}
+use Rattle.plan_drain.proofs.drain_turf.Statement.{statement}
+use Rattle.plan_drain.proofs.drain_turf.Tie as tie
+use Rattle.plan_drain.proofs.hand_on.Reads as hand-on-reads
+use Rattle.plan_state.proofs.back_link.Reads as back-link-reads
+use Rattle.plan_state.proofs.load.Reads as load-reads
+
+load-requires : tie.Need-load-requires
+load-requires c κs = search needs
+
+cast-direction : tie.Need-cast-direction
+cast-direction c = search needs
+
+add-k : tie.Need-add-k
+add-k c = search needs
+
+add-k-2 : tie.Need-add-k-2
+add-k-2 c = search needs
+
+add-k-3 : tie.Need-add-k-3
+add-k-3 c = search needs
+
+add-k-4 : tie.Need-add-k-4
+add-k-4 c = search needs
+
+mul-k : tie.Need-mul-k
+mul-k c = search needs
+
+shared-slice-read-k : tie.Need-shared-slice-read-k
+shared-slice-read-k c = search needs
+
+cast-k : tie.Need-cast-k
+cast-k c = omega (arith, c .shared-slice-known2 .given (c .before .before .before .before .before .before .before .before .args .e + c .before .before .before .before .before .before .before .before .args .e + c .before .before .before .before .before .before .before .before .args .r + c .before .before .before .before .before .before .before .before .args .r + 1))
+
+back-link-requires : tie.Need-back-link-requires
+back-link-requires c κs = (omega (arith, c .before .before .before .before .before .before .before .before .pre .0 .words), (back-k _ _ (c .before .before .before .before .before .before .before .before .args .z) _ _ _ _ (c .before .before .before .before .load .ensures) (c .before .before .before .before .before .before .before .before .pre .0) (c .before .before .before .before .before .before .before .before .pre .1 .1 .0) (c .before .before .before .before .before .before .before .before .pre .1 .1 .1) (c .before .if2 .taken), (back-p _ _ (c .before .before .before .before .before .before .before .before .args .z) _ _ _ _ (c .before .before .before .before .load .ensures) (c .before .before .before .before .before .before .before .before .pre .0) (c .before .before .before .before .before .before .before .before .pre .1 .1 .0) (c .before .before .before .before .before .before .before .before .pre .1 .1 .1) (c .before .if2 .taken), c .before .before .before .before .before .before .before .before .pre .1 .0)))
+
+sub-hand-on : tie.Need-sub-hand-on
+sub-hand-on c = search needs
+
+hand-on-requires : tie.Need-hand-on-requires
+hand-on-requires c κs = ((c .before .before .before .before .before .before .before .before .before .before .pre .0, (c .before .before .before .before .before .before .before .before .before .before .pre .1 .1 .0, back-row _ _ (c .before .before .before .before .before .before .before .before .before .before .args .z) _ _ _ _ (c .before .before .before .before .before .before .load .ensures) (c .before .before .before .before .before .before .before .before .before .before .pre .0) (c .before .before .before .before .before .before .before .before .before .before .pre .1 .1 .0) (c .before .before .before .before .before .before .before .before .before .before .pre .1 .1 .1) (c .before .before .before .if2 .taken))), (back-there _ _ _ _ _ _ _ (c .before .before .before .before .before .before .load .ensures) (c .before .before .before .before .before .before .before .before .before .before .pre .0) (c .before .before .before .before .before .before .before .before .before .before .pre .1 .1 .0) (c .before .before .before .before .before .before .before .before .before .before .pre .1 .1 .1) (c .before .before .before .if2 .taken) _ (c .before .back-link .ensures), back-k _ _ (c .before .before .before .before .before .before .before .before .before .before .args .z) _ _ _ _ (c .before .before .before .before .before .before .load .ensures) (c .before .before .before .before .before .before .before .before .before .before .pre .0) (c .before .before .before .before .before .before .before .before .before .before .pre .1 .1 .0) (c .before .before .before .before .before .before .before .before .before .before .pre .1 .1 .1) (c .before .before .before .if2 .taken)))
+
+same-length : tie.Need-same-length
+same-length c = search needs
+
+returns : tie.Need-returns
+returns c = drained _ _ _ _ _ _ _ (c .before .before .before .before .before .before .before .before .before .load .ensures) (c .before .before .before .before .before .before .before .before .before .before .before .before .before .pre .0) (c .before .before .before .before .before .before .before .before .before .before .before .before .before .pre .1 .1 .0) (c .before .before .before .before .before .before .before .before .before .before .before .before .before .pre .1 .1 .1) (c .before .before .before .before .before .before .if2 .taken) _ (c .before .before .before .before .back-link .ensures) (c .before .before .before .before .before .before .before .if1 .taken) (c .before .before .hand-on .ensures)
+
+same-length-2 : tie.Need-same-length-2
+same-length-2 c = search needs
+
+returns-2 : tie.Need-returns-2
+returns-2 c = drained-still _ _ _ _ _ _ _ (c .before .before .before .load .ensures) (c .before .before .before .before .before .before .before .pre .0) (c .before .if1 .taken) (c .if2 .left)
+
+same-length-3 : tie.Need-same-length-3
+same-length-3 c = search needs
+
+returns-3 : tie.Need-returns-3
+returns-3 c = drained-none _ _ _ _ _ _ _ (c .before .before .load .ensures) (c .before .before .before .before .before .before .pre .0) (c .if1 .left)
+
+pub drain-turf-spec : {M : Type 1} → statement M
+drain-turf-spec =
+    tie.close
+    (tie.spec
+    load-requires
+    cast-direction
+    add-k
+    add-k-2
+    add-k-3
+    add-k-4
+    mul-k
+    shared-slice-read-k
+    cast-k
+    back-link-requires
+    sub-hand-on
+    hand-on-requires
+    same-length
+    returns
+    same-length-2
+    returns-2
+    same-length-3
+    returns-3)

@@ -1,0 +1,4 @@
+pub mod Trades
+pub mod Lessers
+pub mod Sides
+pub mod Nears

@@ -1,0 +1,70 @@
+-- A turf that doesn't want leaves all as it is, so its trade may be left out. Assumes nothing.
+use mathlib.Core.Path.{_∙_, sym}
+use Rattle.plan_trade.proofs.Trades.{wanted, met-some, met-none}
+use borrow.Author.Needs.{needs}
+use Rattle.plan_trade.proofs.meet.Statement.{statement}
+use Rattle.plan_trade.proofs.meet.Tie as tie
+use Rattle.plan_trade.proofs.point.Reads as point-reads
+use Rattle.plan_trade.proofs.trade.Reads as trade-reads
+use Rattle.plan_trade.proofs.wants.Reads as wants-reads
+
+add-point : tie.Need-add-point
+add-point c = search needs
+
+point-requires : tie.Need-point-requires
+point-requires c κs = search needs
+
+add-wants : tie.Need-add-wants
+add-wants c = search needs
+
+add-wants-2 : tie.Need-add-wants-2
+add-wants-2 c = search needs
+
+mul-wants : tie.Need-mul-wants
+mul-wants c = search needs
+
+slice-read-wants : tie.Need-slice-read-wants
+slice-read-wants c = search needs
+
+wants-requires : tie.Need-wants-requires
+wants-requires c κs = search needs
+
+trade-requires : tie.Need-trade-requires
+trade-requires c κs = search needs
+
+same-length : tie.Need-same-length
+same-length c = search needs
+
+same-length-2 : tie.Need-same-length-2
+same-length-2 c = search needs
+
+returns : tie.Need-returns
+returns c = (met-some _ _ _ _ _ _ (c .before .before .before .before .before .before .before .before .before .before .before .before .before .before .before .before .before .before .before .pre .1 .1 .0) (c .before .before .before .before .before .before .before .before .before .before .before .before .before .before .point .ensures) (c .before .before .before .before .trade .ensures), wanted _ _ (c .before .before .before .before .before .before .before .before .before .before .before .before .before .before .before .before .before .before .before .args .g) (c .before .before .before .before .before .before .before .before .before .before .before .before .before .before .before .before .before .before .before .args .r) _ (c .before .before .before .before .before .before .before .before .before .before .before .before .before .before .before .before .before .before .before .args .side) (c .before .before .before .before .before .before .before .before .before .before .before .before .before .before .before .before .before .before .before .pre .1 .1 .0) (c .before .before .before .before .before .before .before .before .before .before .before .before .before .before .point .ensures) (c .before .before .before .before .before .before .before .before .wants .ensures))
+
+same-length-3 : tie.Need-same-length-3
+same-length-3 c = search needs
+
+same-length-4 : tie.Need-same-length-4
+same-length-4 c = search needs
+
+returns-2 : tie.Need-returns-2
+returns-2 c = (met-none _ _ _ _ _ _ (c .before .before .before .before .before .before .before .before .before .before .before .before .pre .1 .1 .0) (c .before .before .before .before .before .before .before .point .ensures) (sym (c .before .wants .ensures) ∙ c .if1 .left), wanted _ _ (c .before .before .before .before .before .before .before .before .before .before .before .before .args .g) (c .before .before .before .before .before .before .before .before .before .before .before .before .args .r) _ (c .before .before .before .before .before .before .before .before .before .before .before .before .args .side) (c .before .before .before .before .before .before .before .before .before .before .before .before .pre .1 .1 .0) (c .before .before .before .before .before .before .before .point .ensures) (c .before .wants .ensures))
+
+pub meet-spec : {M : Type 1} → statement M
+meet-spec =
+    tie.close
+    (tie.spec
+    add-point
+    point-requires
+    add-wants
+    add-wants-2
+    mul-wants
+    slice-read-wants
+    wants-requires
+    trade-requires
+    same-length
+    same-length-2
+    returns
+    same-length-3
+    same-length-4
+    returns-2)
