@@ -1,6 +1,6 @@
 // `explosively_depressurize`, module 9 of document 01: the walk to space, out from space, and back.
-use depressurize_rules::DepressurizeAnswer;
 use basics::Spot;
+use depressurize_rules::DepressurizeAnswer;
 use lent::ExtraTests;
 use walk_rules::Kind;
 use walks::Reach;
@@ -13,7 +13,6 @@ ghost use Rattle.lent_rules.specs.Lent.{noExtra, refusal};
 ghost use Rattle.lent.specs.Given.{lent};
 ghost use Rattle.depressurize_rules.specs.Depressurize.{depressurizeResult};
 ghost use Rattle.depressurize.specs.Ended.{Walked, Ended, Depressed};
-
 
 // How it ended, and how many event bytes are written.
 pub struct Outcome {

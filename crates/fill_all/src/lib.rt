@@ -1,7 +1,7 @@
 // Filling: zones from the hot turfs. Its definition is `fillAll` of crate equalize; specs/Held.antt says how the work areas hold it.
 use basics::Spot;
-use fill_zone::Flood;
 use fill_rules::Going;
+use fill_zone::Flood;
 use turfs::SimulationFlags;
 ghost use mathlib.Core.Path.{_≡_};
 ghost use mathlib.Core.Bool.{true, false, _||_};

@@ -1,6 +1,6 @@
 // `flood_fill_zones`: one zone, from one turf. Its definition stands in specs/Fill.antt; specs/Held.antt says how the work area holds it.
-use fill_rules::Going;
 use event_rules::Event;
+use fill_rules::Going;
 use turfs::AdjacentFlags;
 use turfs::SimulationFlags;
 ghost use mathlib.Core.Path.{_≡_};
@@ -13,7 +13,6 @@ ghost use Rattle.basics.specs.Loops.{run, upFrom};
 ghost use Rattle.board_rules.specs.Board.{lockBit};
 ghost use Rattle.flood_fill.specs.Steps.{metAt, Rows, edgeTo, push, askSpace, askPlanet, discover, reachMet, reachPart};
 ghost use Rattle.flood_fill.specs.Held.{foundAt, startsAt, nodesAt, Sizes, view, Fit, Bounded, Part, Moves, Asks, Discovers, Reaches};
-
 
 // How far a walk over links has come: rows pushed, nodes of the zone, `ignore_zone`, bytes of events.
 pub struct Reached {

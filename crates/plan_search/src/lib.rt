@@ -18,19 +18,19 @@ ghost use Rattle.plan_trade.specs.Search.{Seeking, Sought, Searched, AllMet, Ke
 ghost use Rattle.plan_trade.specs.Steps.{lesser, given, bargain, point, alongPart, handOn, drainVia};
 use index_set::contains;
 use index_set::insert;
+use plan_drain::drain;
 use plan_state::load;
 use plan_state::store;
+use plan_trade::first_traded;
+use plan_trade::least;
+use plan_trade::meet;
+use plan_trade::point;
+use plan_trade::settled;
+use plan_trade::settles;
+use plan_trade::trade;
+use plan_trade::wants;
 use process_zone::MonstermosInfo;
 use process_zone::Side;
-use plan_trade::settled;
-use plan_trade::wants;
-use plan_trade::trade;
-use plan_trade::point;
-use plan_trade::meet;
-use plan_trade::settles;
-use plan_trade::least;
-use plan_trade::first_traded;
-use plan_drain::drain;
 
 // How many rows the queue has, and the first place whose row traded; n if none did.
 pub struct Reach {

@@ -97,7 +97,15 @@ pub fn barter(side: Side, hand: MonstermosInfo, met: MonstermosInfo) -> Both
 }
 
 // The turf in hand, g, and the turf that is met, a.
-pub fn trade(side: Side, g: usize, a: usize, n: usize, e: usize, words: &mut [u32], reals: &mut [f32])
+pub fn trade(
+    side: Side,
+    g: usize,
+    a: usize,
+    n: usize,
+    e: usize,
+    words: &mut [u32],
+    reals: &mut [f32],
+)
     requires { ⌜ Fit n e (area (now words) (now reals)) × ((g < n) × (a < n)) ⌝ }
     ensures { λ _. ⌜ Does n e (λ o p. trade side g a p) (area (now (words .entry)) (now (reals .entry))) (area (now (words .exit)) (now (reals .exit))) ⌝ }
 {

@@ -1,8 +1,8 @@
 // The walk from one turf that `planet_equalize` and `explosively_depressurize` share: module 10 and the first part of module 9 of document 01.
-use walk_rules::Kind;
 use event_rules::Event;
 use turfs::AdjacentFlags;
 use turfs::SimulationFlags;
+use walk_rules::Kind;
 ghost use mathlib.Core.Path.{_≡_};
 ghost use mathlib.Core.Bool.{not, _&&_, _||_};
 ghost use mathlib.Core.List.{[]};
@@ -17,7 +17,6 @@ ghost use Rattle.walk_rules.specs.Walk.{walkLink, spread, walkNext};
 ghost use Rattle.walk_rules.specs.Visit.{visitPlanet, atSpace, visitSpace, visit};
 ghost use Rattle.walks.specs.Does.{Does};
 ghost use Rattle.walks.specs.Reached.{at, Fit, walking, links, Near, grid, Linked, Ground, perTurf, Visits, visitNext, Walked};
-
 
 // How far a walk has come: turfs in the queue, turfs visited, space turfs met, whether a planetary turf was met, whether the walk has ended, event bytes written.
 pub struct Reach {
