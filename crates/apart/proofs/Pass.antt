@@ -12,7 +12,8 @@ use lib.ListN.{length, getD, set, take, drop, replicate}
 use lib.Seq.{take-suc, take-length, getD-set-same, getD-set-other}
 use lib.Ieee.Bits.{is-true}
 use Rattle.basics.specs.Loops.{member, snoc, keep, consIf, every, upFrom}
-use Rattle.basics.proofs.Loops.{All, All-imp, All-getD}
+use Rattle.basics.specs.Lists.{All}
+use Rattle.basics.proofs.Loops.{All-imp, All-getD}
 use Rattle.basics.proofs.Lists.{map-append, member-front, member-last, member-map, members, or-cases, all-every, upFrom-below, upFrom-length}
 use Rattle.basics.proofs.Tests.{differ, every-up-at}
 use Rattle.basics.proofs.Parts.{cleared-length, cleared-far, cleared-at}

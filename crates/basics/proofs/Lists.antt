@@ -10,8 +10,9 @@ use native.Mathlib.Omega.{arith}
 use lib.Dec.{T, eqb, eqb→eq, eqb-refl}
 use lib.ListN.{length, getD, set, drop, replicate}
 use borrow.Author.Tests.{eqb-false, eq-eqb, ne-eqb}
+use Rattle.basics.specs.Lists.{All, one, count}
 use Rattle.basics.specs.Loops.{keep, every, consIf, upFrom, member, snoc}
-use Rattle.basics.proofs.Loops.{All, All-imp, All-getD, keep-all, both}
+use Rattle.basics.proofs.Loops.{All-imp, All-getD, keep-all, both}
 
 -- ---- what all have
 
@@ -165,18 +166,9 @@ upFrom-apart a (suc n) = (All-imp (λ k. suc a ≤ k) (λ k. k ≢ a) (upFrom (s
 
 -- ---- how many pass a test
 
--- a test that passes counts one
-abbrev pub one : Bool → ℕ
-one true = 1
-one false = 0
-
 pub one-at-most : (t : Bool) → one t ≤ 1
 one-at-most true = le-refl 1
 one-at-most false = omega arith
-
-unfoldable pub count : {A : Type 0} → (A → Bool) → List A → ℕ
-count p [] = 0
-count p (x ∷ xs) = one (p x) + count p xs
 
 module _ {A : Type 0} (p : A → Bool) where
   pub count-length : (xs : List A) → count p xs ≤ length xs

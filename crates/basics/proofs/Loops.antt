@@ -10,14 +10,10 @@ use native.Mathlib.Nat.{not-suc-le-zero, le-of-suc-le-suc, suc-ne-zero, suc-inj,
 use lib.Dec.{T}
 use lib.ListN.{length, getD, set, take, drop, drop-of-length-le}
 use lib.Seq.{drop-cons, take-suc}
+use Rattle.basics.specs.Lists.{All, Found}
 use Rattle.basics.specs.Loops.{run, times, consIf, keep, every, allOf, upFrom, first, atOr, snoc}
 use Rattle.basics.specs.declared.Spot.{Spot}
 use Rattle.basics.specs.declared.Spot.the-variants.{At, Nowhere}
-
--- every element has P
-abbrev pub All : {A : Type 0} → (A → Type 0) → List A → Type 0
-All P [] = Unit {0}
-All P (x ∷ xs) = P x × All P xs
 
 pub All-map : {A B : Type 0} (P : B → Type 0) (f : A → B) (xs : List A) → All (λ x. P (f x)) xs → All P (map f xs)
 All-map P f [] h = tt
@@ -104,11 +100,6 @@ module _ {A : Type 0} where
   pub map-like : {B : Type 0} (f g : A → B) (xs : List A) → All (λ x. f x ≡ g x) xs → map f xs ≡ map g xs
   map-like f g [] h = refl
   map-like f g (x ∷ xs) h = λ i. h .0 i ∷ map-like f g xs (h .1) i
-
--- what holds of every element holds of what a search finds
-abbrev pub Found : (ℕ → Type 0) → Spot → Type 0
-Found P (At k) = P k
-Found P Nowhere = Unit {0}
 
 atOr-found : (P : ℕ → Type 0) (t : Bool) (x : ℕ) (o : Spot) → P x → Found P o → Found P (atOr t x o)
 atOr-found P true x o a f = a

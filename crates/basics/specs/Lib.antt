@@ -1,3 +1,4 @@
 pub mod Loops
 pub mod Regions
 pub mod Floats
+pub mod Lists

@@ -17,10 +17,12 @@ use Rattle.basics.specs.Loops.{run, member, snoc}
 use Rattle.basics.specs.Floats.{0f, _+f_}
 use Rattle.basics.specs.declared.Spot.{Spot}
 use Rattle.basics.specs.declared.Spot.the-variants.{At, Nowhere}
-use Rattle.basics.proofs.Loops.{All, All-any, All-imp, All-getD, run-keeps, times-keeps, times-rests, Found, cond-both}
-use Rattle.basics.proofs.Lists.{All-snoc, All-front, apart-snoc, apart-at, not-member, one, count, count-append, count-reverse, count-none, count-length, replicate-at}
+use Rattle.basics.specs.Lists.{All, Found, one, count}
+use Rattle.basics.proofs.Loops.{All-any, All-imp, All-getD, run-keeps, times-keeps, times-rests, cond-both}
+use Rattle.basics.proofs.Lists.{All-snoc, All-front, apart-snoc, apart-at, not-member, count-append, count-reverse, count-none, count-length, replicate-at}
 use Rattle.board_rules.specs.Board.{Board, turfCount, idOf, mixOf, end, planetary, immutable, linksOf, rowOf}
-use Rattle.turfs.proofs.Accepted.{Accepted, row-below}
+use Rattle.turfs.specs.Tables.{Accepted}
+use Rattle.turfs.proofs.Accepted.{row-below}
 use Rattle.turfs.proofs.Line.{Line, line-short, line-snoc}
 use Rattle.mixture_rules.specs.Mixture.{total, clearAir}
 use Rattle.event_rules.specs.Events.{kindOf, fieldsOf, sizeOf, wordsBytes, encode, encodeAll}

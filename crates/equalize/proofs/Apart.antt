@@ -11,7 +11,8 @@ use lib.Dec.{T, ltb, ltb→lt}
 use lib.ListN.{length, getD, replicate}
 use Rattle.basics.specs.Loops.{keep, consIf, upFrom, member}
 use Rattle.basics.specs.Floats.{0f}
-use Rattle.basics.proofs.Loops.{All, All-map, All-getD, All-any, every-all}
+use Rattle.basics.specs.Lists.{All}
+use Rattle.basics.proofs.Loops.{All-map, All-getD, All-any, every-all}
 use Rattle.basics.proofs.Lists.{All-unmap, or-cases, members, member-has, upFrom-at, upFrom-length}
 use Rattle.board_rules.specs.Board.{Board, mixtureCount, mixOf, immutableMix, end}
 use Rattle.mixture.proofs.Parts.{Fits}

@@ -10,7 +10,7 @@ use lib.Dec.{T, ltb}
 use lib.ListN.{length, take, drop}
 use lib.Ieee.{Float}
 use Rattle.board_rules.specs.Board.{Board, mixOf, end}
-use Rattle.turfs.proofs.Accepted.{Accepted}
+use Rattle.turfs.specs.Tables.{Accepted}
 use Rattle.event_rules.specs.Events.{encodeAll}
 use Rattle.event_rules.specs.declared.Event.{Event}
 use Rattle.events.proofs.Compared.{records, requests, requests-same}
@@ -18,7 +18,7 @@ use Rattle.events.proofs.Bytes.{same-size}
 use Rattle.events.proofs.ReadAll.{Readable, readAll, read-area}
 use Rattle.lent_rules.specs.Lent.{Lent, Result, after}
 use Rattle.lent.proofs.Passed.{passed}
-use Rattle.basics.proofs.Loops.{All}
+use Rattle.basics.specs.Lists.{All}
 use Rattle.basics.proofs.Lists.{member-map}
 use Rattle.finalize_eq.specs.Turns.{nodesAt, nodeCount}
 use Rattle.equalize.specs.Equalize.{Ask, Filled, Equalized, hasMix, apart, bit, fillAll, cancel, planned, played, equalize}

@@ -8,7 +8,8 @@ use lib.ListN.{getD, replicate}
 use lib.Ieee.{Float}
 use Rattle.basics.specs.declared.Spot.{Spot}
 use Rattle.basics.specs.declared.Spot.the-variants.{At, Nowhere}
-use Rattle.basics.proofs.Loops.{All-any, run-keeps, Found}
+use Rattle.basics.specs.Lists.{Found}
+use Rattle.basics.proofs.Loops.{All-any, run-keeps}
 use Rattle.board_rules.specs.Board.{Board, turfCount, linkCount, enabled, rowOf}
 use Rattle.turfs.proofs.Accepted.{row-below}
 use Rattle.equalize.specs.Equalize.{Ask, Filled, passedOver, fillFrom, hotRow, hotId, fillAll}

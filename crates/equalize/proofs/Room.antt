@@ -11,7 +11,7 @@ use Rattle.basics.specs.Loops.{upFrom}
 use Rattle.basics.specs.Floats.{0f}
 use Rattle.basics.proofs.Loops.{All-any, run-keeps, cond-both}
 use Rattle.board_rules.specs.Board.{Board, turfCount, linkCount}
-use Rattle.turfs.proofs.Accepted.{Accepted}
+use Rattle.turfs.specs.Tables.{Accepted}
 use Rattle.events.proofs.Sizes.{size, requests-size}
 use Rattle.lent_rules.specs.Lent.{Lent}
 use Rattle.lent.proofs.Passed.{passed}

@@ -15,7 +15,7 @@ use Rattle.basics.specs.Loops.{run}
 use Rattle.basics.specs.declared.Spot.{Spot}
 use Rattle.basics.specs.declared.Spot.the-variants.{At, Nowhere}
 use Rattle.board_rules.specs.Board.{Board, rowOf}
-use Rattle.turfs.proofs.Accepted.{Accepted}
+use Rattle.turfs.specs.Tables.{Accepted}
 use Rattle.fill_rules.specs.Fill.{Fill, fill}
 use Rattle.flood_fill.proofs.Rest.{fill-tests}
 use Rattle.finalize_eq.specs.Turns.{nodeCount}

@@ -10,10 +10,11 @@ use lib.ListN.{length, getD, set, length-append, length-replicate}
 use lib.Ieee.{Float}
 use Rattle.basics.specs.Floats.{0f}
 use Rattle.basics.specs.Loops.{run, snoc}
-use Rattle.basics.proofs.Loops.{All, All-getD, run-append}
+use Rattle.basics.specs.Lists.{All}
+use Rattle.basics.proofs.Loops.{All-getD, run-append}
 use Rattle.basics.proofs.Lists.{All-snoc, replicate-at}
 use Rattle.board_rules.specs.Board.{Board, turfCount, linkCount}
-use Rattle.turfs.proofs.Accepted.{Accepted, source}
+use Rattle.turfs.specs.Tables.{Accepted, source}
 use Rattle.turfs.proofs.Line.{Line}
 use Rattle.events.proofs.Compared.{isRequest}
 use Rattle.fill_rules.specs.Fill.{Fill, fill}

@@ -11,12 +11,13 @@ use lib.ListN.{length, getD, take, drop}
 use lib.Seq.{getD-take, getD-drop}
 use Rattle.basics.specs.Loops.{run, upFrom}
 use Rattle.basics.specs.Regions.{region, cut, base}
-use Rattle.basics.proofs.Loops.{All, All-getD}
+use Rattle.basics.specs.Lists.{All}
+use Rattle.basics.proofs.Loops.{All-getD}
 use Rattle.basics.proofs.Regions.{cut-rest, later-same}
 use Rattle.basics.proofs.Parts.{part-alike, drop-alike, drop-later}
 use Rattle.board_rules.specs.Board.{Board, turfCount, linkCount, mixtureCount, mixOf}
 use Rattle.board_rules.specs.Refuse.{linksFit}
-use Rattle.turfs.proofs.Accepted.{Accepted}
+use Rattle.turfs.specs.Tables.{Accepted}
 use Rattle.turfs.proofs.Line.{Line}
 use Rattle.events.proofs.Sizes.{size}
 use Rattle.events.proofs.Areas.{wrote-length}

@@ -16,7 +16,7 @@ use Rattle.basics.proofs.Regions.{cut-set, cut-length}
 use Rattle.basics.specs.declared.Spot.the-variants.{At}
 use Rattle.basics.proofs.Parts.{take-in}
 use Rattle.board_rules.specs.Board.{Board, turfCount, linkCount}
-use Rattle.turfs.proofs.Accepted.{Accepted}
+use Rattle.turfs.specs.Tables.{Accepted}
 use Rattle.event_rules.specs.declared.Event.{Event}
 use Rattle.fill_rules.specs.Fill.{Fill, isOver, fill}
 use Rattle.flood_fill.specs.Held.{sizes, startsAt, nodesAt, Sizes, zeros}

@@ -10,7 +10,7 @@ use lib.ListN.{length}
 use Rattle.basics.specs.Floats.{finiteSignClear}
 use Rattle.board_rules.specs.Board.{Board, turfCount, linkCount}
 use Rattle.board_rules.specs.Refuse.{ascending, linksFit}
-use Rattle.turfs.proofs.Accepted.{Accepted}
+use Rattle.turfs.specs.Tables.{Accepted}
 use Rattle.lent_rules.specs.Lent.{Lent, Extra, wordsRoom, floatsRoom, refusal}
 use Rattle.lent.specs.Given.{Given}
 use Rattle.lent.proofs.Passed.{Passed, passed, links-pass}

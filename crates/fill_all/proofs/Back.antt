@@ -14,10 +14,12 @@ use lib.Seq.{sets, length-sets, getD-set-same, getD-set-other, ext-getD}
 use lib.Ieee.Bits.{is-true}
 use borrow.Author.Tests.{eqb-true, lt-ltb, le-ltb, le-leb, lt-leb, leb-true, ltb-true}
 use Rattle.basics.specs.Loops.{run, member, snoc}
-use Rattle.basics.proofs.Loops.{All, All-imp, and-left, and-right}
+use Rattle.basics.specs.Lists.{All}
+use Rattle.basics.proofs.Loops.{All-imp, and-left, and-right}
 use Rattle.basics.proofs.Lists.{All-snoc, or-left, or-right, or-cases, member-has}
 use Rattle.board_rules.specs.Board.{Board, turfCount, linkCount, end, enabled, linksOf}
-use Rattle.turfs.proofs.Accepted.{Accepted, source, links-in}
+use Rattle.turfs.specs.Tables.{Accepted, source}
+use Rattle.turfs.proofs.Accepted.{links-in}
 use Rattle.event_rules.specs.declared.Event.{Event}
 use Rattle.fill_rules.specs.Fill.{Reach, reachLink, fill}
 use Rattle.flood_fill.proofs.Counts.{was-new}

@@ -14,10 +14,10 @@ use Rattle.basics.specs.Floats.{finiteSignClear}
 use Rattle.basics.specs.Regions.{region}
 use Rattle.basics.specs.declared.Spot.{Spot}
 use Rattle.basics.specs.declared.Spot.the-variants.{At, Nowhere}
-use Rattle.basics.proofs.Loops.{Found}
+use Rattle.basics.specs.Lists.{Found}
 use Rattle.board_rules.specs.Board.{Board, anyBit, turfCount, linkCount, enabled, linksOf, rowOf}
-use Rattle.turfs.specs.Tables.{Parts}
-use Rattle.turfs.proofs.Accepted.{Accepted, row-below}
+use Rattle.turfs.specs.Tables.{Parts, Accepted}
+use Rattle.turfs.proofs.Accepted.{row-below}
 use Rattle.mixture_rules.specs.Mixture.{total}
 use Rattle.mixture.specs.Moves.{Holds}
 use Rattle.fill_rules.specs.Fill.{fill}

@@ -12,10 +12,11 @@ use lib.Seq.{take-suc, take-all, getD-set-same}
 use Rattle.basics.specs.Loops.{run, upFrom}
 use Rattle.basics.specs.Regions.{cut, region}
 use Rattle.basics.proofs.Loops.{run-append}
-use Rattle.basics.proofs.Lists.{one, count, upFrom-length}
+use Rattle.basics.specs.Lists.{one, count}
+use Rattle.basics.proofs.Lists.{upFrom-length}
 use Rattle.basics.proofs.Regions.{cut-length}
 use Rattle.board_rules.specs.Board.{Board, turfCount, linkCount}
-use Rattle.turfs.proofs.Accepted.{Accepted}
+use Rattle.turfs.specs.Tables.{Accepted}
 use Rattle.event_rules.specs.Events.{encodeAll}
 use Rattle.events.specs.Area.{Wrote}
 use Rattle.event_rules.specs.declared.Event.{Event}

@@ -15,7 +15,7 @@ use Rattle.basics.proofs.Lists.{upFrom-length, map-up}
 use Rattle.basics.proofs.Regions.{cut-get, region-part}
 use Rattle.basics.proofs.Parts.{take-in}
 use Rattle.board_rules.specs.Board.{Board, turfCount, linkCount}
-use Rattle.turfs.proofs.Accepted.{Accepted}
+use Rattle.turfs.specs.Tables.{Accepted}
 use Rattle.turfs.proofs.Line.{Line}
 use Rattle.flood_fill.specs.Held.{sizes, startsAt, nodesAt}
 use Rattle.finalize_eq.specs.Turns.{Zone, zoneAt}

@@ -9,7 +9,7 @@ use lib.Ieee.{Float, nan}
 use Rattle.basics.specs.Loops.{run, upFrom}
 use Rattle.basics.specs.Regions.{cut, region}
 use Rattle.board_rules.specs.Board.{Board, turfCount, linkCount}
-use Rattle.turfs.proofs.Accepted.{source}
+use Rattle.turfs.specs.Tables.{source}
 use Rattle.events.specs.Area.{Holds}
 use Rattle.event_rules.specs.declared.Event.{Event}
 use Rattle.fill_rules.specs.Fill.{isOver}

@@ -10,8 +10,8 @@ use Rattle.basics.proofs.Loops.{All-getD}
 use Rattle.basics.proofs.Lists.{upFrom-at, upFrom-length}
 use Rattle.basics.proofs.Parts.{part, part-length, part-at}
 use Rattle.board_rules.specs.Board.{Board, turfCount, linkCount, mixOf, linksOf, mixtureCount}
-use Rattle.turfs.specs.Tables.{Parts}
-use Rattle.turfs.proofs.Accepted.{Accepted, source, sources}
+use Rattle.turfs.specs.Tables.{Parts, Accepted, source}
+use Rattle.turfs.proofs.Accepted.{sources}
 use Rattle.turfs.proofs.Tables.{accepted-parts}
 use Rattle.mixture.specs.Moves.{Holds}
 use Rattle.mixture.proofs.Parts.{holds-of}

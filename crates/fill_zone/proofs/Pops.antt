@@ -15,7 +15,7 @@ use Rattle.basics.specs.Regions.{region}
 use Rattle.basics.proofs.Loops.{All-getD}
 use Rattle.basics.proofs.Parts.{part}
 use Rattle.board_rules.specs.Board.{Board, turfCount, linkCount, idOf, planetary}
-use Rattle.turfs.proofs.Accepted.{Accepted}
+use Rattle.turfs.specs.Tables.{Accepted}
 use Rattle.mixture_rules.specs.Mixture.{total}
 use Rattle.event_rules.specs.declared.Event.{Event}
 use Rattle.fill_rules.specs.Fill.{Reach, Fill, isOn, endFill, expand, pop, popNext}

@@ -15,7 +15,7 @@ use Rattle.basics.specs.Loops.{times, member}
 use Rattle.basics.specs.Floats.{0f}
 use Rattle.basics.proofs.Loops.{times-still}
 use Rattle.board_rules.specs.Board.{Board, turfCount, linkCount}
-use Rattle.turfs.proofs.Accepted.{Accepted}
+use Rattle.turfs.specs.Tables.{Accepted}
 use Rattle.event_rules.specs.declared.Event.{Event}
 use Rattle.fill_rules.specs.Fill.{Reach, Fill, isOn, popNext, fill}
 use Rattle.flood_fill.specs.Steps.{mark, push}
@@ -27,7 +27,7 @@ use Rattle.flood_fill.proofs.Does.{does-plain, does-then, does-as}
 use Rattle.flood_fill.proofs.Stores.{holds-none, found-long, owner-long, marked-more, push-more, join-more, moves-then}
 use Rattle.flood_fill.proofs.Bounds.{zeros-set, zeros-most}
 use Rattle.flood_fill.proofs.Links.{queue-length, owner-view}
-use Rattle.flood_fill.proofs.Steps.{startFill}
+use Rattle.flood_fill.specs.Start.{startFill}
 use Rattle.flood_fill.proofs.Owned.{Fresh, pops-fresh}
 use Rattle.flood_fill.proofs.Rest.{going, still}
 use Rattle.fill_zone.specs.Held.{FillView, fillIn, fillView, onFill, none, fillFrom, Floods, Starts, Begins, Free, Ready}

@@ -8,11 +8,11 @@ use lib.Ieee.{Float}
 use Rattle.basics.specs.Loops.{times}
 use Rattle.basics.specs.Floats.{0f}
 use Rattle.board_rules.specs.Board.{Board, turfCount, linkCount}
-use Rattle.turfs.proofs.Accepted.{source}
+use Rattle.turfs.specs.Tables.{source}
 use Rattle.event_rules.specs.declared.Event.{Event}
 use Rattle.fill_rules.specs.Fill.{Reach, Fill, isOn, popNext, fill}
 use Rattle.flood_fill.specs.Held.{nodesAt, Still, View, view, Fit, Bounded, Does, zeros}
-use Rattle.flood_fill.proofs.Steps.{startFill}
+use Rattle.flood_fill.specs.Start.{startFill}
 use Rattle.flood_fill.specs.declared.Reached.{Reached}
 use Rattle.fill_zone.specs.declared.Flood.{Flood}
 

@@ -7,11 +7,10 @@ ghost use mathlib.Core.List.{[]};
 ghost use Prim.Native.Nat.{ℕ, _+_, _≤_, _<_};
 ghost use lib.Dec.{eqb, ltb};
 ghost use lib.ListN.{length, getD};
-ghost use Rattle.turfs.specs.Tables.{board};
-ghost use Rattle.turfs.proofs.Accepted.{Accepted};
+ghost use Rattle.turfs.specs.Tables.{board, Accepted};
 ghost use Rattle.fill_rules.specs.Fill.{isOn, expand, popNext, fill};
 ghost use Rattle.flood_fill.specs.Held.{queueAt, nodesAt, Sizes, view, Fit, Bounded};
-ghost use Rattle.flood_fill.proofs.Steps.{startFill};
+ghost use Rattle.flood_fill.specs.Start.{startFill};
 ghost use Rattle.fill_rules.specs.declared.Going.the-variants.{On};
 ghost use Rattle.fill_zone.specs.Held.{Floods, Starts, Begins, Free, Ready};
 

@@ -13,7 +13,8 @@ use Rattle.basics.specs.Loops.{run, keep}
 use Rattle.basics.specs.Floats.{0f}
 use Rattle.basics.specs.declared.Spot.{Spot}
 use Rattle.basics.specs.declared.Spot.the-variants.{At, Nowhere}
-use Rattle.basics.proofs.Loops.{All, All-map, All-imp, All-any, keep-all, map-like, run-both, run-keeps, cond-both, Found, first-passes, and-left, set-like}
+use Rattle.basics.specs.Lists.{All, Found}
+use Rattle.basics.proofs.Loops.{All-map, All-imp, All-any, keep-all, map-like, run-both, run-keeps, cond-both, first-passes, and-left, set-like}
 use Rattle.board_rules.specs.Board.{Board, mixtureCount, idOf, mixOf, immutableMix, end, linksOf}
 use Rattle.mixture_rules.specs.Mixture.{amounts, total, totalMix, sum, moveAir}
 use Rattle.mixture.proofs.Parts.{Fits, move-fits, move-apart, move-like}

@@ -10,12 +10,14 @@ use lib.ListN.{length, getD}
 use lib.Ieee.{nan, lt}
 use Rattle.basics.specs.Loops.{run}
 use Rattle.basics.proofs.Loops.{All-any, run-keeps, run-same}
-use Rattle.basics.proofs.Lists.{count, count-length}
+use Rattle.basics.specs.Lists.{count}
+use Rattle.basics.proofs.Lists.{count-length}
 use Rattle.board_rules.specs.Board.{Board, end}
 use Rattle.mixture_rules.specs.Mixture.{total}
 use Rattle.process_zone.specs.Edges.{edgesOf, edge}
 use Rattle.finalize_eq.specs.Finish.{Done, Pair, zeroLifted, positive, negative, pairs, finishGivers, send, finishPair, finish}
-use Rattle.finalize_eq.proofs.Weights.{above, pending, aboveAt, lift-less, alter-less, lift-count, pairs-count, edges-apart}
+use Rattle.finalize_eq.specs.Lifted.{above, pending}
+use Rattle.finalize_eq.proofs.Weights.{aboveAt, lift-less, alter-less, lift-count, pairs-count, edges-apart}
 
 module _ (b : Board) (owner : List ℕ) (z : ℕ) where
   abbrev Low : ℕ → Done → Type 0

@@ -13,7 +13,8 @@ use lib.Seq.{ext-getD, getD-take, getD-drop}
 use lib.Ieee.{Float, nan}
 use borrow.Author.Tests.{eq-eqb, ne-eqb}
 use Rattle.basics.specs.Loops.{run, keep}
-use Rattle.basics.proofs.Loops.{All, run-keeps}
+use Rattle.basics.specs.Lists.{All}
+use Rattle.basics.proofs.Loops.{run-keeps}
 use Rattle.board_rules.specs.Board.{Board, linkCount, mixtureCount, mixOf, immutableMix, end}
 use Rattle.mixture_rules.specs.Mixture.{amounts, part}
 use Rattle.mixture.proofs.Parts.{Fits}

@@ -13,7 +13,8 @@ use lib.Seq.{drop-cons, getD-set-same, getD-set-other}
 use borrow.Author.Tests.{eqb-false}
 use Rattle.basics.specs.Loops.{keep, upFrom}
 use Rattle.basics.specs.Floats.{0f}
-use Rattle.basics.proofs.Loops.{All, All-imp, All-getD, All-map, keep-all, keep-append}
+use Rattle.basics.specs.Lists.{All}
+use Rattle.basics.proofs.Loops.{All-imp, All-getD, All-map, keep-all, keep-append}
 use Rattle.basics.proofs.Lists.{All-append, All-drop, map-append, upFrom-below, replicate-at}
 use Rattle.finalize_eq.specs.Turns.{Zone, nodesAt, Job, unfinished, jobsLeft, inOrder, pick, nextJob, order, turnOrder, jobsOn}
 use Rattle.finalize_eq.proofs.Jobs.{rowsOf, rows-mine, rows-other}

@@ -10,7 +10,8 @@ use lib.Ieee.{lt}
 use Rattle.basics.specs.Loops.{run}
 use Rattle.basics.specs.Floats.{0f}
 use Rattle.basics.proofs.Loops.{All-any, run-keeps}
-use Rattle.basics.proofs.Lists.{count, count-length}
+use Rattle.basics.specs.Lists.{count}
+use Rattle.basics.proofs.Lists.{count-length}
 use Rattle.board_rules.specs.Board.{Board, linkCount, idOf}
 use Rattle.mixture_rules.specs.Mixture.{total}
 use Rattle.event_rules.specs.Events.{kindOf, sizeOf}
@@ -19,7 +20,8 @@ use Rattle.events.proofs.Sizes.{size, size-snoc}
 use Rattle.process_zone.specs.Edges.{edgesOf, edge, alter}
 use Rattle.finalize_eq.specs.Finish.{Done, Pair, zeroLifted, positive, negative, pairs, finishGivers, send, finishPair, finish}
 use Rattle.finalize_eq.specs.Turns.{Zone, work, turnOrder, finishAll}
-use Rattle.finalize_eq.proofs.Weights.{above, pending, aboveAt, alter-less, lift-count, pairs-count, edges-apart}
+use Rattle.finalize_eq.specs.Lifted.{above, pending}
+use Rattle.finalize_eq.proofs.Weights.{aboveAt, alter-less, lift-count, pairs-count, edges-apart}
 
 -- bytes written, and those that may still be
 abbrev pub due : Done → ℕ

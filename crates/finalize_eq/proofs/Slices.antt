@@ -13,56 +13,19 @@ use lib.Seq.{getD-set-same, getD-set-other, set-out}
 use lib.Ieee.{Float, nan, lt}
 use Rattle.basics.specs.Loops.{run, keep, every, member}
 use Rattle.basics.specs.Floats.{0f}
-use Rattle.basics.proofs.Loops.{All, All-any, All-imp, All-map, run-keeps, run-both, run-keep, run-map, every-all, cond-both}
+use Rattle.basics.specs.Lists.{All}
+use Rattle.basics.proofs.Loops.{All-any, All-imp, All-map, run-keeps, run-both, run-keep, run-map, every-all, cond-both}
 use Rattle.basics.proofs.Lists.{All-keep, members, member-has, or-left, or-right, or-cases, all-every, keep-none}
 use Rattle.basics.proofs.Tests.{not-of}
 use Rattle.board_rules.specs.Board.{Board, end, linksOf}
-use Rattle.turfs.proofs.Accepted.{Accepted, source, sources}
+use Rattle.turfs.specs.Tables.{Accepted, source}
+use Rattle.turfs.proofs.Accepted.{sources}
 use Rattle.mixture_rules.specs.Mixture.{total}
 use Rattle.process_zone.specs.Edges.{owned, edgesOf, edge}
 use Rattle.process_zone.proofs.Sizes.{alter-size}
 use Rattle.finalize_eq.specs.Finish.{Done, Pair, zeroLifted, positive, negative, pairs, finishGivers, send, finishPair, finish}
-use Rattle.finalize_eq.proofs.Weights.{above, lift-size, Below, lift-below, alter-below, lift-zero}
-
--- what finishing changes, and the lifted weights, by link
-pub record Held : Type 0 where
-  pub done : Done
-  pub lifted : List Float
-
--- the weights of the places ks copied into the second slice
-unfoldable pub save : List ℕ → List Float → List Float → List Float
-save ks w l = run (λ k v. set v k (getD w k nan)) ks l
-
-module _ (b : Board) (owner : List ℕ) (z : ℕ) where
-  -- none of the turf's edges has a positive weight
-  unfoldable pub quiet : ℕ → List Float → Bool
-  quiet r w = every (λ k. not (above (getD w k nan))) (edgesOf b owner z r)
-
-  -- the turf's weights lifted: 0 is left
-  abbrev pub cleared : ℕ → Done → Done
-  cleared r s = record { gas = s .gas; weight = zeroLifted (edgesOf b owner z r) (s .weight); events = s .events }
-
-  -- `finalize_eq_neighbors`: finish the neighbours whose lifted weight is negative
-  unfoldable pub giversHeld : (ℕ → Held → Held) → ℕ → Held → Held
-  giversHeld f r h = run (λ j g. cond (lt (getD (g .lifted) j nan) 0f) (f (end b j) g) g) (edgesOf b owner z r) h
-
-  -- the rest of the work on the edge k, whose lifted weight is x
-  abbrev pub sendHeld : ℕ → ℕ → Float → Held → Held
-  sendHeld r k x g = record { done = send b owner z r (record { to = end b k; amount = x }) (g .done); lifted = g .lifted }
-
-  -- one edge of the turf r: a positive lifted weight is sent, its givers finished first where the turf is short
-  unfoldable pub pairHeld : (ℕ → Held → Held) → ℕ → ℕ → Held → Held
-  pairHeld f r k h =
-      let x = getD (h .lifted) k nan in
-      cond (above x) (sendHeld r k x (cond (lt (total b (h .done .gas) r) x) (giversHeld f r h) h)) h
-
-  -- `finalize_eq`: a turf with no positive weight saves nothing
-  unfoldable pub finishHeld : ℕ → ℕ → Held → Held
-  finishHeld zero r h = h
-  finishHeld (suc n) r h =
-      cond (quiet r (h .done .weight))
-      (record { done = cleared r (h .done); lifted = h .lifted })
-      (run (pairHeld (λ a g. finishHeld n a g) r) (edgesOf b owner z r) (record { done = cleared r (h .done); lifted = save (edgesOf b owner z r) (h .done .weight) (h .lifted) }))
+use Rattle.finalize_eq.specs.Lifted.{Held, save, quiet, cleared, giversHeld, sendHeld, pairHeld, finishHeld, above}
+use Rattle.finalize_eq.proofs.Weights.{lift-size, Below, lift-below, alter-below, lift-zero}
 
 pub save-other : (ks : List ℕ) (w l : List Float) (k : ℕ) → (T (member k ks) → ⊥) → getD (save ks w l) k nan ≡ getD l k nan
 unfolding save run member

@@ -15,17 +15,15 @@ use Rattle.basics.specs.Loops.{run, keep, consIf, member}
 use Rattle.basics.specs.Floats.{0f}
 use Rattle.basics.specs.declared.Spot.{Spot}
 use Rattle.basics.specs.declared.Spot.the-variants.{At, Nowhere}
-use Rattle.basics.proofs.Loops.{All, All-any, run-keeps}
-use Rattle.basics.proofs.Lists.{or-cases, Apart, keep-apart, one, count}
+use Rattle.basics.specs.Lists.{All, one, count}
+use Rattle.basics.proofs.Loops.{All-any, run-keeps}
+use Rattle.basics.proofs.Lists.{or-cases, Apart, keep-apart}
 use Rattle.board_rules.specs.Board.{Board, end, linksOf}
 use Rattle.turfs.proofs.Accepted.{links-apart}
 use Rattle.process_zone.specs.Edges.{alter, edgesOf}
 use Rattle.finalize_eq.specs.Finish.{zeroLifted, positive}
+use Rattle.finalize_eq.specs.Lifted.{above, pending}
 use Rattle.finalize_eq.specs.Worked as worked  -- checked before the laws
-
--- above 0
-abbrev pub above : Float → Bool
-above x = lt 0f x
 
 pub zero-not : above 0f ≡ false
 unfolding lt ofBits
@@ -80,10 +78,6 @@ lift-zero (j ∷ ks) w k m = go (or-cases (eqb k j) (member k ks) m) (λ n. lift
     go (inr n) ih = ih n
 
 -- ---- how many are above 0
-
--- the weights above 0
-unfoldable pub pending : List Float → ℕ
-pending w = count above w
 
 -- the place k is above 0
 abbrev pub aboveAt : List Float → ℕ → Bool

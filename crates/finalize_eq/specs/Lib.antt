@@ -1,3 +1,4 @@
 pub mod Finish
 pub mod Turns
 pub mod Worked
+pub mod Lifted

@@ -13,7 +13,7 @@ use borrow.Author.Tests.{eq-eqb, ne-eqb}
 use Rattle.basics.specs.Floats.{0f}
 use Rattle.basics.specs.declared.Spot.{Spot}
 use Rattle.basics.specs.declared.Spot.the-variants.{At, Nowhere}
-use Rattle.basics.proofs.Loops.{Found}
+use Rattle.basics.specs.Lists.{Found}
 use Rattle.board_rules.specs.Board.{Board, mixOf}
 use Rattle.mixture_rules.specs.Mixture.{moveAir}
 use Rattle.event_rules.specs.Events.{kindOf, encode, sizeOf}
@@ -21,7 +21,7 @@ use Rattle.event_rules.specs.declared.Event.the-variants.{Pressure}
 use Rattle.events.proofs.Sizes.{encode-size}
 use Rattle.plan_state.specs.Steps.{ownedBy, backLink}
 use Rattle.plan_state.proofs.Weights.{found-more}
-use Rattle.finalize_eq.proofs.Weights.{above}
+use Rattle.finalize_eq.specs.Lifted.{above}
 use Rattle.finish_send.specs.Sending.{Next, saveAt, zeroAt, shared}
 
 -- the reverse of a link is one of the links

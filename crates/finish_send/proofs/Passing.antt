@@ -10,11 +10,11 @@ use lib.ListN.{length, getD}
 use lib.Ieee.{Float, nan, lt}
 use Rattle.basics.specs.Loops.{run, upFrom}
 use Rattle.basics.specs.Floats.{0f}
-use Rattle.basics.proofs.Lists.{one, count}
+use Rattle.basics.specs.Lists.{one, count}
 use Rattle.basics.proofs.Tests.{both, differ}
 use Rattle.basics.proofs.Loops.{up-cons}
 use Rattle.board_rules.specs.Board.{Board, turfCount, linkCount, mixtureCount, mixOf, end}
-use Rattle.turfs.proofs.Accepted.{Accepted}
+use Rattle.turfs.specs.Tables.{Accepted}
 use Rattle.mixture_rules.specs.Mixture.{total}
 use Rattle.mixture.specs.Moves.{Holds}
 use Rattle.mixture.proofs.Parts.{holds-of}
@@ -23,8 +23,8 @@ use Rattle.process_zone.specs.Edges.{owned}
 use Rattle.process_zone.proofs.Sizes.{alter-size}
 use Rattle.plan_state.specs.Steps.{backLink}
 use Rattle.plan_state.proofs.Links.{reverse-within}
-use Rattle.finalize_eq.proofs.Weights.{above, pending, alter-less}
-use Rattle.finalize_eq.proofs.Slices.{Held, sendHeld, giversHeld}
+use Rattle.finalize_eq.specs.Lifted.{above, pending, Held, sendHeld, giversHeld}
+use Rattle.finalize_eq.proofs.Weights.{alter-less}
 use Rattle.finish_send.specs.Areas.{Areas, ownerIn, reverseIn, liftedAt, weightIn, liftedIn, Shows, Ready, Kept}
 use Rattle.finish_send.specs.Sending.{marks, Next, SendFits, Sends, pairAs, toSend, Going, Progress, SentTo}
 use Rattle.finish_send.proofs.Ranges.{run-parts, run-last, run-none, run-idle}

@@ -14,7 +14,7 @@ use Rattle.basics.specs.Loops.{snoc}
 use Rattle.basics.specs.Floats.{0f}
 use Rattle.basics.specs.declared.Spot.{Spot}
 use Rattle.basics.specs.declared.Spot.the-variants.{At, Nowhere}
-use Rattle.basics.proofs.Loops.{Found}
+use Rattle.basics.specs.Lists.{Found}
 use Rattle.board_rules.specs.Board.{Board, turfCount, linkCount, mixtureCount, mixOf, idOf, end}
 use Rattle.mixture_rules.specs.Mixture.{moveAir}
 use Rattle.mixture.proofs.Parts.{Fits, move-fits}
@@ -29,7 +29,7 @@ use Rattle.reverse_links.specs.Reverse.{InRow}
 use Rattle.plan_state.specs.Steps.{backLink}
 use Rattle.plan_state.proofs.Links.{edge-back, reverse-within}
 use Rattle.finalize_eq.specs.Finish.{send}
-use Rattle.finalize_eq.proofs.Slices.{Held, sendHeld}
+use Rattle.finalize_eq.specs.Lifted.{Held, sendHeld}
 use Rattle.finish_send.specs.Areas.{Areas, Written, ownerIn, reverseIn, fsizes, liftedAt, weightIn, liftedIn, others, Shows, Ready, Kept}
 use Rattle.finish_send.specs.Sending.{shared, Sends}
 use Rattle.finish_send.proofs.Edge.{back-below, pressure-size}

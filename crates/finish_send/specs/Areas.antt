@@ -6,12 +6,11 @@ use lib.ListN.{length, take, drop, replicate}
 use lib.Ieee.{Float}
 use Rattle.basics.specs.Regions.{region}
 use Rattle.board_rules.specs.Board.{Board, turfCount, linkCount}
-use Rattle.turfs.specs.Tables.{board}
-use Rattle.turfs.proofs.Accepted.{Accepted}
+use Rattle.turfs.specs.Tables.{board, Accepted}
 use Rattle.events.specs.Area.{Holds}
 use Rattle.event_rules.specs.declared.Event.{Event}
 use Rattle.reverse_links.specs.Reverse.{Linked, Reverses}
-use Rattle.finalize_eq.proofs.Slices.{Held}
+use Rattle.finalize_eq.specs.Lifted.{Held}
 
 -- the tables that finishing looks at
 abbrev pub ground : List ℕ → List ℕ → List ℕ → List ℕ → List ℕ → ℕ → Board

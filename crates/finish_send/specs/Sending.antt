@@ -8,7 +8,7 @@ use lib.ListN.{length, getD, set}
 use lib.Ieee.{Float, nan, lt}
 use Rattle.basics.specs.Loops.{run, upFrom, if_then_else_}
 use Rattle.basics.specs.Floats.{0f}
-use Rattle.basics.proofs.Lists.{count}
+use Rattle.basics.specs.Lists.{count}
 use Rattle.board_rules.specs.Board.{Board, turfCount, linkCount, mixOf}
 use Rattle.mixture_rules.specs.Mixture.{total, moveAir}
 use Rattle.event_rules.specs.Events.{encode}
@@ -16,8 +16,7 @@ use Rattle.events.specs.Area.{Wrote}
 use Rattle.event_rules.specs.declared.Event.the-variants.{Pressure}
 use Rattle.process_zone.specs.Edges.{alter, owned}
 use Rattle.plan_state.specs.Steps.{backLink}
-use Rattle.finalize_eq.proofs.Slices.{Held, sendHeld, giversHeld}
-use Rattle.finalize_eq.proofs.Weights.{above, pending}
+use Rattle.finalize_eq.specs.Lifted.{Held, sendHeld, giversHeld, above, pending}
 use Rattle.finish_send.specs.Areas.{Areas, Shows, Ready, Kept, ownerIn, reverseIn, weightIn, liftedIn, liftedAt}
 
 -- above 0, or below it

@@ -9,7 +9,7 @@ ghost use lib.ListN.{length, getD};
 ghost use lib.Ieee.{nan, lt};
 ghost use Rattle.basics.specs.Loops.{run, upFrom};
 ghost use Rattle.basics.specs.Floats.{0f};
-ghost use Rattle.basics.proofs.Loops.{Found};
+ghost use Rattle.basics.specs.Lists.{Found};
 ghost use Rattle.board_rules.specs.Board.{Board};
 ghost use Rattle.mixture_rules.specs.Mixture.{total};
 ghost use Rattle.mixture.specs.Moves.{Holds};

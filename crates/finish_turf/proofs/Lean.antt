@@ -6,7 +6,7 @@ use lib.ListN.{length-replicate}
 use Rattle.basics.specs.Loops.{run}
 use Rattle.board_rules.specs.Board.{Board, turfCount, linkCount, linksOf}
 use Rattle.board_rules.specs.Refuse.{rowFits}
-use Rattle.turfs.proofs.Accepted.{Accepted}
+use Rattle.turfs.specs.Tables.{Accepted}
 use Rattle.mixture_rules.specs.Mixture.{amounts, change, totalMix, total, moveAir}
 use Rattle.process_zone.specs.Edges.{edgesOf, edge}
 use Rattle.reverse_links.specs.Reverse.{reverseOf, Reverses}

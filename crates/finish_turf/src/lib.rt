@@ -3,7 +3,7 @@
 ghost use mathlib.Core.Path.{_≡_};
 ghost use Prim.Native.Nat.{_<_};
 ghost use lib.ListN.{length};
-ghost use Rattle.finalize_eq.proofs.Slices.{finishHeld, giversHeld};
+ghost use Rattle.finalize_eq.specs.Lifted.{finishHeld, giversHeld};
 ghost use Rattle.finish_send.specs.Areas.{ground, areas, liftedAt, ownerIn};
 ghost use Rattle.finish_turf.specs.Finishing.{Begun, Finishes};
 

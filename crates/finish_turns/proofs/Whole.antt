@@ -7,7 +7,7 @@ use lib.ListN.{length, drop}
 use lib.Ieee.{Float}
 use Rattle.basics.proofs.Parts.{drop-later}
 use Rattle.board_rules.specs.Board.{Board, turfCount, linkCount}
-use Rattle.turfs.proofs.Accepted.{Accepted}
+use Rattle.turfs.specs.Tables.{Accepted}
 use Rattle.event_rules.specs.Events.{encodeAll}
 use Rattle.events.specs.Area.{Holds}
 use Rattle.event_rules.specs.declared.Event.{Event}

@@ -11,8 +11,8 @@ use lib.ListN.{length, getD, set, take, drop, length-set, length-append}
 use lib.Seq.{getD-set-other}
 use borrow.Author.Tests.{eq-eqb, ne-eqb, eqb-true}
 use Rattle.basics.specs.Loops.{snoc}
-use Rattle.basics.proofs.Loops.{All}
-use Rattle.basics.proofs.Lists.{All-snoc, one, count, count-set, count-length}
+use Rattle.basics.specs.Lists.{All, one, count}
+use Rattle.basics.proofs.Lists.{All-snoc, count-set, count-length}
 use Rattle.fill_rules.specs.Fill.{Reach, insert}
 use Rattle.flood_fill.specs.Steps.{edgeTo, mark, push, askSpace, askPlanet, discover, reachMet}
 use Rattle.flood_fill.specs.Held.{zeros, Bounds, Bounded}

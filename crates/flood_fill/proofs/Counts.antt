@@ -13,8 +13,8 @@ use lib.Seq.{getD-set-same, getD-set-other}
 use lib.Ieee.{Float}
 use borrow.Author.Tests.{eqb-true}
 use Rattle.basics.specs.Loops.{member, snoc}
-use Rattle.basics.proofs.Loops.{All}
-use Rattle.basics.proofs.Lists.{All-append, one, count, count-set, count-length}
+use Rattle.basics.specs.Lists.{All, one, count}
+use Rattle.basics.proofs.Lists.{All-append, count-set, count-length}
 use Rattle.board_rules.specs.Board.{Board, turfCount, idOf, end, enabled, planetary, immutable, firelock}
 use Rattle.event_rules.specs.declared.Event.{Event}
 use Rattle.event_rules.specs.declared.Event.the-variants.{DepressurizeWanted, PlanetWanted}

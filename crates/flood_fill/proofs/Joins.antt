@@ -12,7 +12,8 @@ use lib.ListN.{length, getD, set}
 use lib.Seq.{getD-set-same, getD-set-other, set-out}
 use lib.Ieee.{Float}
 use Rattle.basics.specs.Loops.{member, snoc}
-use Rattle.basics.proofs.Loops.{All, All-imp, cond-both}
+use Rattle.basics.specs.Lists.{All}
+use Rattle.basics.proofs.Loops.{All-imp, cond-both}
 use Rattle.basics.proofs.Lists.{All-snoc, or-left, member-has, member-front, member-last}
 use Rattle.board_rules.specs.Board.{Board, turfCount, end, enabled, linksOf}
 use Rattle.turfs.proofs.Line.{Line, line-snoc}

@@ -14,14 +14,16 @@ use lib.Seq.{getD-set-same, getD-set-other, getD-at}
 use lib.Ieee.{Float}
 use borrow.Author.Tests.{eqb-true, ne-eqb}
 use Rattle.basics.specs.Loops.{run, member, snoc, times}
-use Rattle.basics.proofs.Loops.{All, All-imp, All-getD, times-keeps, and-right}
+use Rattle.basics.specs.Lists.{All}
+use Rattle.basics.proofs.Loops.{All-imp, All-getD, times-keeps, and-right}
 use Rattle.basics.proofs.Lists.{All-snoc, Apart, apart-snoc, apart-at}
 use Rattle.board_rules.specs.Board.{Board, turfCount, linkCount, end, enabled, planetary, linksOf}
-use Rattle.turfs.proofs.Accepted.{Accepted, source, sources, links-below, links-apart}
+use Rattle.turfs.specs.Tables.{Accepted, source}
+use Rattle.turfs.proofs.Accepted.{sources, links-below, links-apart}
 use Rattle.event_rules.specs.declared.Event.{Event}
 use Rattle.fill_rules.specs.Fill.{Reach, Fill, isOn, insert, reachLink, expand, endFill, pop, popNext, fill}
 use Rattle.fill_rules.specs.declared.Going.the-variants.{Broken, Over}
-use Rattle.flood_fill.proofs.Steps.{startFill}
+use Rattle.flood_fill.specs.Start.{startFill}
 use Rattle.flood_fill.proofs.Counts.{isMark, marked, mark-put, was-new}
 
 -- a mark that is set stays

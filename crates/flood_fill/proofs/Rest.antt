@@ -11,7 +11,8 @@ use lib.ListN.{length, getD, length-append}
 use lib.Ieee.{Float}
 use borrow.Author.Tests.{ltb-true, ltb-false, le-ltb}
 use Rattle.basics.specs.Loops.{run, snoc}
-use Rattle.basics.proofs.Loops.{All, All-any, run-keeps, times-keeps, times-rests}
+use Rattle.basics.specs.Lists.{All}
+use Rattle.basics.proofs.Loops.{All-any, run-keeps, times-keeps, times-rests}
 use Rattle.basics.proofs.Tests.{and-false}
 use Rattle.board_rules.specs.Board.{Board, turfCount, end, enabled, planetary, linksOf}
 use Rattle.event_rules.specs.declared.Event.{Event}
@@ -19,7 +20,7 @@ use Rattle.events.proofs.Compared.{isRequest}
 use Rattle.fill_rules.specs.Fill.{Reach, Fill, isOn, isOver, reachLink, expand, endFill, pop, popNext, fill}
 use Rattle.fill_rules.specs.declared.Going.{Going}
 use Rattle.fill_rules.specs.declared.Going.the-variants.{On, Broken, Over}
-use Rattle.flood_fill.proofs.Steps.{startFill}
+use Rattle.flood_fill.specs.Start.{startFill}
 use Rattle.flood_fill.proofs.Counts.{queue-short}
 
 -- a fill that goes on has a turf to pop

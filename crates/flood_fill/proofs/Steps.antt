@@ -14,15 +14,8 @@ use Rattle.board_rules.specs.Board.{Board, turfCount, end, enabled, planetary, 
 use Rattle.event_rules.specs.declared.Event.{Event}
 use Rattle.fill_rules.specs.Fill.{Reach, Fill, isOn, reachLink, expand, endFill, pop, popNext, fill}
 use Rattle.fill_rules.specs.declared.Going.the-variants.{On, Broken, Over}
+use Rattle.flood_fill.specs.Start.{startReach, startFill}
 use Rattle.fill_rules.specs.Worked as worked  -- checked before the laws
-
--- where a fill from the turf r starts
-abbrev pub startReach : ℕ → List ℕ → List ℕ → List Event → Reach
-startReach r found owner events = record { found = set found r 1; queue = r ∷ []; nodes = r ∷ []; owner = owner; ignored = false; events = events }
-
-abbrev pub startFill : ℕ → List ℕ → List ℕ → List Event → ℕ → Fill
-startFill r found owner events tests =
-    record { reach = startReach r found owner events; popped = 0; moles = 0f; planet = false; tests = tests; state = On }
 
 module _ (b : Board) (z : ℕ) where
   -- every link of a turf in the queue keeps Q

@@ -6,8 +6,7 @@ use mathlib.Core.Bool.{Bool}
 use lib.Dec.{eqb}
 use lib.ListN.{length, getD, take, drop}
 use Rattle.basics.specs.Regions.{cut}
-use Rattle.basics.proofs.Loops.{All}
-use Rattle.basics.proofs.Lists.{count}
+use Rattle.basics.specs.Lists.{All, count}
 use Rattle.index_set.specs.Line.{Holds}
 use Rattle.event_rules.specs.Events.{encodeAll}
 use Rattle.events.specs.Area.{Wrote}

@@ -13,7 +13,7 @@ use lib.ListN.{length, getD, set, take, drop, length-set, length-append}
 use lib.Seq.{getD-take, getD-drop, getD-set-same, getD-set-other, take-suc-set, length-take-le}
 use borrow.Author.Tests.{eq-eqb}
 use Rattle.basics.specs.Loops.{member, snoc}
-use Rattle.basics.proofs.Loops.{All}
+use Rattle.basics.specs.Lists.{All}
 use Rattle.basics.proofs.Lists.{or-cases, at-member}
 use Rattle.basics.proofs.Lists as lists
 use Rattle.index_set.specs.Line.{Below, Apart, Line, array, Holds}

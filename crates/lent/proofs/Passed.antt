@@ -8,10 +8,12 @@ use lib.Dec.{T, leb→le}
 use lib.ListN.{length, drop, length-append, length-drop}
 use lib.Ieee.{Float}
 use Rattle.basics.specs.Loops.{every}
-use Rattle.basics.proofs.Loops.{All, all-of}
+use Rattle.basics.specs.Lists.{All}
+use Rattle.basics.proofs.Loops.{all-of}
 use Rattle.board_rules.specs.Board.{Board}
 use Rattle.board_rules.specs.Refuse.{linksFit}
-use Rattle.turfs.proofs.Accepted.{Accepted, accepted}
+use Rattle.turfs.specs.Tables.{Accepted}
+use Rattle.turfs.proofs.Accepted.{accepted}
 use Rattle.mixture_rules.specs.Mixture.{amountFits}
 use Rattle.event_rules.specs.Events.{encodeAll}
 use Rattle.event_rules.specs.declared.Event.{Event}

@@ -8,7 +8,7 @@ use lib.ListN.{length}
 use lib.Ieee.{Float}
 use Rattle.board_rules.specs.Board.{Board, turfCount, linkCount}
 use Rattle.board_rules.specs.Refuse.{linksFit}
-use Rattle.turfs.proofs.Accepted.{Accepted}
+use Rattle.turfs.specs.Tables.{Accepted}
 use Rattle.lent_rules.specs.Lent.{wordsRoom, floatsRoom}
 use Rattle.fill_zone.proofs.Boards.{gas-holds}
 use Rattle.equalize.specs.Equalize.{Ask, fillAll}

@@ -14,7 +14,8 @@ use Rattle.basics.specs.Floats.{0f, _+f_}
 use Rattle.basics.specs.Loops.{run}
 use Rattle.basics.specs.declared.Spot.{Spot}
 use Rattle.basics.specs.declared.Spot.the-variants.{At}
-use Rattle.basics.proofs.Loops.{All, Found, run-back, run-back-end}
+use Rattle.basics.specs.Lists.{All, Found}
+use Rattle.basics.proofs.Loops.{run-back, run-back-end}
 use Rattle.basics.proofs.Regions.{cut-length}
 use Rattle.process_zone.specs.Plan.{Plan, load, reweigh}
 use Rattle.process_zone.specs.declared.MonstermosInfo.{MonstermosInfo}

@@ -14,7 +14,8 @@ use Rattle.basics.specs.Floats.{0f, _+f_, _-f_, _/f_}
 use Rattle.basics.specs.Loops.{run, keep, upFrom}
 use Rattle.basics.specs.declared.Spot.{Spot}
 use Rattle.basics.specs.declared.Spot.the-variants.{At}
-use Rattle.basics.proofs.Loops.{All, All-any, run-both, run-keep}
+use Rattle.basics.specs.Lists.{All}
+use Rattle.basics.proofs.Loops.{All-any, run-both, run-keep}
 use Rattle.basics.proofs.Regions.{region-part}
 use Rattle.basics.proofs.Parts.{part}
 use Rattle.board_rules.specs.Board.{Board, end, linksOf}

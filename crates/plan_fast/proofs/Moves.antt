@@ -12,7 +12,7 @@ use borrow.Author.Tests.{eq-eqb, ne-eqb}
 use Rattle.basics.specs.Floats.{_+f_, _-f_}
 use Rattle.basics.specs.declared.Spot.{Spot}
 use Rattle.basics.specs.declared.Spot.the-variants.{At}
-use Rattle.basics.proofs.Loops.{Found}
+use Rattle.basics.specs.Lists.{Found}
 use Rattle.process_zone.specs.Plan.{Plan, reweigh}
 use Rattle.plan_state.specs.Held.{Area, area, View, view, Fit, Does}
 use Rattle.plan_state.specs.Steps.{backLink, adjustAt}

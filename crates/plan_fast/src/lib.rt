@@ -2,7 +2,7 @@
 ghost use mathlib.Core.Path.{_≡_};
 ghost use Prim.Native.Nat.{ℕ, _+_, _≤_, _<_};
 ghost use lib.ListN.{length, getD, take, drop};
-ghost use Rattle.basics.proofs.Loops.{Found};
+ghost use Rattle.basics.specs.Lists.{Found};
 ghost use Rattle.basics.specs.Loops.{run, upFrom};
 ghost use Rattle.basics.specs.declared.Spot.the-variants.{At};
 ghost use Rattle.process_zone.specs.Plan.{fastTurf};

@@ -17,7 +17,8 @@ use Rattle.basics.specs.Loops.{run, times, member}
 use Rattle.basics.specs.Regions.{cut}
 use Rattle.basics.specs.declared.Spot.{Spot}
 use Rattle.basics.specs.declared.Spot.the-variants.{At}
-use Rattle.basics.proofs.Loops.{All, run-both}
+use Rattle.basics.specs.Lists.{All}
+use Rattle.basics.proofs.Loops.{run-both}
 use Rattle.basics.proofs.Regions.{cut-set, cut-length}
 use Rattle.board_rules.specs.Board.{Board, end}
 use Rattle.process_zone.specs.Edges.{edge, adjust}

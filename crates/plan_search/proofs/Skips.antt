@@ -16,7 +16,8 @@ use Rattle.basics.specs.Floats.{0f, _+f_}
 use Rattle.basics.specs.declared.Spot.the-variants.{At}
 use Rattle.plan_state.specs.Steps.{backLink}
 use Rattle.basics.specs.Loops.{run}
-use Rattle.basics.proofs.Loops.{All, All-imp, run-back, run-still}
+use Rattle.basics.specs.Lists.{All}
+use Rattle.basics.proofs.Loops.{All-imp, run-back, run-still}
 use Rattle.process_zone.specs.Plan.{Plan, load}
 use Rattle.plan_state.specs.Held.{Area, area, View, view, Does}
 use Rattle.plan_state.proofs.Stores.{does-as, does-then}

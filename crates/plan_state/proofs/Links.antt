@@ -13,7 +13,8 @@ use borrow.Author.Tests.{eq-eqb, ne-eqb, eqb-false}
 use Rattle.basics.specs.Loops.{first, atOr, upFrom}
 use Rattle.basics.specs.declared.Spot.{Spot}
 use Rattle.basics.specs.declared.Spot.the-variants.{At, Nowhere}
-use Rattle.basics.proofs.Loops.{All, Found, first-found, first-passes}
+use Rattle.basics.specs.Lists.{All, Found}
+use Rattle.basics.proofs.Loops.{first-found, first-passes}
 use Rattle.board_rules.specs.Board.{Board, end, linksOf}
 use Rattle.process_zone.specs.Edges.{owned, edge}
 use Rattle.reverse_links.proofs.Firsts.{first-none, first-only, first-nowhere, up-all}

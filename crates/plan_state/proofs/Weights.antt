@@ -15,7 +15,7 @@ use Rattle.basics.specs.Floats.{_+f_, _-f_}
 use Rattle.basics.specs.Regions.{cut, region}
 use Rattle.basics.specs.declared.Spot.{Spot}
 use Rattle.basics.specs.declared.Spot.the-variants.{At, Nowhere}
-use Rattle.basics.proofs.Loops.{Found}
+use Rattle.basics.specs.Lists.{Found}
 use Rattle.basics.proofs.Regions.{cut-set, cut-get}
 use Rattle.process_zone.specs.Edges.{alter}
 use Rattle.process_zone.specs.Plan.{Plan, reweigh}

@@ -4,7 +4,7 @@
 ghost use mathlib.Core.Path.{_≡_};
 ghost use Prim.Native.Nat.{_+_, _≤_, _<_};
 ghost use lib.ListN.{length, getD, take, drop};
-ghost use Rattle.basics.proofs.Loops.{Found};
+ghost use Rattle.basics.specs.Lists.{Found};
 ghost use Rattle.basics.specs.Floats.{_+f_, _-f_};
 ghost use Rattle.process_zone.specs.Edges.{alter};
 ghost use Rattle.process_zone.specs.Plan.{load, store};

@@ -7,9 +7,11 @@ use native.Mathlib.Omega.{arith}
 use lib.ListN.{length, getD}
 use Rattle.basics.specs.declared.Spot.{Spot}
 use Rattle.basics.specs.declared.Spot.the-variants.{At, Nowhere}
-use Rattle.basics.proofs.Loops.{Found, cond-both}
+use Rattle.basics.specs.Lists.{Found}
+use Rattle.basics.proofs.Loops.{cond-both}
 use Rattle.board_rules.specs.Board.{Board, turfCount, planetary, immutable, rowOf}
-use Rattle.turfs.proofs.Accepted.{Accepted, row-below}
+use Rattle.turfs.specs.Tables.{Accepted}
+use Rattle.turfs.proofs.Accepted.{row-below}
 use Rattle.turfs.proofs.Line.{Line, line-short}
 use Rattle.event_rules.specs.Events.{encodeAll}
 use Rattle.events.proofs.Sizes.{size}

@@ -13,7 +13,8 @@ use lib.Ieee.Bits.{is-true}
 use lib.ListN.{length, getD, take, drop, length-drop}
 use lib.Seq.{getD-take, getD-drop, length-take-le}
 use Rattle.basics.specs.Loops.{every, allOf, upFrom, member}
-use Rattle.basics.proofs.Loops.{All, All-getD, every-all, and-left, and-right, all-of}
+use Rattle.basics.specs.Lists.{All}
+use Rattle.basics.proofs.Loops.{All-getD, every-all, and-left, and-right, all-of}
 use Rattle.basics.proofs.Lists.{at-member}
 use Rattle.board_rules.specs.Board.{Board, turfCount, linkCount, neighboursOf, degree}
 use Rattle.board_rules.specs.Refuse.{rising, distinct, rowFits, linksFit}

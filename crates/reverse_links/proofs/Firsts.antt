@@ -9,7 +9,7 @@ use mathlib.Core.Bool.{Bool, true, false}
 use lib.Dec.{T}
 use Rattle.basics.specs.Loops.{first, atOr, upFrom}
 use Rattle.basics.specs.declared.Spot.the-variants.{At, Nowhere}
-use Rattle.basics.proofs.Loops.{All}
+use Rattle.basics.specs.Lists.{All}
 
 module _ (p : ℕ → Bool) where
   pub first-none : (a n : ℕ) → ((k : ℕ) → a ≤ k → k < a + n → p k ≡ false) → first p (upFrom a n) ≡ Nowhere

@@ -14,7 +14,8 @@ use borrow.Author.Tests.{eq-eqb}
 use Rattle.basics.specs.Loops.{first, upFrom}
 use Rattle.basics.specs.declared.Spot.{Spot}
 use Rattle.basics.specs.declared.Spot.the-variants.{At, Nowhere}
-use Rattle.basics.proofs.Loops.{Found, first-found, first-passes}
+use Rattle.basics.specs.Lists.{Found}
+use Rattle.basics.proofs.Loops.{first-found, first-passes}
 use Rattle.board_rules.specs.Board.{Board, linksOf}
 use Rattle.reverse_links.specs.Reverse.{InRow, Linked, reverseOf, wordOf, Reverses}
 use Rattle.reverse_links.specs.Words.{But, found, sizeOf, back, Paired}

@@ -10,31 +10,13 @@ use lib.Dec.{T, eqb, ltb, leb, leb→le, ltb→lt, eqb→eq}
 use lib.ListN.{length, getD, drop, List·getD-eq-default}
 use borrow.Author.Tests.{le-leb, lt-leb}
 use Rattle.basics.specs.Loops.{every, upFrom, first}
-use Rattle.basics.proofs.Loops.{All, All-imp, All-getD, every-all, and-left, and-right, all-of, Found, first-found}
-use Rattle.basics.proofs.Lists.{upFrom-above, upFrom-below, upFrom-apart, Apart, one, count}
+use Rattle.basics.specs.Lists.{All, Found, one, count}
+use Rattle.basics.proofs.Loops.{All-imp, All-getD, every-all, and-left, and-right, all-of, first-found}
+use Rattle.basics.proofs.Lists.{upFrom-above, upFrom-below, upFrom-apart, Apart}
 use Rattle.board_rules.specs.Board.{Board, turfCount, linkCount, mixtureCount, idOf, mixOf, end, linksOf, rowOf}
 use Rattle.board_rules.specs.Refuse.{within, pairwise, ascending, rising, rowFits, sizesFit, tablesFit, idsFit, linksFit}
+use Rattle.turfs.specs.Tables.{Accepted, source}
 use Rattle.board_rules.specs.Worked as worked  -- checked before the laws
-
--- the tables that 1 to 4 let pass, with `amounts` amounts
-pub record Accepted (b : Board) (amounts : ℕ) : Type 0 where
-  pub turfs : (1 ≤ turfCount b) × (turfCount b ≤ 4096)
-  pub mixtures : (1 ≤ mixtureCount b) × (mixtureCount b ≤ 4096)
-  pub links : linkCount b ≤ 24576
-  pub gases : (1 ≤ b .gases) × (b .gases ≤ 64)
-  pub flags : length (b .flags) ≡ turfCount b
-  pub planets : length (b .planetary) ≡ turfCount b
-  pub mixes : length (b .mixtures) ≡ turfCount b
-  pub starts : length (b .starts) ≡ turfCount b + 1
-  pub linkFlags : length (b .linkFlags) ≡ linkCount b
-  pub fits : amounts ≡ mixtureCount b * b .gases
-  pub ascends : T (ascending (b .ids))
-  pub rises : T (rising (b .starts))
-  pub first : getD (b .starts) 0 0 ≡ 0
-  pub last : getD (b .starts) (turfCount b) 0 ≡ linkCount b
-  pub ends : (k : ℕ) → end b k < turfCount b
-  pub mixed : (r : ℕ) → mixOf b r < mixtureCount b
-  pub rows : T (every (rowFits b) (upFrom 0 (turfCount b)))
 
 in-range : (lo hi n : ℕ) → T (within lo hi n) → (lo ≤ n) × (n ≤ hi)
 in-range lo hi n h = (leb→le lo n (and-left (leb lo n) (leb n hi) h), leb→le n hi (and-right (leb lo n) (leb n hi) h))
@@ -92,10 +74,6 @@ rise s t ss h = (leb→le s t (and-left (leb s t) (rising (t ∷ ss)) h), and-ri
 least : (s : ℕ) (ss : List ℕ) → T (rising (s ∷ ss)) → All (λ x. s ≤ x) ss
 least s [] h = tt
 least s (t ∷ ss) h = let r = rise s t ss h in (r .0, All-imp (λ x. t ≤ x) (λ x. s ≤ x) ss (λ x i. omega (arith, r .0, i)) (least t ss (r .1)))
-
--- the turf of a link: how many turfs end at or before it
-unfoldable pub source : List ℕ → ℕ → ℕ
-source starts k = count (λ s. leb s k) (drop 1 starts)
 
 none-yet : (k : ℕ) (ss : List ℕ) → All (λ x. k < x) ss → count (λ s. leb s k) ss ≡ 0
 unfolding count

@@ -5,7 +5,7 @@ use mathlib.Core.Bool.{false}
 use Prim.Native.Nat.{ℕ, _≤_, _<_}
 use lib.ListN.{length}
 use Rattle.basics.specs.Loops.{member, snoc}
-use Rattle.basics.proofs.Loops.{All}
+use Rattle.basics.specs.Lists.{All}
 use Rattle.basics.proofs.Lists.{All-snoc, Apart, apart-snoc, not-member, pigeonhole}
 use Rattle.board_rules.specs.Board.{Board, turfCount}
 use Rattle.board_rules.specs.Worked as worked  -- checked before the laws

@@ -13,7 +13,8 @@ use borrow.Author.Tests.{eq-eqb, ne-eqb}
 use Rattle.basics.specs.Loops.{first, upFrom}
 use Rattle.basics.specs.declared.Spot.{Spot}
 use Rattle.basics.specs.declared.Spot.the-variants.{At, Nowhere}
-use Rattle.basics.proofs.Loops.{first-here, first-on, first-end, Found, first-found, first-passes, up-below}
+use Rattle.basics.specs.Lists.{Found}
+use Rattle.basics.proofs.Loops.{first-here, first-on, first-end, first-found, first-passes, up-below}
 use Rattle.board_rules.specs.Board.{Board, turfCount, idOf, rowOf}
 use Rattle.board_rules.specs.Refuse.{ascending, idsFit}
 use Rattle.turfs.specs.Tables.{Bracket}

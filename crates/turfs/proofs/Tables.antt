@@ -14,9 +14,9 @@ use Rattle.basics.specs.Loops.{every, upFrom}
 use Rattle.basics.proofs.Tests.{both, each, every-up-at}
 use Rattle.board_rules.specs.Board.{Board, turfCount, linkCount, mixtureCount}
 use Rattle.board_rules.specs.Refuse.{within, rising, sizesFit, tablesFit, idsFit, linksFit, rowFits}
-use Rattle.turfs.specs.Tables.{Parts, Sizes, Tables}
+use Rattle.turfs.specs.Tables.{Parts, Sizes, Tables, Accepted}
 use Rattle.turfs.proofs.Order.{rising-to}
-use Rattle.turfs.proofs.Accepted.{Accepted, accepted}
+use Rattle.turfs.proofs.Accepted.{accepted}
 
 -- starts that never fall and end with the number of links
 pub parts-of : (n : ℕ) (starts neighbours : List ℕ) → n ≤ 4096 → length starts ≡ n + 1 → rising starts ≡ true → getD starts n 0 ≡ length neighbours

@@ -9,7 +9,8 @@ use lib.ListN.{length, getD, set, take, drop, replicate}
 use lib.Ieee.{Float, nan, inf, fin, Format, binary32, prec, low, emax, up, down, add, sum as isum, round, units, odd, size, ofBits, ofFields, isNan}
 use Rattle.basics.specs.Loops.{run, every, snoc}
 use Rattle.basics.specs.Floats.{0f, _+f_, finiteSignClear}
-use Rattle.basics.proofs.Loops.{All, All-imp, All-getD, every-all, run-keeps, cond-both, and-left}
+use Rattle.basics.specs.Lists.{All}
+use Rattle.basics.proofs.Loops.{All-imp, All-getD, every-all, run-keeps, cond-both, and-left}
 use Rattle.basics.proofs.Lists.{All-append, All-drop, all-every}
 use Rattle.board_rules.specs.Board.{Board, mixOf, immutableMix}
 use Rattle.mixture_rules.specs.Mixture.{sum, amounts, change, totalMix, total, clearAir, amountFits}
