@@ -18,90 +18,70 @@ use Rattle.turfs.proofs.refuse.all_below.Reads as all-below-reads
 use Rattle.turfs.proofs.refuse.rising.Reads as rising-reads
 use Rattle.turfs.proofs.refuse.rows_fit.Reads as rows-fit-reads
 
--- src/refuse.rt:180:18
 element-copy-out-starts : tie.Need-element-copy-out-starts
 element-copy-out-starts c = search needs
 
--- src/refuse.rt:181:9
 rising-requires : tie.Need-rising-requires
 rising-requires c κs = search needs
 
--- src/refuse.rt:182:9
 returns : tie.Need-returns
 unfolding linksFit
 returns c = sym (one-fails _ 0 (no _ (c .before .rising .ensures) (c .if1 .taken)))
 
--- src/refuse.rt:184:8
 shared-slice-read-if2 : tie.Need-shared-slice-read-if2
 shared-slice-read-if2 c = search needs
 
--- src/refuse.rt:185:9
 returns-2 : tie.Need-returns-2
 unfolding linksFit
 returns-2 c = sym (one-fails _ 1 (ne-eqb _ _ (c .if2 .taken)))
 
--- src/refuse.rt:187:9
 element-copy-out-n : tie.Need-element-copy-out-n
 element-copy-out-n c = search needs
 
--- src/refuse.rt:188:8
 mul-if3 : tie.Need-mul-if3
 mul-if3 c = search needs
 
--- src/refuse.rt:188:8
 shared-slice-read-if3 : tie.Need-shared-slice-read-if3
 shared-slice-read-if3 c = search needs
 
--- src/refuse.rt:188:8
 cast-if3 : tie.Need-cast-if3
 cast-if3 c = omega (arith, c .shared-slice-known2 .given (length (table (now (c .before .before .before .before .before .before .args .rows)) 0)))
 
--- src/refuse.rt:188:30
 element-copy-out-if3 : tie.Need-element-copy-out-if3
 element-copy-out-if3 c = search needs
 
--- src/refuse.rt:189:9
 returns-3 : tie.Need-returns-3
 unfolding linksFit
 returns-3 c = sym (one-fails _ 2 (ne-eqb _ _ (c .if3 .taken)))
 
--- src/refuse.rt:191:19
 element-copy-out-all-below : tie.Need-element-copy-out-all-below
 element-copy-out-all-below c = search needs
 
--- src/refuse.rt:191:9
 all-below-requires : tie.Need-all-below-requires
 all-below-requires c κs = search needs
 
--- src/refuse.rt:192:9
 returns-4 : tie.Need-returns-4
 unfolding linksFit
 returns-4 c = sym (one-fails _ 3 (no _ (c .before .all-below .ensures) (c .if4 .taken)))
 
--- src/refuse.rt:194:19
 element-copy-out-all-below-2 : tie.Need-element-copy-out-all-below-2
 element-copy-out-all-below-2 c = search needs
 
--- src/refuse.rt:194:35
 element-copy-out-all-below-3 : tie.Need-element-copy-out-all-below-3
 element-copy-out-all-below-3 c = search needs
 
--- src/refuse.rt:194:9
 all-below-requires-2 : tie.Need-all-below-requires-2
 all-below-requires-2 c κs = search needs
 
--- src/refuse.rt:195:9
 returns-5 : tie.Need-returns-5
 unfolding linksFit
 returns-5 c = sym (one-fails _ 4 (no _ (c .before .all-below2 .ensures) (c .if5 .taken)))
 
--- src/refuse.rt:197:5
 rows-fit-requires : tie.Need-rows-fit-requires
 rows-fit-requires c κs =
     let s = c .before .before .before .before .before .before .before .before .before .before .before .before .before in
     (parts-of _ _ _ (s .pre .0 .turfs) (s .pre .1) (yes _ (c .before .before .before .before .before .before .before .before .before .before .before .rising .ensures) (c .before .before .before .before .before .before .before .before .before .before .if1 .left)) (c .before .before .before .before .before .before .if3 .left), s .pre .0 .links)
 
--- src/refuse.rt:176:1
 returns-6 : tie.Need-returns-6
 unfolding linksFit rowFits
 returns-6 c =

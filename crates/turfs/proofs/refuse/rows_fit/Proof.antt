@@ -26,71 +26,55 @@ Inv-loop rows starts neighbours n row₀ row = (row ≤ n) × (every (rowFits (b
 abbrev μ-loop : tie.MeasureT-loop
 μ-loop rows starts neighbours n row₀ row = n - row
 
--- src/refuse.rt:159:18
 element-copy-out-starts : tie.Need-element-copy-out-starts Inv-loop μ-loop
 element-copy-out-starts c = search needs
 
--- src/refuse.rt:160:22
 element-copy-out-neighbours : tie.Need-element-copy-out-neighbours Inv-loop μ-loop
 element-copy-out-neighbours c = search needs
 
--- src/refuse.rt:161:9
 element-copy-out-n : tie.Need-element-copy-out-n Inv-loop μ-loop
 element-copy-out-n c = search needs
 
--- src/refuse.rt:163:5
 loop-holds : tie.Need-loop-holds Inv-loop μ-loop
 loop-holds c = (search needs, rw sub-zero)
 
--- src/refuse.rt:164:13
 links-of-requires : tie.Need-links-of-requires Inv-loop μ-loop
 links-of-requires c κs = let p = c .before .before .before .before .pre .0 .count in omega arith
 
--- src/refuse.rt:167:22
 cast-row-fits : tie.Need-cast-row-fits Inv-loop μ-loop
 cast-row-fits c = let p = c .before .before .before .before .before .pre .0 .rows in omega arith
 
--- src/refuse.rt:167:34
 mul-row-fits : tie.Need-mul-row-fits Inv-loop μ-loop
 mul-row-fits c = omega (arith, c .before .before .before .before .before .pre .0 .rise (c .before .before .loop .row) (omega arith), c .before .before .before .before .before .pre .0 .end (c .before .before .loop .row) (omega arith))
 
--- src/refuse.rt:167:34
 sub-row-fits : tie.Need-sub-row-fits Inv-loop μ-loop
 sub-row-fits c = omega (arith, c .before .before .before .before .before .pre .0 .rise (c .before .before .loop .row) (omega arith))
 
--- src/refuse.rt:167:34
 part-row-fits-start : tie.Need-part-row-fits-start Inv-loop μ-loop
 part-row-fits-start c = omega (arith, c .before .before .before .before .before .pre .0 .rise (c .before .before .loop .row) (omega arith))
 
--- src/refuse.rt:167:34
 part-row-fits-end : tie.Need-part-row-fits-end Inv-loop μ-loop
 part-row-fits-end c = omega (arith, c .before .before .before .before .before .pre .0 .end (c .before .before .loop .row) (omega arith))
 
--- src/refuse.rt:167:13
 row-fits-requires : tie.Need-row-fits-requires Inv-loop μ-loop
 row-fits-requires c κs = search needs
 
--- src/refuse.rt:168:13
 returns : tie.Need-returns Inv-loop μ-loop
 returns c =
     let s = c .before .before .before .before .before .before .before .before .args in
     sym (every-up-fails _ _ _ (c .before .before .before .before .loop-test .taken) (row-test (boardOf (now (s .rows)) [] 0) (c .before .before .before .before .before .loop .row) (c .before .before .before .links-of .result .from) (c .before .before .before .links-of .result .to) _ (c .before .row-fits .ensures) (c .before .before .before .links-of .ensures .0) (c .before .before .before .links-of .ensures .1) ∙ not-true _ (c .if1 .taken))) ∙ c .before .before .before .before .before .loop .inv .1
 
--- src/refuse.rt:170:9
 add-row : tie.Need-add-row Inv-loop μ-loop
 add-row c = search needs
 
--- src/refuse.rt:163:5
 loop-less : tie.Need-loop-less Inv-loop μ-loop
 loop-less c = search needs
 
--- src/refuse.rt:163:5
 loop-again : tie.Need-loop-again Inv-loop μ-loop
 loop-again c =
     let s = c .before .before .before .before .before .before .before .before .args in
     (search needs, sym (every-up-next _ _ _ (c .before .before .before .before .loop-test .taken) (row-test (boardOf (now (s .rows)) [] 0) (c .before .before .before .before .before .loop .row) (c .before .before .before .links-of .result .from) (c .before .before .before .links-of .result .to) _ (c .before .row-fits .ensures) (c .before .before .before .links-of .ensures .0) (c .before .before .before .links-of .ensures .1) ∙ not-false _ (c .if1 .left))) ∙ c .before .before .before .before .before .loop .inv .1)
 
--- src/refuse.rt:155:1
 returns-2 : tie.Need-returns-2 Inv-loop μ-loop
 returns-2 c = sym (every-up-end _ (c .before .loop .row) _ (c .loop-test .left)) ∙ c .before .loop .inv .1
 

@@ -11,46 +11,36 @@ use Rattle.turfs.proofs.refuse.sizes_fit.Reads as reads
 use Rattle.turfs.proofs.refuse.sizes_fit.Lts as lts
 use Rattle.turfs.proofs.refuse.within.Reads as within-reads
 
--- src/refuse.rt:36:25
 element-copy-out-within : tie.Need-element-copy-out-within
 element-copy-out-within c = search needs
 
--- src/refuse.rt:36:9
 within-requires : tie.Need-within-requires
 within-requires c κs = search needs
 
--- src/refuse.rt:37:9
 returns : tie.Need-returns
 unfolding sizesFit
 returns c = sym (one-fails _ 0 (no _ (c .before .within .ensures) (c .if1 .taken)))
 
--- src/refuse.rt:39:25
 element-copy-out-within-2 : tie.Need-element-copy-out-within-2
 element-copy-out-within-2 c = search needs
 
--- src/refuse.rt:39:9
 within-requires-2 : tie.Need-within-requires-2
 within-requires-2 c κs = search needs
 
--- src/refuse.rt:40:9
 returns-2 : tie.Need-returns-2
 unfolding sizesFit
 returns-2 c = sym (one-fails _ 1 (no _ (c .before .within2 .ensures) (c .if2 .taken)))
 
--- src/refuse.rt:42:8
 element-copy-out-if3 : tie.Need-element-copy-out-if3
 element-copy-out-if3 c = search needs
 
--- src/refuse.rt:43:9
 returns-3 : tie.Need-returns-3
 unfolding sizesFit
 returns-3 c = sym (one-fails _ 2 (lt-leb _ _ (c .if3 .taken)))
 
--- src/refuse.rt:45:5
 within-requires-3 : tie.Need-within-requires-3
 within-requires-3 c κs = search needs
 
--- src/refuse.rt:33:1
 returns-4 : tie.Need-returns-4
 unfolding sizesFit
 returns-4 c =

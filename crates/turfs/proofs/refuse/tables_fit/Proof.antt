@@ -12,72 +12,56 @@ use Rattle.turfs.proofs.refuse.tables_fit.Tie as tie
 use Rattle.turfs.proofs.refuse.tables_fit.Reads as reads
 use Rattle.turfs.proofs.refuse.tables_fit.Lts as lts
 
--- src/refuse.rt:53:9
 element-copy-out-n : tie.Need-element-copy-out-n
 element-copy-out-n c = search needs
 
--- src/refuse.rt:54:8
 element-copy-out-if1 : tie.Need-element-copy-out-if1
 element-copy-out-if1 c = search needs
 
--- src/refuse.rt:55:9
 returns : tie.Need-returns
 unfolding tablesFit
 returns c = sym (one-fails _ 0 (ne-eqb _ _ (c .if1 .taken)))
 
--- src/refuse.rt:57:8
 element-copy-out-if2 : tie.Need-element-copy-out-if2
 element-copy-out-if2 c = search needs
 
--- src/refuse.rt:58:9
 returns-2 : tie.Need-returns-2
 unfolding tablesFit
 returns-2 c = sym (one-fails _ 1 (ne-eqb _ _ (c .if2 .taken)))
 
--- src/refuse.rt:60:8
 element-copy-out-if3 : tie.Need-element-copy-out-if3
 element-copy-out-if3 c = search needs
 
--- src/refuse.rt:61:9
 returns-3 : tie.Need-returns-3
 unfolding tablesFit
 returns-3 c = sym (one-fails _ 2 (ne-eqb _ _ (c .if3 .taken)))
 
--- src/refuse.rt:63:8
 element-copy-out-if4 : tie.Need-element-copy-out-if4
 element-copy-out-if4 c = search needs
 
--- src/refuse.rt:63:30
 add-if4 : tie.Need-add-if4
 add-if4 c = search needs
 
--- src/refuse.rt:64:9
 returns-4 : tie.Need-returns-4
 unfolding tablesFit
 returns-4 c = sym (one-fails _ 3 (ne-eqb _ _ (c .if4 .taken)))
 
--- src/refuse.rt:66:8
 element-copy-out-if5 : tie.Need-element-copy-out-if5
 element-copy-out-if5 c = search needs
 
--- src/refuse.rt:66:35
 element-copy-out-if5-2 : tie.Need-element-copy-out-if5-2
 element-copy-out-if5-2 c = search needs
 
--- src/refuse.rt:67:9
 returns-5 : tie.Need-returns-5
 unfolding tablesFit
 returns-5 c = sym (one-fails _ 4 (ne-eqb _ _ (c .if5 .taken)))
 
--- src/refuse.rt:69:16
 element-copy-out-result : tie.Need-element-copy-out-result
 element-copy-out-result c = search needs
 
--- src/refuse.rt:69:16
 mul-result : tie.Need-mul-result
 mul-result c = record { fits = lt-of-le-of-lt (mul-le-mul (c .before .before .before .before .before .pre .small .mixtures) (c .before .before .before .before .before .pre .gases)) (omega arith) }
 
--- src/refuse.rt:49:1
 returns-6 : tie.Need-returns-6
 unfolding tablesFit
 returns-6 c =
