@@ -42,11 +42,10 @@ use Rattle.finalize_eq.specs.Turns.{Zone, zoneAt, nodeCount, finishAll}
 use Rattle.finalize_eq.specs.Turns as turns
 use Rattle.finish_send.specs.Areas.{Areas, areas, fsizes, others, reverseIn, ownerIn, weightIn}
 use Rattle.finish_send.proofs.Shown.{holds-written}
-use Rattle.finish_turf.proofs.Lean.{lean}
 use Rattle.finish_turns.specs.Zones.{startOf, zoneNodes}
 use Rattle.finish_turns.specs.Zones as words
 use Rattle.finish_turns.specs.Turning.{cursorAt, Same, Planned, FinishesAll}
-use Rattle.finish_turns.proofs.Whole.{ready-lean, Ends, finished}
+use Rattle.finish_turns.proofs.Whole.{Ends, finished}
 use Rattle.equalize.specs.Equalize.{Ask, fillAll, planAll, planned, played, hasMix, apart, bit}
 use Rattle.equalize.specs.Result.{equalizeRoom}
 use Rattle.equalize.proofs.Zones.{test-room}
@@ -216,10 +215,10 @@ module _ (b : Board) (q : Ask) (l₀ l : Lent) (s : Filling) (d : Fills b q s l�
       requests-few : s .used ≤ 16 * n
       requests-few = omega (arith, D .wrote .wrote .end, requests-bytes b (l₀ .gas) accepted q)
 
-      pub finish-asks : Planned (lean b) (s .zones) w₂ (areas (l .gas) f₁ (l .area) (s .used))
+      pub finish-asks : Planned b (s .zones) w₂ (areas (l .gas) f₁ (l .area) (s .used))
       unfolding floatsRoom
       finish-asks = record {
-        ready = ready-lean b w₂ (l .gas) f₁ h links reverses (omega (arith, words-long, long₂)) (omega (arith, floats-room, p .reals .0));
+        ready = record { board = h; linked = links; reverse = reverses; words = omega (arith, words-long, long₂); floats = omega (arith, floats-room, p .reals .0) };
         arrays = omega (arith, words-long, long₂);
         laid = record {
           few = few-zones;
@@ -244,7 +243,7 @@ module _ (b : Board) (q : Ask) (l₀ l : Lent) (s : Filling) (d : Fills b q s l�
       unfolding planned
       begins = record { gas = d .gas; weight = weights; events = D .wrote }
 
-      module _ (turns w₃ : List ℕ) (g₃ f₃ : List Float) (a₃ : List ℕ) (used : ℕ) (u : FinishesAll (lean b) (s .zones) turns w₂ w₃ (areas (l .gas) f₁ (l .area) (s .used)) (areas g₃ f₃ a₃ used)) where
+      module _ (turns w₃ : List ℕ) (g₃ f₃ : List Float) (a₃ : List ℕ) (used : ℕ) (u : FinishesAll b (s .zones) turns w₂ w₃ (areas (l .gas) f₁ (l .area) (s .used)) (areas g₃ f₃ a₃ used)) where
         ended : Ends b (l₀ .area) (areas g₃ f₃ a₃ used) (finishAll b (fillAll b (l₀ .gas) q .owner) zones turns (planned b (l₀ .gas) q (fillAll b (l₀ .gas) q)))
         ended =
             subst (λ (o : List ℕ). Ends b (l₀ .area) (areas g₃ f₃ a₃ used) (finishAll b o zones turns (planned b (l₀ .gas) q (fillAll b (l₀ .gas) q)))) owner-same
@@ -309,10 +308,10 @@ module _ {b : Board} {s : Filling} {l : Lent} (x : Filled b s l) where
           subst (λ (y : ℕ). Tells (mixed (b .mixtures) (b .immutable)) (s .zones) (startsAt N E) y (y + N + E) r w₁ w₂) en
           (subst (λ (y : ℕ). Tells (mixed (b .mixtures) (b .immutable)) (s .zones) y nodes (nodes + N + E) r w₁ w₂) ef t)
 
-      pub finish-fits : Planned (lean b) (s .zones) w₂ (areas (l .gas) f₁ (l .area) (s .used))
+      pub finish-fits : Planned b (s .zones) w₂ (areas (l .gas) f₁ (l .area) (s .used))
       finish-fits = finish-asks b (x .asked) (x .lent) l s (x .fills) (x .board) (x .links) (x .area) (x .words) (x .floats) w₁ f₁ p w₂ (told .words)
 
-      pub played-comes : (turns w₃ : List ℕ) (g₃ f₃ : List Float) (a₃ : List ℕ) (used : ℕ) → FinishesAll (lean b) (s .zones) turns w₂ w₃ (areas (l .gas) f₁ (l .area) (s .used)) (areas g₃ f₃ a₃ used)
+      pub played-comes : (turns w₃ : List ℕ) (g₃ f₃ : List Float) (a₃ : List ℕ) (used : ℕ) → FinishesAll b (s .zones) turns w₂ w₃ (areas (l .gas) f₁ (l .area) (s .used)) (areas g₃ f₃ a₃ used)
           → (mark : ℕ) → mark ≡ bit r → (q : Ask) (l₀ : Lent) → Fills b q s l₀ l
           → Comes b (played b (l₀ .gas) q turns (fillAll b (l₀ .gas) q)) (record { cancelled = 0; processed = s .nodes; tests = s .tests + 2; zones = s .zones; apart = mark; used = used }) l₀ (record { gas = g₃; area = a₃; words = w₃; floats = f₃ })
       played-comes turns w₃ g₃ f₃ a₃ used u mark m q l₀ d =

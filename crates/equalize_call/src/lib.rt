@@ -2,8 +2,18 @@
 use equalize::EqualizeAnswer;
 use equalize::bit;
 use fill_all::Filling;
+use turfs::FLAGS;
+use turfs::IDS;
+use turfs::IMMUTABLE;
+use turfs::LINK_FLAGS;
+use turfs::MIXTURES;
+use turfs::Marks;
+use turfs::NEIGHBOURS;
+use turfs::PLANETARY;
+use turfs::Rows;
+use turfs::STARTS;
 ghost use mathlib.Core.Path.{_≡_};
-ghost use Rattle.turfs.specs.Tables.{board};
+ghost use Rattle.turfs.specs.Tables.{board, boardAt};
 ghost use Rattle.lent_rules.specs.Lent.{Lent};
 ghost use Rattle.lent.specs.Given.{lent};
 ghost use Rattle.fill_all.specs.Held.{ask};
@@ -39,27 +49,25 @@ fn cancel(processed: usize, tests: usize, used: usize) -> Outcome
 fn play(
     s: Filling,
     turns: &[u32],
-    ids: &[u32],
-    flags: &[u8],
-    planetary: &[u8],
-    mixtures: &[u32],
-    starts: &[u32],
-    neighbours: &[u32],
-    link_flags: &[u8],
-    immutable: &[u8],
+    rows: &Rows,
+    marks: &Marks,
     gases: usize,
     amounts: &mut [f32],
     events: &mut [u8],
     words: &mut [u32],
     floats: &mut [f32],
 ) -> Outcome
-    requires { ⌜ Filled (board (now ids) (now flags) (now planetary) (now mixtures) (now starts) (now neighbours) (now «link_flags») (now immutable) gases) s (lent (now amounts) (now events) (now words) (now floats)) ⌝ }
-    ensures { λ r. ⌜ ((q : Ask) (l : Lent) → Fills (board (now (ids .entry)) (now (flags .entry)) (now (planetary .entry)) (now (mixtures .entry)) (now (starts .entry)) (now (neighbours .entry)) (now («link_flags» .entry)) (now (immutable .entry)) gases) q s l (lent (now (amounts .entry)) (now (events .entry)) (now (words .entry)) (now (floats .entry))) → Comes (board (now (ids .entry)) (now (flags .entry)) (now (planetary .entry)) (now (mixtures .entry)) (now (starts .entry)) (now (neighbours .entry)) (now («link_flags» .entry)) (now (immutable .entry)) gases) (played (board (now (ids .entry)) (now (flags .entry)) (now (planetary .entry)) (now (mixtures .entry)) (now (starts .entry)) (now (neighbours .entry)) (now («link_flags» .entry)) (now (immutable .entry)) gases) (l .gas) q (now (turns .entry)) (fillAll (board (now (ids .entry)) (now (flags .entry)) (now (planetary .entry)) (now (mixtures .entry)) (now (starts .entry)) (now (neighbours .entry)) (now («link_flags» .entry)) (now (immutable .entry)) gases) (l .gas) q)) r l (lent (now (amounts .exit)) (now (events .exit)) (now (words .exit)) (now (floats .exit)))) ⌝ }
+    requires { ⌜ Filled (boardAt rows marks gases) s (lent (now amounts) (now events) (now words) (now floats)) ⌝ }
+    ensures { λ r. let b = boardAt (rows .entry) (marks .entry) gases in ⌜ ((q : Ask) (l : Lent) → Fills b q s l (lent (now (amounts .entry)) (now (events .entry)) (now (words .entry)) (now (floats .entry))) → Comes b (played b (l .gas) q (now (turns .entry)) (fillAll b (l .gas) q)) r l (lent (now (amounts .exit)) (now (events .exit)) (now (words .exit)) (now (floats .exit)))) ⌝ }
 {
+    let ids = rows[IDS];
+    let mixtures = rows[MIXTURES];
+    let starts = rows[STARTS];
+    let neighbours = rows[NEIGHBOURS];
     let n = ids.len();
     let e = neighbours.len();
     let nodes = flood_fill::nodes_at(n, e);
-    let marks = nodes + n + e;
+    let place = nodes + n + e;
     plan_all::plan_all(
         s.zones,
         mixtures,
@@ -73,17 +81,22 @@ fn play(
         floats,
     );
     let first = flood_fill::starts_at(n, e);
-    let apart = apart::apart(s.zones, first, nodes, marks, mixtures, immutable, words);
+    let apart = apart::apart(
+        s.zones,
+        first,
+        nodes,
+        place,
+        mixtures,
+        marks[IMMUTABLE],
+        words,
+    );
     let used = finish_turns::finish_all(
         s.zones,
         turns,
         s.used,
         gases,
-        ids,
-        mixtures,
-        starts,
-        neighbours,
-        immutable,
+        rows,
+        marks,
         words,
         amounts,
         floats,
@@ -104,22 +117,16 @@ fn timed(
     s: Filling,
     turns: &[u32],
     allowance: u32,
-    ids: &[u32],
-    flags: &[u8],
-    planetary: &[u8],
-    mixtures: &[u32],
-    starts: &[u32],
-    neighbours: &[u32],
-    link_flags: &[u8],
-    immutable: &[u8],
+    rows: &Rows,
+    marks: &Marks,
     gases: usize,
     amounts: &mut [f32],
     events: &mut [u8],
     words: &mut [u32],
     floats: &mut [f32],
 ) -> Outcome
-    requires { ⌜ Filled (board (now ids) (now flags) (now planetary) (now mixtures) (now starts) (now neighbours) (now «link_flags») (now immutable) gases) s (lent (now amounts) (now events) (now words) (now floats)) ⌝ }
-    ensures { λ r. ⌜ ((q : Ask) (l : Lent) → q .allowance ≡ allowance → Fills (board (now (ids .entry)) (now (flags .entry)) (now (planetary .entry)) (now (mixtures .entry)) (now (starts .entry)) (now (neighbours .entry)) (now («link_flags» .entry)) (now (immutable .entry)) gases) q s l (lent (now (amounts .entry)) (now (events .entry)) (now (words .entry)) (now (floats .entry))) → Comes (board (now (ids .entry)) (now (flags .entry)) (now (planetary .entry)) (now (mixtures .entry)) (now (starts .entry)) (now (neighbours .entry)) (now («link_flags» .entry)) (now (immutable .entry)) gases) (equalize (board (now (ids .entry)) (now (flags .entry)) (now (planetary .entry)) (now (mixtures .entry)) (now (starts .entry)) (now (neighbours .entry)) (now («link_flags» .entry)) (now (immutable .entry)) gases) (l .gas) q (now (turns .entry))) r l (lent (now (amounts .exit)) (now (events .exit)) (now (words .exit)) (now (floats .exit)))) ⌝ }
+    requires { ⌜ Filled (boardAt rows marks gases) s (lent (now amounts) (now events) (now words) (now floats)) ⌝ }
+    ensures { λ r. let b = boardAt (rows .entry) (marks .entry) gases in ⌜ ((q : Ask) (l : Lent) → q .allowance ≡ allowance → Fills b q s l (lent (now (amounts .entry)) (now (events .entry)) (now (words .entry)) (now (floats .entry))) → Comes b (equalize b (l .gas) q (now (turns .entry))) r l (lent (now (amounts .exit)) (now (events .exit)) (now (words .exit)) (now (floats .exit)))) ⌝ }
 {
     let tests = s.tests;
     if s.cancelled {
@@ -131,35 +138,13 @@ fn timed(
     if tests + 2 > allowance as usize {
         return cancel(s.nodes, tests + 2, s.used);
     }
-    play(
-        s,
-        turns,
-        ids,
-        flags,
-        planetary,
-        mixtures,
-        starts,
-        neighbours,
-        link_flags,
-        immutable,
-        gases,
-        amounts,
-        events,
-        words,
-        floats,
-    )
+    play(s, turns, rows, marks, gases, amounts, events, words, floats)
 }
 
 // Tables that were accepted: filled, then planned and finished in time.
 fn accepted(
-    ids: &[u32],
-    flags: &[u8],
-    planetary: &[u8],
-    mixtures: &[u32],
-    starts: &[u32],
-    neighbours: &[u32],
-    link_flags: &[u8],
-    immutable: &[u8],
+    rows: &Rows,
+    marks: &Marks,
     gases: usize,
     amounts: &mut [f32],
     hot: &[u32],
@@ -171,22 +156,22 @@ fn accepted(
     words: &mut [u32],
     floats: &mut [f32],
 ) -> Outcome
-    requires { ⌜ equalizeNumber (board (now ids) (now flags) (now planetary) (now mixtures) (now starts) (now neighbours) (now «link_flags») (now immutable) gases) (ask (now hot) threshold limit allowance) (now turns) (lent (now amounts) (now events) (now words) (now floats)) ≡ 0 ⌝ }
-    ensures { λ r. ⌜ Comes (board (now (ids .entry)) (now (flags .entry)) (now (planetary .entry)) (now (mixtures .entry)) (now (starts .entry)) (now (neighbours .entry)) (now («link_flags» .entry)) (now (immutable .entry)) gases) (equalize (board (now (ids .entry)) (now (flags .entry)) (now (planetary .entry)) (now (mixtures .entry)) (now (starts .entry)) (now (neighbours .entry)) (now («link_flags» .entry)) (now (immutable .entry)) gases) (now (amounts .entry)) (ask (now (hot .entry)) threshold limit allowance) (now (turns .entry))) r (lent (now (amounts .entry)) (now (events .entry)) (now (words .entry)) (now (floats .entry))) (lent (now (amounts .exit)) (now (events .exit)) (now (words .exit)) (now (floats .exit))) ⌝ }
+    requires { ⌜ equalizeNumber (boardAt rows marks gases) (ask (now hot) threshold limit allowance) (now turns) (lent (now amounts) (now events) (now words) (now floats)) ≡ 0 ⌝ }
+    ensures { λ r. let b = boardAt (rows .entry) (marks .entry) gases in ⌜ Comes b (equalize b (now (amounts .entry)) (ask (now (hot .entry)) threshold limit allowance) (now (turns .entry))) r (lent (now (amounts .entry)) (now (events .entry)) (now (words .entry)) (now (floats .entry))) (lent (now (amounts .exit)) (now (events .exit)) (now (words .exit)) (now (floats .exit))) ⌝ }
 {
     let s = fill_all::fill_all(
         hot,
         threshold,
         limit,
         allowance,
-        ids,
-        flags,
-        planetary,
-        mixtures,
-        starts,
-        neighbours,
-        link_flags,
-        immutable,
+        rows[IDS],
+        marks[FLAGS],
+        marks[PLANETARY],
+        rows[MIXTURES],
+        rows[STARTS],
+        rows[NEIGHBOURS],
+        marks[LINK_FLAGS],
+        marks[IMMUTABLE],
         gases,
         amounts,
         words,
@@ -197,14 +182,8 @@ fn accepted(
         s,
         turns,
         allowance,
-        ids,
-        flags,
-        planetary,
-        mixtures,
-        starts,
-        neighbours,
-        link_flags,
-        immutable,
+        rows,
+        marks,
         gases,
         amounts,
         events,
@@ -229,15 +208,15 @@ fn refused(number: u32) -> EqualizeAnswer
 }
 
 // Evens out the gas of the rooms around the hot ones, by turns.
-pub fn equalize(
-    ids: &[u32],
-    flags: &[u8],
-    planetary: &[u8],
-    mixtures: &[u32],
-    starts: &[u32],
-    neighbours: &[u32],
-    link_flags: &[u8],
-    immutable: &[u8],
+pub fn equalize<'a>(
+    ids: &'a [u32],
+    flags: &'a [u8],
+    planetary: &'a [u8],
+    mixtures: &'a [u32],
+    starts: &'a [u32],
+    neighbours: &'a [u32],
+    link_flags: &'a [u8],
+    immutable: &'a [u8],
     gases: u32,
     amounts: &mut [f32],
     hot: &[u32],
@@ -274,15 +253,11 @@ pub fn equalize(
     if number != 0 {
         return refused(number);
     }
+    let rows = [ids, mixtures, starts, neighbours];
+    let marks = [flags, planetary, link_flags, immutable];
     let o = accepted(
-        ids,
-        flags,
-        planetary,
-        mixtures,
-        starts,
-        neighbours,
-        link_flags,
-        immutable,
+        &rows,
+        &marks,
         gases as usize,
         amounts,
         hot,

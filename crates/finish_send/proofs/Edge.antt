@@ -43,14 +43,12 @@ back-below e k z w h l = go (getD (take e (drop e w)) k 0) (subst (λ (p : ℕ).
 pub back-fits : (e k z : ℕ) (w : List ℕ) (f : List Float) (s : Spot) → s ≡ backLink (take e (drop e w)) (take e w) z k → k < e → getD w (e + k) 0 ≤ e → e ≤ length f → Found (λ j. j < length f) s
 back-fits e k z w f s q h l m = found-more e (length f) s m (subst (Found (λ j. j < e)) (sym q) (back-below e k z w h l))
 
-module _ (b : Board) (mixtures : List ℕ) (r a : ℕ) (x : Float) (gas : List Float) (m : b .mixtures ≡ mixtures) where
-  pub share-same : getD mixtures r 0 ≡ getD mixtures a 0 → gas ≡ shared b r a x gas
-  share-same e = sym (rw (eq-eqb (mixOf b r) (mixOf b a) (ap (λ (l : List ℕ). getD l r 0) m ∙ e ∙ sym (ap (λ (l : List ℕ). getD l a 0) m))))
+module _ (b : Board) (r a : ℕ) (x : Float) (gas : List Float) where
+  pub share-same : mixOf b r ≡ mixOf b a → gas ≡ shared b r a x gas
+  share-same e = sym (rw (eq-eqb (mixOf b r) (mixOf b a) e))
 
-  pub share-moved : (gas′ : List Float) → (getD mixtures r 0 ≡ getD mixtures a 0 → ⊥) → gas′ ≡ moveAir b (getD mixtures r 0) (getD mixtures a 0) x gas → gas′ ≡ shared b r a x gas
-  share-moved gas′ ne e =
-      e ∙ ap₂ (λ (i j : ℕ). moveAir b i j x gas) (sym (ap (λ (l : List ℕ). getD l r 0) m)) (sym (ap (λ (l : List ℕ). getD l a 0) m))
-      ∙ sym (rw (ne-eqb (mixOf b r) (mixOf b a) (λ q. ne (sym (ap (λ (l : List ℕ). getD l r 0) m) ∙ q ∙ ap (λ (l : List ℕ). getD l a 0) m))))
+  pub share-moved : (gas′ : List Float) → (mixOf b r ≡ mixOf b a → ⊥) → gas′ ≡ moveAir b (mixOf b r) (mixOf b a) x gas → gas′ ≡ shared b r a x gas
+  share-moved gas′ ne e = e ∙ sym (rw (ne-eqb (mixOf b r) (mixOf b a) ne))
 
 -- an amount above 0 is no NaN
 pub has-bits : (x : Float) → above x ≡ true → T (not (isNan x))

@@ -149,30 +149,28 @@ module _ (b : Board) (words : List ℕ) (stop : Bool) (z r : ℕ) where
       -- a link that has something to send
       pub made-send : (k : ℕ) (a′ a″ : Areas) → Made k a′ → Ready b words (a .gas) (a .floats) → r < turfCount b → InRow (b .starts) r k → k < to → P (a′ .floats) k ≡ true
           → stop && lt (total b (a′ .gas) r) (getD (a′ .floats) (liftedAt b + k) nan) ≡ false
-          → Sends r k (end b k) z (a′ .used) (a″ .used) (getD (a′ .floats) (liftedAt b + k) nan) (b .ids) (b .mixtures) (b .immutable) words (b .gases) (linkCount b) (a′ .gas) (a″ .gas) (a′ .floats) (a″ .floats) (a′ .bytes) (a″ .bytes)
+          → Sends b r k z (liftedAt b) words a′ a″
           → Made (k + 1) a″
       made-send k a′ a″ m ready row i l t enough s =
-          let x = getD (a′ .floats) (liftedAt b + k) nan in
           let below : k < linkCount b = omega arith in
           let ready′ = ready-kept ready (m .kept) in
-          let lifted = sent-lifted b words z r k a′ a″ ready′ row i below x s in
+          let lifted = sent-lifted b words z r k a′ a″ ready′ row i below (liftedAt b) s in
           record {
-            kept = kept-then (m .kept) (sent-kept b words z r k a′ a″ ready′ row i below x s);
+            kept = kept-then (m .kept) (sent-kept b words z r k a′ a″ ready′ row i below (liftedAt b) s);
             low = omega (arith, m .low);
             high = omega arith;
             lifted = lifted ∙ m .lifted;
-            fewer = le-trans (subst (λ (w : List Float). pending w ≤ pending (weightIn b (a′ .floats))) (sym (sent-weight b words z r k a′ a″ ready′ row i below x s)) (alter-less (backLink (reverseIn (linkCount b) words) owner z k) (weightIn b (a′ .floats)))) (m .fewer);
-            room = omega (arith, m .room, sent-used b words z r k a′ a″ ready′ row i below x s, to-send-same b words z (k + 1) to e (a′ .floats) (a″ .floats) lifted, to-send-here b words z k to e (a′ .floats) l t);
+            fewer = le-trans (subst (λ (w : List Float). pending w ≤ pending (weightIn b (a′ .floats))) (sym (sent-weight b words z r k a′ a″ ready′ row i below (liftedAt b) s)) (alter-less (backLink (reverseIn (linkCount b) words) owner z k) (weightIn b (a′ .floats)))) (m .fewer);
+            room = omega (arith, m .room, sent-used b words z r k a′ a″ ready′ row i below (liftedAt b) s, to-send-same b words z (k + 1) to e (a′ .floats) (a″ .floats) lifted, to-send-here b words z k to e (a′ .floats) l t);
             shows = λ f h v.
                 let F = pairAs b owner z stop f r in
                 let g = run F (upFrom from (k - from)) h in
                 let w : Shows b a′ g = m .shows f h v in
-                subst (Shows b a″) (sym (run-last F from k h (m .low) ∙ pair-sends f a′ g k w below t enough)) (sent-shows b words z r k a′ a″ ready′ row i below x s g w);
+                subst (Shows b a″) (sym (run-last F from k h (m .low) ∙ pair-sends f a′ g k w below t enough)) (sent-shows b words z r k a′ a″ ready′ row i below (liftedAt b) s g w);
           }
 
-pub sent-size : {r k to z used used′ : ℕ} {x : Float} {ids mixtures immutable words : List ℕ} {gases e : ℕ} {gas gas′ floats floats′ : List Float} {bytes bytes′ : List ℕ}
-    → Sends r k to z used used′ x ids mixtures immutable words gases e gas gas′ floats floats′ bytes bytes′ → length floats′ ≡ length floats
-sent-size {k = k} {z = z} {words = words} {e = e} {floats = floats} s = ap length (s .weights) ∙ alter-size (backLink (reverseIn e words) (ownerIn e words) z k) (λ y. 0f) floats
+pub sent-size : {b : Board} {r k z up : ℕ} {words : List ℕ} {a a′ : Areas} → Sends b r k z up words a a′ → length (a′ .floats) ≡ length (a .floats)
+sent-size {b = b} {k = k} {z = z} {words = words} {a = a} s = ap length (s .weights) ∙ alter-size (backLink (reverseIn (linkCount b) words) (ownerIn (linkCount b) words) z k) (λ y. 0f) (a .floats)
 
 -- ---- the loop, whose lifted weights start at `up`
 
@@ -208,7 +206,7 @@ module _ (b : Board) (words : List ℕ) (stop : Bool) (z r up from to : ℕ) (a 
   loop-start k n = found from k a (made-none b words stop z r from to a (g .order)) n
 
   pub send-fits : (k : ℕ) (a′ : Areas) → Here k a′ → k < to
-      → SendFits r k (end b k) z (a′ .used) up (b .gases) (b .ids) (b .mixtures) (b .neighbours) (b .immutable) words (a′ .gas) (a′ .floats) (a′ .bytes)
+      → SendFits b r k z up words a′
   send-fits k a′ m l =
       let p = m .made in
       let rd = ready-kept (g .ready) (p .kept) in
@@ -216,6 +214,7 @@ module _ (b : Board) (words : List ℕ) (stop : Bool) (z r up from to : ℕ) (a 
       let n = to-send-here b words z k to within (a′ .floats) l (subst (λ (x : ℕ). marks words (a′ .floats) z x true k ≡ true) u (m .here l)) in
       record {
         zone = g .zone;
+        turfs = rd .board .turfs .1;
         links = rd .board .links;
         link = omega (arith, e);
         area = rd .words;
@@ -224,22 +223,25 @@ module _ (b : Board) (words : List ℕ) (stop : Bool) (z r up from to : ℕ) (a 
         weights = omega (arith, rd .floats);
         lifted = omega (arith, u, rd .floats, e);
         rows = (g .row, rd .board .ends k);
-        mixed = (omega (arith, rd .board .mixes, g .row), omega (arith, rd .board .mixes, rd .board .ends k));
-        mixes = (rd .board .mixed r, rd .board .mixed (end b k));
-        amounts = rd .board .fits;
+        moves = record {
+          small = omega (arith, rd .board .mixes, rd .board .turfs .1);
+          mixed = (omega (arith, rd .board .mixes, g .row), omega (arith, rd .board .mixes, rd .board .ends k));
+          mixes = (rd .board .mixed r, rd .board .mixed (end b k));
+          amounts = rd .board .fits;
+        };
         room = omega (arith, p .room, n, g .room, p .kept .bytes);
         positive = both (eqb (getD words k 0) (z + 1)) (above (getD (a′ .floats) (up + k) nan)) (m .here l) .1;
       }
 
   pub loop-next : (k j : ℕ) (a′ a″ : Areas) (short : Bool) → Here k a′ → k < to → short ≡ false
       → ((c : Board) → c .mixtures ≡ b .mixtures → c .gases ≡ b .gases → short ≡ stop && lt (total c (a′ .gas) r) (getD (a′ .floats) (up + k) nan))
-      → Sends r k (end b k) z (a′ .used) (a″ .used) (getD (a′ .floats) (up + k) nan) (b .ids) (b .mixtures) (b .immutable) words (b .gases) (linkCount b) (a′ .gas) (a″ .gas) (a′ .floats) (a″ .floats) (a′ .bytes) (a″ .bytes)
+      → Sends b r k z up words a′ a″
       → Next (marks words (a″ .floats) z up true) (k + 1) to j → Here j a″
   loop-next k j a′ a″ short m l q is s n =
       found (k + 1) j a″
       (made-send b words stop z r from to a within k a′ a″ (m .made) (g .ready) (g .row) (in-row k (m .made .low) l) l (subst (λ (x : ℕ). marks words (a′ .floats) z x true k ≡ true) u (m .here l))
       (subst (λ (x : ℕ). stop && lt (total b (a′ .gas) r) (getD (a′ .floats) (x + k) nan) ≡ false) u (sym (is b refl refl) ∙ q))
-      (subst (λ (x : ℕ). Sends r k (end b k) z (a′ .used) (a″ .used) (getD (a′ .floats) (x + k) nan) (b .ids) (b .mixtures) (b .immutable) words (b .gases) (linkCount b) (a′ .gas) (a″ .gas) (a′ .floats) (a″ .floats) (a′ .bytes) (a″ .bytes)) u s)) n
+      (subst (λ (x : ℕ). Sends b r k z x words a′ a″) u s)) n
 
   pub stopped : (k : ℕ) (a′ : Areas) (short : Bool) → Here k a′ → k < to → short ≡ true
       → ((c : Board) → c .mixtures ≡ b .mixtures → c .gases ≡ b .gases → short ≡ stop && lt (total c (a′ .gas) r) (getD (a′ .floats) (up + k) nan))

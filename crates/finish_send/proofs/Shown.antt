@@ -117,8 +117,11 @@ shared-fits b r a x gas f h l = go (eqb (mixOf b r) (mixOf b a))
     go false = move-fits b (mixOf b r) (mixOf b a) x h l gas f ∙ sym f
 
 module _ (b : Board) (words : List ℕ) (z r k : ℕ) (a a′ : Areas) (ready : Ready b words (a .gas) (a .floats)) (row : r < turfCount b) (i : InRow (b .starts) r k) (below : k < linkCount b)
-    (x : Float)
-    (s : Sends r k (end b k) z (a .used) (a′ .used) x (b .ids) (b .mixtures) (b .immutable) words (b .gases) (linkCount b) (a .gas) (a′ .gas) (a .floats) (a′ .floats) (a .bytes) (a′ .bytes)) where
+    (up : ℕ)
+    (s : Sends b r k z up words a a′) where
+  abbrev x : Float
+  x = getD (a .floats) (up + k) nan
+
   abbrev back : Spot
   back = backLink (reverseIn (linkCount b) words) (ownerIn (linkCount b) words) z k
 
@@ -128,7 +131,7 @@ module _ (b : Board) (words : List ℕ) (z r k : ℕ) (a a′ : Areas) (ready : 
 
   pub sent-kept : Kept b a a′
   sent-kept = record {
-    gas = ap length (s .air b refl refl refl) ∙ shared-fits b r (end b k) x (a .gas) (ready .board .fits) (ready .board .mixed r) (ready .board .mixed (end b k));
+    gas = ap length (s .air) ∙ shared-fits b r (end b k) x (a .gas) (ready .board .fits) (ready .board .mixed r) (ready .board .mixed (end b k));
     floats = ap length (s .weights) ∙ alter-size back (λ y. 0f) (a .floats);
     bytes = wrote-length (s .event);
     rest = altered-others b back (a .floats) (a′ .floats) back-in (s .weights);
@@ -148,7 +151,7 @@ module _ (b : Board) (words : List ℕ) (z r k : ℕ) (a a′ : Areas) (ready : 
   pub sent-shows : (h : Held) → Shows b a h → Shows b a′ (sendHeld b (ownerIn (linkCount b) words) z r k x h)
   unfolding send
   sent-shows h v = record {
-    gas = s .air b refl refl refl ∙ ap (shared b r (end b k) x) (v .gas);
+    gas = s .air ∙ ap (shared b r (end b k) x) (v .gas);
     weight = sent-weight ∙ ap₂ (λ (o : Spot) (w : List Float). alter o (λ y. 0f) w)
         (sym (edge-back b (turfCount b) (ready .linked) (ownerIn (linkCount b) words) z (reverseIn (linkCount b) words) (ready .reverse) r k row i)) (v .weight);
     lifted = sent-lifted ∙ v .lifted;

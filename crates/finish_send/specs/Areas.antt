@@ -2,20 +2,15 @@
 use mathlib.Core.Path.{_≡_}
 use mathlib.Core.List.{List, [], _∷_}
 use Prim.Native.Nat.{ℕ, _+_, _≤_}
-use lib.ListN.{length, take, drop, replicate}
+use lib.ListN.{length, take, drop}
 use lib.Ieee.{Float}
 use Rattle.basics.specs.Regions.{region}
 use Rattle.board_rules.specs.Board.{Board, turfCount, linkCount}
-use Rattle.turfs.specs.Tables.{board, Accepted}
+use Rattle.turfs.specs.Tables.{Accepted}
 use Rattle.events.specs.Area.{Holds}
 use Rattle.event_rules.specs.declared.Event.{Event}
 use Rattle.reverse_links.specs.Reverse.{Linked, Reverses}
 use Rattle.finalize_eq.specs.Lifted.{Held}
-
--- the tables that finishing looks at
-abbrev pub ground : List ℕ → List ℕ → List ℕ → List ℕ → List ℕ → ℕ → Board
-ground ids mixtures starts neighbours immutable gases =
-    board ids (replicate (length ids) 0) (replicate (length ids) 0) mixtures starts neighbours (replicate (length neighbours) 0) immutable gases
 
 -- the first `used` bytes of the area are these events
 abbrev pub Written : List Event → ℕ → List ℕ → Type 0

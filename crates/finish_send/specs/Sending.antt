@@ -9,7 +9,7 @@ use lib.Ieee.{Float, nan, lt}
 use Rattle.basics.specs.Loops.{run, upFrom, if_then_else_}
 use Rattle.basics.specs.Floats.{0f}
 use Rattle.basics.specs.Lists.{count}
-use Rattle.board_rules.specs.Board.{Board, turfCount, linkCount, mixOf}
+use Rattle.board_rules.specs.Board.{Board, turfCount, linkCount, mixtureCount, mixOf, end}
 use Rattle.mixture_rules.specs.Mixture.{total, moveAir}
 use Rattle.event_rules.specs.Events.{encode}
 use Rattle.events.specs.Area.{Wrote}
@@ -48,27 +48,33 @@ shared b r a x gas = if eqb (mixOf b r) (mixOf b a) then gas else moveAir b (mix
 
 -- ---- one edge
 
--- what sending over the link k to the turf `to` may rely on
-pub record SendFits (row k to z used up gases : ℕ) (ids mixtures neighbours immutable words : List ℕ) (gas floats : List Float) (bytes : List ℕ) : Type 0 where
+-- what moving air between two turfs may rely on
+pub record MoveFits (b : Board) (row to : ℕ) (gas : List Float) : Type 0 where
+  pub small : length (b .mixtures) ≤ 4096
+  pub mixed : (row < length (b .mixtures)) × (to < length (b .mixtures))
+  pub mixes : (mixOf b row < mixtureCount b) × (mixOf b to < mixtureCount b)
+  pub amounts : length gas ≡ mixtureCount b * b .gases
+
+-- what sending over the link k may rely on
+pub record SendFits (b : Board) (row k z up : ℕ) (words : List ℕ) (a : Areas) : Type 0 where
   pub zone : z < 4096
-  pub links : length neighbours ≤ 24576
-  pub link : k < length neighbours
-  pub area : length neighbours + length neighbours ≤ length words
-  pub back : getD words (length neighbours + k) 0 ≤ length neighbours
-  pub weights : length neighbours ≤ length floats
-  pub lifted : up + k < length floats
-  pub rows : (row < length ids) × (to < length ids)
-  pub mixed : (row < length mixtures) × (to < length mixtures)
-  pub mixes : (getD mixtures row 0 < length immutable) × (getD mixtures to 0 < length immutable)
-  pub amounts : length gas ≡ length immutable * gases
-  pub room : used + 20 ≤ length bytes
-  pub positive : above (getD floats (up + k) nan) ≡ true
+  pub turfs : turfCount b ≤ 4096
+  pub links : linkCount b ≤ 24576
+  pub link : k < linkCount b
+  pub area : linkCount b + linkCount b ≤ length words
+  pub back : getD words (linkCount b + k) 0 ≤ linkCount b
+  pub weights : linkCount b ≤ length (a .floats)
+  pub lifted : up + k < length (a .floats)
+  pub rows : (row < turfCount b) × (end b k < turfCount b)
+  pub moves : MoveFits b row (end b k) (a .gas)
+  pub room : a .used + 20 ≤ length (a .bytes)
+  pub positive : above (getD (a .floats) (up + k) nan) ≡ true
 
 -- the reverse weight, the air, the record
-pub record Sends (row k to z used used′ : ℕ) (x : Float) (ids mixtures immutable words : List ℕ) (gases e : ℕ) (gas gas′ floats floats′ : List Float) (bytes bytes′ : List ℕ) : Type 0 where
-  pub weights : floats′ ≡ alter (backLink (reverseIn e words) (ownerIn e words) z k) (λ y. 0f) floats
-  pub air : (b : Board) → b .mixtures ≡ mixtures → b .immutable ≡ immutable → b .gases ≡ gases → gas′ ≡ shared b row to x gas
-  pub event : Wrote (encode (Pressure z x (getD ids row 0) (getD ids to 0))) used used′ bytes bytes′
+pub record Sends (b : Board) (row k z up : ℕ) (words : List ℕ) (a a′ : Areas) : Type 0 where
+  pub weights : a′ .floats ≡ alter (backLink (reverseIn (linkCount b) words) (ownerIn (linkCount b) words) z k) (λ y. 0f) (a .floats)
+  pub air : a′ .gas ≡ shared b row (end b k) (getD (a .floats) (up + k) nan) (a .gas)
+  pub event : Wrote (encode (Pressure z (getD (a .floats) (up + k) nan) (getD (b .ids) row 0) (getD (b .ids) (end b k) 0))) (a .used) (a′ .used) (a .bytes) (a′ .bytes)
 
 -- ---- the edges of a turf
 

@@ -2,6 +2,12 @@
 // by link the owner and the reverse; the floats hold by link the weight, two arrays by row, and from `up` on by link the lifted weight.
 use basics::Spot;
 use event_rules::Event;
+use turfs::IDS;
+use turfs::IMMUTABLE;
+use turfs::MIXTURES;
+use turfs::Marks;
+use turfs::NEIGHBOURS;
+use turfs::Rows;
 ghost use mathlib.Core.Path.{_≡_};
 ghost use mathlib.Core.Bool.{_&&_};
 ghost use Prim.Native.Nat.{_+_, _*_, _-_, _≤_, _<_};
@@ -14,8 +20,9 @@ ghost use Rattle.board_rules.specs.Board.{Board};
 ghost use Rattle.mixture_rules.specs.Mixture.{total};
 ghost use Rattle.mixture.specs.Moves.{Holds};
 ghost use Rattle.process_zone.specs.Edges.{alter};
-ghost use Rattle.finish_send.specs.Areas.{ground, areas, liftedAt};
-ghost use Rattle.finish_send.specs.Sending.{sideOf, marks, Next, saveAt, zeroAt, shared, SendFits, Sends, Going, SentTo};
+ghost use Rattle.turfs.specs.Tables.{boardAt};
+ghost use Rattle.finish_send.specs.Areas.{areas, liftedAt};
+ghost use Rattle.finish_send.specs.Sending.{sideOf, marks, Next, saveAt, zeroAt, shared, MoveFits, SendFits, Sends, Going, SentTo};
 
 // Where sending stopped, and the bytes written.
 pub struct Sent {
@@ -122,25 +129,24 @@ fn clear_at(spot: Spot, floats: &mut [f32])
 
 // Air moves where the mixtures differ.
 fn move_between(
-    mixtures: &[u32],
-    immutable: &[u8],
+    rows: &Rows,
+    marks: &Marks,
     gas: &mut [f32],
     gases: usize,
     row: usize,
     to: usize,
     amount: f32,
 )
-    requires { ⌜ (row < length (now mixtures)) × (to < length (now mixtures)) ⌝ }
-    requires { ⌜ (getD (now mixtures) row 0 < length (now immutable)) × (getD (now mixtures) to 0 < length (now immutable)) ⌝ }
-    requires { ⌜ length (now gas) ≡ length (now immutable) * gases ⌝ }
-    ensures { λ _. ⌜ ((b : Board) → b .mixtures ≡ now (mixtures .entry) → b .immutable ≡ now (immutable .entry) → b .gases ≡ gases → now (gas .exit) ≡ shared b row to amount (now (gas .entry))) ⌝ }
+    requires { ⌜ MoveFits (boardAt rows marks gases) row to (now gas) ⌝ }
+    ensures { λ _. ⌜ now (gas .exit) ≡ shared (boardAt (rows .entry) (marks .entry) gases) row to amount (now (gas .entry)) ⌝ }
 {
+    let mixtures = rows[MIXTURES];
     let giver = mixtures[row] as usize;
     let taker = mixtures[to] as usize;
     if giver == taker {
         return;
     }
-    mixture::move_air(immutable, gas, gases, giver, taker, amount);
+    mixture::move_air(marks[IMMUTABLE], gas, gases, giver, taker, amount);
 }
 
 // One edge of the turf `row`, whose planned amount was lifted.
@@ -151,23 +157,23 @@ fn send(
     used: usize,
     up: usize,
     gases: usize,
-    ids: &[u32],
-    mixtures: &[u32],
-    neighbours: &[u32],
-    immutable: &[u8],
+    rows: &Rows,
+    marks: &Marks,
     words: &[u32],
     gas: &mut [f32],
     floats: &mut [f32],
     bytes: &mut [u8],
 ) -> usize
-    requires { ⌜ SendFits row k (getD (now neighbours) k 0) zone used up gases (now ids) (now mixtures) (now neighbours) (now immutable) (now words) (now gas) (now floats) (now bytes) ⌝ }
-    ensures { λ r. ⌜ Sends row k (getD (now (neighbours .entry)) k 0) zone used r (getD (now (floats .entry)) (up + k) nan) (now (ids .entry)) (now (mixtures .entry)) (now (immutable .entry)) (now (words .entry)) gases (length (now (neighbours .entry))) (now (gas .entry)) (now (gas .exit)) (now (floats .entry)) (now (floats .exit)) (now (bytes .entry)) (now (bytes .exit)) ⌝ }
+    requires { ⌜ SendFits (boardAt rows marks gases) row k zone up (now words) (areas (now gas) (now floats) (now bytes) used) ⌝ }
+    ensures { λ r. ⌜ Sends (boardAt (rows .entry) (marks .entry) gases) row k zone up (now (words .entry)) (areas (now (gas .entry)) (now (floats .entry)) (now (bytes .entry)) used) (areas (now (gas .exit)) (now (floats .exit)) (now (bytes .exit)) r) ⌝ }
 {
+    let ids = rows[IDS];
+    let neighbours = rows[NEIGHBOURS];
     let amount = floats[up + k];
     let to = neighbours[k] as usize;
     let back = plan_state::back_link(k, zone, neighbours.len(), words);
     clear_at(back, floats);
-    move_between(mixtures, immutable, gas, gases, row, to, amount);
+    move_between(rows, marks, gas, gases, row, to, amount);
     events::append(
         bytes,
         used,
@@ -208,24 +214,21 @@ pub fn send_edges(
     used: usize,
     up: usize,
     gases: usize,
-    ids: &[u32],
-    mixtures: &[u32],
-    starts: &[u32],
-    neighbours: &[u32],
-    immutable: &[u8],
+    rows: &Rows,
+    marks: &Marks,
     words: &[u32],
     gas: &mut [f32],
     floats: &mut [f32],
     bytes: &mut [u8],
 ) -> Sent
-    requires { ⌜ Going (ground (now ids) (now mixtures) (now starts) (now neighbours) (now immutable) gases) (now words) zone row from to (areas (now gas) (now floats) (now bytes) used) ⌝ }
-    requires { ⌜ up ≡ liftedAt (ground (now ids) (now mixtures) (now starts) (now neighbours) (now immutable) gases) ⌝ }
-    ensures { λ r. ⌜ SentTo (ground (now (ids .entry)) (now (mixtures .entry)) (now (starts .entry)) (now (neighbours .entry)) (now (immutable .entry)) gases) (now (words .entry)) stop zone row from to (r .at) (areas (now (gas .entry)) (now (floats .entry)) (now (bytes .entry)) used) (areas (now (gas .exit)) (now (floats .exit)) (now (bytes .exit)) (r .used)) ⌝ }
+    requires { ⌜ Going (boardAt rows marks gases) (now words) zone row from to (areas (now gas) (now floats) (now bytes) used) ⌝ }
+    requires { ⌜ up ≡ liftedAt (boardAt rows marks gases) ⌝ }
+    ensures { λ r. ⌜ SentTo (boardAt (rows .entry) (marks .entry) gases) (now (words .entry)) stop zone row from to (r .at) (areas (now (gas .entry)) (now (floats .entry)) (now (bytes .entry)) used) (areas (now (gas .exit)) (now (floats .exit)) (now (bytes .exit)) (r .used)) ⌝ }
 {
     let mut now = used;
     let mut k = next_edge(from, to, zone, up, true, words, floats);
     while k < to {
-        if is_short(stop, mixtures, gas, gases, row, floats[up + k]) {
+        if is_short(stop, rows[MIXTURES], gas, gases, row, floats[up + k]) {
             return Sent { at: k, used: now };
         }
         now = send(
@@ -235,10 +238,8 @@ pub fn send_edges(
             now,
             up,
             gases,
-            ids,
-            mixtures,
-            neighbours,
-            immutable,
+            rows,
+            marks,
             words,
             gas,
             floats,

@@ -1,10 +1,15 @@
 // `finalize_eq` and `finalize_eq_neighbors`, which call each other. A call of the second comes after a turf's weights were lifted, one of them above 0, so
 // the number of weights above 0 falls.
+use turfs::Marks;
+use turfs::NEIGHBOURS;
+use turfs::Rows;
+use turfs::STARTS;
 ghost use mathlib.Core.Path.{_≡_};
 ghost use Prim.Native.Nat.{_<_};
-ghost use lib.ListN.{length};
+ghost use Rattle.board_rules.specs.Board.{linkCount};
 ghost use Rattle.finalize_eq.specs.Lifted.{finishHeld, giversHeld};
-ghost use Rattle.finish_send.specs.Areas.{ground, areas, liftedAt, ownerIn};
+ghost use Rattle.turfs.specs.Tables.{boardAt};
+ghost use Rattle.finish_send.specs.Areas.{areas, liftedAt, ownerIn};
 ghost use Rattle.finish_turf.specs.Finishing.{Begun, Finishes};
 
 // Carries out a turf's plan: its weights are lifted, and what is above 0 is sent; once the turf hasn't enough, its givers are finished first.
@@ -14,21 +19,18 @@ pub fn finalize_eq(
     used: usize,
     up: usize,
     gases: usize,
-    ids: &[u32],
-    mixtures: &[u32],
-    starts: &[u32],
-    neighbours: &[u32],
-    immutable: &[u8],
+    rows: &Rows,
+    marks: &Marks,
     words: &[u32],
     gas: &mut [f32],
     floats: &mut [f32],
     bytes: &mut [u8],
 ) -> usize
-    requires { ⌜ Begun (ground (now ids) (now mixtures) (now starts) (now neighbours) (now immutable) gases) (now words) zone row (areas (now gas) (now floats) (now bytes) used) ⌝ }
-    requires { ⌜ up ≡ liftedAt (ground (now ids) (now mixtures) (now starts) (now neighbours) (now immutable) gases) ⌝ }
-    ensures { λ r. ⌜ Finishes (ground (now (ids .entry)) (now (mixtures .entry)) (now (starts .entry)) (now (neighbours .entry)) (now (immutable .entry)) gases) (λ n. finishHeld (ground (now (ids .entry)) (now (mixtures .entry)) (now (starts .entry)) (now (neighbours .entry)) (now (immutable .entry)) gases) (ownerIn (length (now (neighbours .entry))) (now (words .entry))) zone n row) (areas (now (gas .entry)) (now (floats .entry)) (now (bytes .entry)) used) (areas (now (gas .exit)) (now (floats .exit)) (now (bytes .exit)) r) ⌝ }
+    requires { ⌜ Begun (boardAt rows marks gases) (now words) zone row (areas (now gas) (now floats) (now bytes) used) ⌝ }
+    requires { ⌜ up ≡ liftedAt (boardAt rows marks gases) ⌝ }
+    ensures { λ r. let b = boardAt (rows .entry) (marks .entry) gases in ⌜ Finishes b (λ n. finishHeld b (ownerIn (linkCount b) (now (words .entry))) zone n row) (areas (now (gas .entry)) (now (floats .entry)) (now (bytes .entry)) used) (areas (now (gas .exit)) (now (floats .exit)) (now (bytes .exit)) r) ⌝ }
 {
-    let links = turfs::links_of(starts, row);
+    let links = turfs::links_of(rows[STARTS], row);
     let from = links.from;
     let to = links.to;
     if finish_send::next_edge(from, to, zone, 0, true, words, floats) == to {
@@ -46,11 +48,8 @@ pub fn finalize_eq(
         used,
         up,
         gases,
-        ids,
-        mixtures,
-        starts,
-        neighbours,
-        immutable,
+        rows,
+        marks,
         words,
         gas,
         floats,
@@ -66,11 +65,8 @@ pub fn finalize_eq(
         sent.used,
         up,
         gases,
-        ids,
-        mixtures,
-        starts,
-        neighbours,
-        immutable,
+        rows,
+        marks,
         words,
         gas,
         floats,
@@ -85,11 +81,8 @@ pub fn finalize_eq(
         now,
         up,
         gases,
-        ids,
-        mixtures,
-        starts,
-        neighbours,
-        immutable,
+        rows,
+        marks,
         words,
         gas,
         floats,
@@ -105,25 +98,23 @@ fn finalize_eq_neighbors(
     used: usize,
     up: usize,
     gases: usize,
-    ids: &[u32],
-    mixtures: &[u32],
-    starts: &[u32],
-    neighbours: &[u32],
-    immutable: &[u8],
+    rows: &Rows,
+    marks: &Marks,
     words: &[u32],
     gas: &mut [f32],
     floats: &mut [f32],
     bytes: &mut [u8],
 ) -> usize
-    requires { ⌜ Begun (ground (now ids) (now mixtures) (now starts) (now neighbours) (now immutable) gases) (now words) zone row (areas (now gas) (now floats) (now bytes) used) ⌝ }
-    requires { ⌜ up ≡ liftedAt (ground (now ids) (now mixtures) (now starts) (now neighbours) (now immutable) gases) ⌝ }
-    ensures { λ r. ⌜ Finishes (ground (now (ids .entry)) (now (mixtures .entry)) (now (starts .entry)) (now (neighbours .entry)) (now (immutable .entry)) gases) (λ n. giversHeld (ground (now (ids .entry)) (now (mixtures .entry)) (now (starts .entry)) (now (neighbours .entry)) (now (immutable .entry)) gases) (ownerIn (length (now (neighbours .entry))) (now (words .entry))) zone (finishHeld (ground (now (ids .entry)) (now (mixtures .entry)) (now (starts .entry)) (now (neighbours .entry)) (now (immutable .entry)) gases) (ownerIn (length (now (neighbours .entry))) (now (words .entry))) zone n) row) (areas (now (gas .entry)) (now (floats .entry)) (now (bytes .entry)) used) (areas (now (gas .exit)) (now (floats .exit)) (now (bytes .exit)) r) ⌝ }
+    requires { ⌜ Begun (boardAt rows marks gases) (now words) zone row (areas (now gas) (now floats) (now bytes) used) ⌝ }
+    requires { ⌜ up ≡ liftedAt (boardAt rows marks gases) ⌝ }
+    ensures { λ r. let b = boardAt (rows .entry) (marks .entry) gases in ⌜ Finishes b (λ n. giversHeld b (ownerIn (linkCount b) (now (words .entry))) zone (finishHeld b (ownerIn (linkCount b) (now (words .entry))) zone n) row) (areas (now (gas .entry)) (now (floats .entry)) (now (bytes .entry)) used) (areas (now (gas .exit)) (now (floats .exit)) (now (bytes .exit)) r) ⌝ }
 {
-    let links = turfs::links_of(starts, row);
+    let links = turfs::links_of(rows[STARTS], row);
     let from = links.from;
     let to = links.to;
     let mut now = used;
     let mut k = finish_send::next_edge(from, to, zone, up, false, words, floats);
+    let neighbours = rows[NEIGHBOURS];
     while k < to {
         now = finalize_eq(
             neighbours[k] as usize,
@@ -131,11 +122,8 @@ fn finalize_eq_neighbors(
             now,
             up,
             gases,
-            ids,
-            mixtures,
-            starts,
-            neighbours,
-            immutable,
+            rows,
+            marks,
             words,
             gas,
             floats,

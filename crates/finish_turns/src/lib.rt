@@ -1,9 +1,15 @@
 // The turns: which node of which zone is finished next. Of n turfs and e links the words hold, past the arrays of filling and planning, by zone the number of
 // nodes that had their turn, the unfinished zones ascending, where each zone's nodes start, and the nodes of all zones.
+use turfs::IDS;
+use turfs::Marks;
+use turfs::NEIGHBOURS;
+use turfs::Rows;
 ghost use mathlib.Core.Path.{_≡_};
 ghost use Prim.Native.Nat.{_+_, _-_, _%_, _≤_, _<_};
 ghost use lib.ListN.{length, getD};
-ghost use Rattle.finish_send.specs.Areas.{ground, areas, liftedAt};
+ghost use Rattle.board_rules.specs.Board.{turfCount};
+ghost use Rattle.turfs.specs.Tables.{boardAt};
+ghost use Rattle.finish_send.specs.Areas.{areas, liftedAt};
 ghost use Rattle.finish_turns.specs.Zones.{Laid, TakenOut, StartsZone, Started};
 ghost use Rattle.finish_turns.specs.Turning.{Fit, Open, Nexts, Live, Turns, AllLaid, ByTurns, Zoned, Planned, FinishesAll};
 
@@ -69,20 +75,18 @@ fn finish_next(
     used: usize,
     up: usize,
     gases: usize,
-    ids: &[u32],
-    mixtures: &[u32],
-    starts: &[u32],
-    neighbours: &[u32],
-    immutable: &[u8],
+    rows: &Rows,
+    marks: &Marks,
     words: &mut [u32],
     gas: &mut [f32],
     floats: &mut [f32],
     bytes: &mut [u8],
 ) -> usize
-    requires { ⌜ Fit (ground (now ids) (now mixtures) (now starts) (now neighbours) (now immutable) gases) cursor (now words) (areas (now gas) (now floats) (now bytes) used) × Open (length (now ids)) cursor (now words) zone ⌝ }
-    requires { ⌜ up ≡ liftedAt (ground (now ids) (now mixtures) (now starts) (now neighbours) (now immutable) gases) ⌝ }
-    ensures { λ r. ⌜ Nexts (ground (now (ids .entry)) (now (mixtures .entry)) (now (starts .entry)) (now (neighbours .entry)) (now (immutable .entry)) gases) cursor zone (now (words .entry)) (now (words .exit)) (areas (now (gas .entry)) (now (floats .entry)) (now (bytes .entry)) used) (areas (now (gas .exit)) (now (floats .exit)) (now (bytes .exit)) r) ⌝ }
+    requires { let b = boardAt rows marks gases in ⌜ Fit b cursor (now words) (areas (now gas) (now floats) (now bytes) used) × Open (turfCount b) cursor (now words) zone ⌝ }
+    requires { ⌜ up ≡ liftedAt (boardAt rows marks gases) ⌝ }
+    ensures { λ r. ⌜ Nexts (boardAt (rows .entry) (marks .entry) gases) cursor zone (now (words .entry)) (now (words .exit)) (areas (now (gas .entry)) (now (floats .entry)) (now (bytes .entry)) used) (areas (now (gas .exit)) (now (floats .exit)) (now (bytes .exit)) r) ⌝ }
 {
+    let ids = rows[IDS];
     let n = ids.len();
     let first = cursor + n + n;
     let from = words[first + zone] as usize;
@@ -94,11 +98,8 @@ fn finish_next(
         used,
         up,
         gases,
-        ids,
-        mixtures,
-        starts,
-        neighbours,
-        immutable,
+        rows,
+        marks,
         words,
         gas,
         floats,
@@ -116,20 +117,18 @@ fn turn(
     used: usize,
     up: usize,
     gases: usize,
-    ids: &[u32],
-    mixtures: &[u32],
-    starts: &[u32],
-    neighbours: &[u32],
-    immutable: &[u8],
+    rows: &Rows,
+    marks: &Marks,
     words: &mut [u32],
     gas: &mut [f32],
     floats: &mut [f32],
     bytes: &mut [u8],
 ) -> Left
-    requires { ⌜ Fit (ground (now ids) (now mixtures) (now starts) (now neighbours) (now immutable) gases) cursor (now words) (areas (now gas) (now floats) (now bytes) used) × Live (length (now ids)) cursor count (now words) ⌝ }
-    requires { ⌜ up ≡ liftedAt (ground (now ids) (now mixtures) (now starts) (now neighbours) (now immutable) gases) ⌝ }
-    ensures { λ r. ⌜ Turns (ground (now (ids .entry)) (now (mixtures .entry)) (now (starts .entry)) (now (neighbours .entry)) (now (immutable .entry)) gases) cursor (c % count) (getD (now (words .entry)) (cursor + (length (now (ids .entry))) + c % count) 0) count (r .live) (now (words .entry)) (now (words .exit)) (areas (now (gas .entry)) (now (floats .entry)) (now (bytes .entry)) used) (areas (now (gas .exit)) (now (floats .exit)) (now (bytes .exit)) (r .used)) ⌝ }
+    requires { let b = boardAt rows marks gases in ⌜ Fit b cursor (now words) (areas (now gas) (now floats) (now bytes) used) × Live (turfCount b) cursor count (now words) ⌝ }
+    requires { ⌜ up ≡ liftedAt (boardAt rows marks gases) ⌝ }
+    ensures { λ r. let b = boardAt (rows .entry) (marks .entry) gases in ⌜ Turns b cursor (c % count) (getD (now (words .entry)) (cursor + turfCount b + c % count) 0) count (r .live) (now (words .entry)) (now (words .exit)) (areas (now (gas .entry)) (now (floats .entry)) (now (bytes .entry)) used) (areas (now (gas .exit)) (now (floats .exit)) (now (bytes .exit)) (r .used)) ⌝ }
 {
+    let ids = rows[IDS];
     let n = ids.len();
     let p = c as usize % count;
     let zone = words[cursor + n + p] as usize;
@@ -139,11 +138,8 @@ fn turn(
         used,
         up,
         gases,
-        ids,
-        mixtures,
-        starts,
-        neighbours,
-        immutable,
+        rows,
+        marks,
         words,
         gas,
         floats,
@@ -171,21 +167,20 @@ fn by_turns(
     used: usize,
     up: usize,
     gases: usize,
-    ids: &[u32],
-    mixtures: &[u32],
-    starts: &[u32],
-    neighbours: &[u32],
-    immutable: &[u8],
+    rows: &Rows,
+    marks: &Marks,
     words: &mut [u32],
     gas: &mut [f32],
     floats: &mut [f32],
     bytes: &mut [u8],
 ) -> usize
-    requires { ⌜ Fit (ground (now ids) (now mixtures) (now starts) (now neighbours) (now immutable) gases) cursor (now words) (areas (now gas) (now floats) (now bytes) used) × AllLaid (length (now ids)) cursor zones (now words) ⌝ }
-    requires { ⌜ up ≡ liftedAt (ground (now ids) (now mixtures) (now starts) (now neighbours) (now immutable) gases) ⌝ }
-    ensures { λ r. ⌜ ByTurns (ground (now (ids .entry)) (now (mixtures .entry)) (now (starts .entry)) (now (neighbours .entry)) (now (immutable .entry)) gases) cursor zones (now (turns .entry)) (now (words .entry)) (now (words .exit)) (areas (now (gas .entry)) (now (floats .entry)) (now (bytes .entry)) used) (areas (now (gas .exit)) (now (floats .exit)) (now (bytes .exit)) r) ⌝ }
+    requires { let b = boardAt rows marks gases in ⌜ Fit b cursor (now words) (areas (now gas) (now floats) (now bytes) used) × AllLaid (turfCount b) cursor zones (now words) ⌝ }
+    requires { ⌜ up ≡ liftedAt (boardAt rows marks gases) ⌝ }
+    ensures { λ r. ⌜ ByTurns (boardAt (rows .entry) (marks .entry) gases) cursor zones (now (turns .entry)) (now (words .entry)) (now (words .exit)) (areas (now (gas .entry)) (now (floats .entry)) (now (bytes .entry)) used) (areas (now (gas .exit)) (now (floats .exit)) (now (bytes .exit)) r) ⌝ }
 {
-    let mut live = start(zones, cursor, ids.len(), words);
+    let ids = rows[IDS];
+    let n = ids.len();
+    let mut live = start(zones, cursor, n, words);
     let mut now = used;
     let mut i = 0;
     while i < turns.len() {
@@ -199,11 +194,8 @@ fn by_turns(
             now,
             up,
             gases,
-            ids,
-            mixtures,
-            starts,
-            neighbours,
-            immutable,
+            rows,
+            marks,
             words,
             gas,
             floats,
@@ -223,20 +215,18 @@ fn finish_zone(
     used: usize,
     up: usize,
     gases: usize,
-    ids: &[u32],
-    mixtures: &[u32],
-    starts: &[u32],
-    neighbours: &[u32],
-    immutable: &[u8],
+    rows: &Rows,
+    marks: &Marks,
     words: &mut [u32],
     gas: &mut [f32],
     floats: &mut [f32],
     bytes: &mut [u8],
 ) -> usize
-    requires { ⌜ Fit (ground (now ids) (now mixtures) (now starts) (now neighbours) (now immutable) gases) cursor (now words) (areas (now gas) (now floats) (now bytes) used) × Laid (length (now ids)) cursor (now words) zone ⌝ }
-    requires { ⌜ up ≡ liftedAt (ground (now ids) (now mixtures) (now starts) (now neighbours) (now immutable) gases) ⌝ }
-    ensures { λ r. ⌜ Zoned (ground (now (ids .entry)) (now (mixtures .entry)) (now (starts .entry)) (now (neighbours .entry)) (now (immutable .entry)) gases) cursor zone (now (words .entry)) (now (words .exit)) (areas (now (gas .entry)) (now (floats .entry)) (now (bytes .entry)) used) (areas (now (gas .exit)) (now (floats .exit)) (now (bytes .exit)) r) ⌝ }
+    requires { let b = boardAt rows marks gases in ⌜ Fit b cursor (now words) (areas (now gas) (now floats) (now bytes) used) × Laid (turfCount b) cursor (now words) zone ⌝ }
+    requires { ⌜ up ≡ liftedAt (boardAt rows marks gases) ⌝ }
+    ensures { λ r. ⌜ Zoned (boardAt (rows .entry) (marks .entry) gases) cursor zone (now (words .entry)) (now (words .exit)) (areas (now (gas .entry)) (now (floats .entry)) (now (bytes .entry)) used) (areas (now (gas .exit)) (now (floats .exit)) (now (bytes .exit)) r) ⌝ }
 {
+    let ids = rows[IDS];
     let n = ids.len();
     let size = size_of(zone, cursor + n + n, words);
     let mut i = words[cursor + zone] as usize;
@@ -248,11 +238,8 @@ fn finish_zone(
             now,
             up,
             gases,
-            ids,
-            mixtures,
-            starts,
-            neighbours,
-            immutable,
+            rows,
+            marks,
             words,
             gas,
             floats,
@@ -269,20 +256,19 @@ pub fn finish_all(
     turns: &[u32],
     used: usize,
     gases: usize,
-    ids: &[u32],
-    mixtures: &[u32],
-    starts: &[u32],
-    neighbours: &[u32],
-    immutable: &[u8],
+    rows: &Rows,
+    marks: &Marks,
     words: &mut [u32],
     gas: &mut [f32],
     floats: &mut [f32],
     bytes: &mut [u8],
 ) -> usize
-    requires { ⌜ Planned (ground (now ids) (now mixtures) (now starts) (now neighbours) (now immutable) gases) zones (now words) (areas (now gas) (now floats) (now bytes) used) ⌝ }
-    ensures { λ r. ⌜ FinishesAll (ground (now (ids .entry)) (now (mixtures .entry)) (now (starts .entry)) (now (neighbours .entry)) (now (immutable .entry)) gases) zones (now (turns .entry)) (now (words .entry)) (now (words .exit)) (areas (now (gas .entry)) (now (floats .entry)) (now (bytes .entry)) used) (areas (now (gas .exit)) (now (floats .exit)) (now (bytes .exit)) r) ⌝ }
+    requires { ⌜ Planned (boardAt rows marks gases) zones (now words) (areas (now gas) (now floats) (now bytes) used) ⌝ }
+    ensures { λ r. ⌜ FinishesAll (boardAt (rows .entry) (marks .entry) gases) zones (now (turns .entry)) (now (words .entry)) (now (words .exit)) (areas (now (gas .entry)) (now (floats .entry)) (now (bytes .entry)) used) (areas (now (gas .exit)) (now (floats .exit)) (now (bytes .exit)) r) ⌝ }
 {
+    let ids = rows[IDS];
     let n = ids.len();
+    let neighbours = rows[NEIGHBOURS];
     let e = neighbours.len();
     let up = e + n + n;
     let cursor = e + e + 7 * n;
@@ -293,11 +279,8 @@ pub fn finish_all(
         used,
         up,
         gases,
-        ids,
-        mixtures,
-        starts,
-        neighbours,
-        immutable,
+        rows,
+        marks,
         words,
         gas,
         floats,
@@ -311,11 +294,8 @@ pub fn finish_all(
             now,
             up,
             gases,
-            ids,
-            mixtures,
-            starts,
-            neighbours,
-            immutable,
+            rows,
+            marks,
             words,
             gas,
             floats,

@@ -5,7 +5,8 @@ use lib.ListN.{length, take}
 use denote.Ref.{now}
 use borrow.Author.Needs.{needs}
 use Rattle.finalize_eq.specs.Lifted.{pending}
-use Rattle.finish_send.specs.Areas.{ground, areas}
+use Rattle.turfs.specs.Tables.{boardOf, table}
+use Rattle.finish_send.specs.Areas.{areas}
 use Rattle.finish_turf.proofs.Turf.{links-room, clear-room, saved-size, quiet-finishes, lifted-going, sent-finishes, fell, givers-begun, rest-going, rest-finishes}
 use Rattle.finish_turf.proofs.Givers.{Giving, loop-start, giver-begun, link-below, edge-room, loop-next, givers-finished}
 use Prim.Native.Nat.{ℕ, _+_, _-_, _<_}
@@ -25,36 +26,54 @@ use Rattle.turfs.proofs.links_of.Reads as links-of-reads
 use Rattle.finish_turf.proofs.+finalize_eq+finalize_eq_neighbors.{statement}
 use Rattle.finish_turf.proofs.+finalize_eq+finalize_eq_neighbors.Tie.{close}
 
-abbrev μ-finalize-eq : Measures 9 finalize-eq-kinds.ps ℕ
-μ-finalize-eq κs a = pending (take (length (now (a .1 .1 .1 .1 .1 .1 .1 .1 .0))) (now (a .1 .1 .1 .1 .1 .1 .1 .1 .1 .1 .1 .1 .0))) + pending (take (length (now (a .1 .1 .1 .1 .1 .1 .1 .1 .0))) (now (a .1 .1 .1 .1 .1 .1 .1 .1 .1 .1 .1 .1 .0)))
+abbrev μ-finalize-eq : Measures 8 finalize-eq-kinds.ps ℕ
+μ-finalize-eq κs a = pending (take (length (table (now (a .1 .1 .1 .1 .1 .0)) 3)) (now (a .1 .1 .1 .1 .1 .1 .1 .1 .1 .0))) + pending (take (length (table (now (a .1 .1 .1 .1 .1 .0)) 3)) (now (a .1 .1 .1 .1 .1 .1 .1 .1 .1 .0)))
 
-abbrev μ-finalize-eq-neighbors : Measures 9 finalize-eq-neighbors-kinds.ps ℕ
-μ-finalize-eq-neighbors κs a = pending (take (length (now (a .1 .1 .1 .1 .1 .1 .1 .1 .0))) (now (a .1 .1 .1 .1 .1 .1 .1 .1 .1 .1 .1 .1 .0))) + pending (take (length (now (a .1 .1 .1 .1 .1 .1 .1 .1 .0))) (now (a .1 .1 .1 .1 .1 .1 .1 .1 .1 .1 .1 .1 .0))) + 1
+abbrev μ-finalize-eq-neighbors : Measures 8 finalize-eq-neighbors-kinds.ps ℕ
+μ-finalize-eq-neighbors κs a = pending (take (length (table (now (a .1 .1 .1 .1 .1 .0)) 3)) (now (a .1 .1 .1 .1 .1 .1 .1 .1 .1 .0))) + pending (take (length (table (now (a .1 .1 .1 .1 .1 .0)) 3)) (now (a .1 .1 .1 .1 .1 .1 .1 .1 .1 .0))) + 1
 
-abbrev finalize-eq-at : ℕ → In 9 finalize-eq-kinds.ps
+abbrev finalize-eq-at : ℕ → In 8 finalize-eq-kinds.ps
 finalize-eq-at t =
-    and 9 finalize-eq-kinds.ps (is 9 finalize-eq-kinds.ps μ-finalize-eq t) finalize-eq.Pre
+    and 8 finalize-eq-kinds.ps (is 8 finalize-eq-kinds.ps μ-finalize-eq t) finalize-eq.Pre
 
-abbrev finalize-eq-below : ℕ → In 9 finalize-eq-kinds.ps
+abbrev finalize-eq-below : ℕ → In 8 finalize-eq-kinds.ps
 finalize-eq-below t =
-    and 9 finalize-eq-kinds.ps (falls 9 finalize-eq-kinds.ps _<_ μ-finalize-eq t) finalize-eq.Pre
+    and 8 finalize-eq-kinds.ps (falls 8 finalize-eq-kinds.ps _<_ μ-finalize-eq t) finalize-eq.Pre
 
-abbrev finalize-eq-neighbors-at : ℕ → In 9 finalize-eq-neighbors-kinds.ps
+abbrev finalize-eq-neighbors-at : ℕ → In 8 finalize-eq-neighbors-kinds.ps
 finalize-eq-neighbors-at t =
     and
-    9
+    8
     finalize-eq-neighbors-kinds.ps
-    (is 9 finalize-eq-neighbors-kinds.ps μ-finalize-eq-neighbors t)
+    (is 8 finalize-eq-neighbors-kinds.ps μ-finalize-eq-neighbors t)
     finalize-eq-neighbors.Pre
 
-abbrev finalize-eq-neighbors-below : ℕ → In 9 finalize-eq-neighbors-kinds.ps
+abbrev finalize-eq-neighbors-below : ℕ → In 8 finalize-eq-neighbors-kinds.ps
 finalize-eq-neighbors-below t =
     and
-    9
+    8
     finalize-eq-neighbors-kinds.ps
-    (falls 9 finalize-eq-neighbors-kinds.ps _<_ μ-finalize-eq-neighbors t)
+    (falls 8 finalize-eq-neighbors-kinds.ps _<_ μ-finalize-eq-neighbors t)
     finalize-eq-neighbors.Pre
 
+-- src/lib.rt:32:33
+finalize-eq-element-copy-out-links-of : (t : ℕ) → finalize-eq-lts.Need-element-copy-out-links-of (
+  links-of-reads.Asked,
+  links-of-reads.Learnt,
+  next-edge-reads.Asked,
+  next-edge-reads.Learnt,
+  clear-weights-reads.Asked,
+  clear-weights-reads.Learnt,
+  save-reads.Asked,
+  save-reads.Learnt,
+  send-edges-reads.Asked,
+  send-edges-reads.Learnt,
+  finalize-eq-neighbors-below t,
+  finalize-eq-neighbors.Post,
+) (finalize-eq-at t) finalize-eq.Post
+finalize-eq-element-copy-out-links-of t c = search needs
+
+-- src/lib.rt:32:9
 finalize-eq-links-of-requires : (t : ℕ) → finalize-eq-lts.Need-links-of-requires (
   links-of-reads.Asked,
   links-of-reads.Learnt,
@@ -69,8 +88,9 @@ finalize-eq-links-of-requires : (t : ℕ) → finalize-eq-lts.Need-links-of-requ
   finalize-eq-neighbors-below t,
   finalize-eq-neighbors.Post,
 ) (finalize-eq-at t) finalize-eq.Post
-finalize-eq-links-of-requires t c κs = omega (arith, c .before .before .before .before .before .before .before .before .before .pre .1 .0 .ready .board .starts, c .before .before .before .before .before .before .before .before .before .pre .1 .0 .row)
+finalize-eq-links-of-requires t c κs = omega (arith, c .before .before .before .before .before .pre .1 .0 .ready .board .starts, c .before .before .before .before .before .pre .1 .0 .row)
 
+-- src/lib.rt:35:8
 finalize-eq-next-edge-requires : (t : ℕ) → finalize-eq-lts.Need-next-edge-requires (
   links-of-reads.Asked,
   links-of-reads.Learnt,
@@ -85,8 +105,9 @@ finalize-eq-next-edge-requires : (t : ℕ) → finalize-eq-lts.Need-next-edge-re
   finalize-eq-neighbors-below t,
   finalize-eq-neighbors.Post,
 ) (finalize-eq-at t) finalize-eq.Post
-finalize-eq-next-edge-requires t c κs = let e = links-room _ _ _ _ _ (c .before .before .before .before .before .before .before .before .before .before .before .pre .1 .0) _ _ _ (c .before .before .before .before .before .before .before .before .before .before .before .pre .1 .1) (c .before .links-of .ensures .0) (c .before .links-of .ensures .1) (now (c .before .before .before .before .before .before .before .before .before .before .before .args .floats)) refl in (e .0, (e .1 .0, (e .1 .1 .0, omega (arith, e .1 .1 .1))))
+finalize-eq-next-edge-requires t c κs = let e = links-room _ _ _ _ _ (c .before .before .before .before .before .before .before .pre .1 .0) _ _ _ (c .before .before .before .before .before .before .before .pre .1 .1) (c .before .links-of .ensures .0) (c .before .links-of .ensures .1) (now (c .before .before .before .before .before .before .before .args .floats)) refl in (e .0, (e .1 .0, (e .1 .1 .0, omega (arith, e .1 .1 .1))))
 
+-- src/lib.rt:36:9
 finalize-eq-clear-weights-requires : (t : ℕ) → finalize-eq-lts.Need-clear-weights-requires (
   links-of-reads.Asked,
   links-of-reads.Learnt,
@@ -101,8 +122,9 @@ finalize-eq-clear-weights-requires : (t : ℕ) → finalize-eq-lts.Need-clear-we
   finalize-eq-neighbors-below t,
   finalize-eq-neighbors.Post,
 ) (finalize-eq-at t) finalize-eq.Post
-finalize-eq-clear-weights-requires t c κs = clear-room _ _ _ _ _ (c .before .before .before .before .before .before .before .before .before .before .before .before .before .before .pre .1 .0) _ _ _ (c .before .before .before .before .before .before .before .before .before .before .before .before .before .before .pre .1 .1) (c .before .before .before .before .links-of .ensures .0) (c .before .before .before .before .links-of .ensures .1) (now (c .before .before .before .before .before .before .before .before .before .before .before .before .before .before .args .floats)) refl
+finalize-eq-clear-weights-requires t c κs = clear-room _ _ _ _ _ (c .before .before .before .before .before .before .before .before .before .before .pre .1 .0) _ _ _ (c .before .before .before .before .before .before .before .before .before .before .pre .1 .1) (c .before .before .before .before .links-of .ensures .0) (c .before .before .before .before .links-of .ensures .1) (now (c .before .before .before .before .before .before .before .before .before .before .args .floats)) refl
 
+-- src/lib.rt:37:9
 finalize-eq-same-length : (t : ℕ) → finalize-eq-lts.Need-same-length (
   links-of-reads.Asked,
   links-of-reads.Learnt,
@@ -117,8 +139,9 @@ finalize-eq-same-length : (t : ℕ) → finalize-eq-lts.Need-same-length (
   finalize-eq-neighbors-below t,
   finalize-eq-neighbors.Post,
 ) (finalize-eq-at t) finalize-eq.Post
-finalize-eq-same-length t c = quiet-finishes _ _ _ _ _ (c .before .before .before .before .before .before .before .before .before .before .before .before .before .before .before .before .before .pre .1 .0) _ _ _ (c .before .before .before .before .before .before .before .before .before .before .before .before .before .before .before .before .before .pre .1 .1) (c .before .before .before .before .before .before .before .links-of .ensures .0) (c .before .before .before .before .before .before .before .links-of .ensures .1) _ _ (c .before .before .before .before .before .next-edge .ensures) (c .before .before .before .before .if1 .taken) (c .before .before .clear-weights .ensures) .kept .floats
+finalize-eq-same-length t c = quiet-finishes _ _ _ _ _ (c .before .before .before .before .before .before .before .before .before .before .before .before .before .pre .1 .0) _ _ _ (c .before .before .before .before .before .before .before .before .before .before .before .before .before .pre .1 .1) (c .before .before .before .before .before .before .before .links-of .ensures .0) (c .before .before .before .before .before .before .before .links-of .ensures .1) _ _ (c .before .before .before .before .before .next-edge .ensures) (c .before .before .before .before .if1 .taken) (c .before .before .clear-weights .ensures) .kept .floats
 
+-- src/lib.rt:37:9
 finalize-eq-returns : (t : ℕ) → finalize-eq-lts.Need-returns (
   links-of-reads.Asked,
   links-of-reads.Learnt,
@@ -133,8 +156,9 @@ finalize-eq-returns : (t : ℕ) → finalize-eq-lts.Need-returns (
   finalize-eq-neighbors-below t,
   finalize-eq-neighbors.Post,
 ) (finalize-eq-at t) finalize-eq.Post
-finalize-eq-returns t c = quiet-finishes _ _ _ _ _ (c .before .before .before .before .before .before .before .before .before .before .before .before .before .before .before .before .before .pre .1 .0) _ _ _ (c .before .before .before .before .before .before .before .before .before .before .before .before .before .before .before .before .before .pre .1 .1) (c .before .before .before .before .before .before .before .links-of .ensures .0) (c .before .before .before .before .before .before .before .links-of .ensures .1) _ _ (c .before .before .before .before .before .next-edge .ensures) (c .before .before .before .before .if1 .taken) (c .before .before .clear-weights .ensures)
+finalize-eq-returns t c = quiet-finishes _ _ _ _ _ (c .before .before .before .before .before .before .before .before .before .before .before .before .before .pre .1 .0) _ _ _ (c .before .before .before .before .before .before .before .before .before .before .before .before .before .pre .1 .1) (c .before .before .before .before .before .before .before .links-of .ensures .0) (c .before .before .before .before .before .before .before .links-of .ensures .1) _ _ (c .before .before .before .before .before .next-edge .ensures) (c .before .before .before .before .if1 .taken) (c .before .before .clear-weights .ensures)
 
+-- src/lib.rt:39:5
 finalize-eq-save-requires : (t : ℕ) → finalize-eq-lts.Need-save-requires (
   links-of-reads.Asked,
   links-of-reads.Learnt,
@@ -149,8 +173,9 @@ finalize-eq-save-requires : (t : ℕ) → finalize-eq-lts.Need-save-requires (
   finalize-eq-neighbors-below t,
   finalize-eq-neighbors.Post,
 ) (finalize-eq-at t) finalize-eq.Post
-finalize-eq-save-requires t c κs = links-room _ _ _ _ _ (c .before .before .before .before .before .before .before .before .before .before .before .before .before .before .pre .1 .0) _ _ _ (c .before .before .before .before .before .before .before .before .before .before .before .before .before .before .pre .1 .1) (c .before .before .before .before .links-of .ensures .0) (c .before .before .before .before .links-of .ensures .1) (now (c .before .before .before .before .before .before .before .before .before .before .before .before .before .before .args .floats)) refl
+finalize-eq-save-requires t c κs = links-room _ _ _ _ _ (c .before .before .before .before .before .before .before .before .before .before .pre .1 .0) _ _ _ (c .before .before .before .before .before .before .before .before .before .before .pre .1 .1) (c .before .before .before .before .links-of .ensures .0) (c .before .before .before .before .links-of .ensures .1) (now (c .before .before .before .before .before .before .before .before .before .before .args .floats)) refl
 
+-- src/lib.rt:40:5
 finalize-eq-clear-weights-requires-2 : (t : ℕ) → finalize-eq-lts.Need-clear-weights-requires-2 (
   links-of-reads.Asked,
   links-of-reads.Learnt,
@@ -165,8 +190,9 @@ finalize-eq-clear-weights-requires-2 : (t : ℕ) → finalize-eq-lts.Need-clear-
   finalize-eq-neighbors-below t,
   finalize-eq-neighbors.Post,
 ) (finalize-eq-at t) finalize-eq.Post
-finalize-eq-clear-weights-requires-2 t c κs = clear-room _ _ _ _ _ (c .before .before .before .before .before .before .before .before .before .before .before .before .before .before .before .before .before .before .pre .1 .0) _ _ _ (c .before .before .before .before .before .before .before .before .before .before .before .before .before .before .before .before .before .before .pre .1 .1) (c .before .before .before .before .before .before .before .before .links-of .ensures .0) (c .before .before .before .before .before .before .before .before .links-of .ensures .1) (c .before .before .before .save .last .1 .1 .1 .1 .1 .0) (saved-size _ _ _ _ _ (c .before .before .before .before .before .before .before .before .before .before .before .before .before .before .before .before .before .before .pre .1 .0) _ _ _ (c .before .before .before .before .before .before .before .before .before .before .before .before .before .before .before .before .before .before .pre .1 .1) (c .before .before .before .before .before .before .before .before .links-of .ensures .0) (c .before .before .before .before .before .before .before .before .links-of .ensures .1) _ (c .before .before .before .save .ensures))
+finalize-eq-clear-weights-requires-2 t c κs = clear-room _ _ _ _ _ (c .before .before .before .before .before .before .before .before .before .before .before .before .before .before .pre .1 .0) _ _ _ (c .before .before .before .before .before .before .before .before .before .before .before .before .before .before .pre .1 .1) (c .before .before .before .before .before .before .before .before .links-of .ensures .0) (c .before .before .before .before .before .before .before .before .links-of .ensures .1) (c .before .before .before .save .last .1 .1 .1 .1 .1 .0) (saved-size _ _ _ _ _ (c .before .before .before .before .before .before .before .before .before .before .before .before .before .before .pre .1 .0) _ _ _ (c .before .before .before .before .before .before .before .before .before .before .before .before .before .before .pre .1 .1) (c .before .before .before .before .before .before .before .before .links-of .ensures .0) (c .before .before .before .before .before .before .before .before .links-of .ensures .1) _ (c .before .before .before .save .ensures))
 
+-- src/lib.rt:41:9
 finalize-eq-send-edges-requires : (t : ℕ) → finalize-eq-lts.Need-send-edges-requires (
   links-of-reads.Asked,
   links-of-reads.Learnt,
@@ -181,8 +207,9 @@ finalize-eq-send-edges-requires : (t : ℕ) → finalize-eq-lts.Need-send-edges-
   finalize-eq-neighbors-below t,
   finalize-eq-neighbors.Post,
 ) (finalize-eq-at t) finalize-eq.Post
-finalize-eq-send-edges-requires t c κs = (lifted-going _ _ _ _ _ (c .before .before .before .before .before .before .before .before .before .before .before .before .before .before .before .before .before .before .before .before .before .before .before .before .pre .1 .0) _ _ _ (c .before .before .before .before .before .before .before .before .before .before .before .before .before .before .before .before .before .before .before .before .before .before .before .before .pre .1 .1) (c .before .before .before .before .before .before .before .before .before .before .before .before .before .before .links-of .ensures .0) (c .before .before .before .before .before .before .before .before .before .before .before .before .before .before .links-of .ensures .1) _ (c .before .before .before .before .before .before .before .before .before .before .before .before .next-edge .ensures) (c .before .before .before .before .before .before .before .before .before .before .before .if1 .left) _ _ (c .before .before .before .before .before .before .before .before .before .save .ensures) (c .before .before .before .before .before .clear-weights2 .ensures), c .before .before .before .before .before .before .before .before .before .before .before .before .before .before .before .before .before .before .before .before .before .before .before .before .pre .1 .1)
+finalize-eq-send-edges-requires t c κs = (lifted-going _ _ _ _ _ (c .before .before .before .before .before .before .before .before .before .before .before .before .before .before .before .before .before .before .before .before .pre .1 .0) _ _ _ (c .before .before .before .before .before .before .before .before .before .before .before .before .before .before .before .before .before .before .before .before .pre .1 .1) (c .before .before .before .before .before .before .before .before .before .before .before .before .before .before .links-of .ensures .0) (c .before .before .before .before .before .before .before .before .before .before .before .before .before .before .links-of .ensures .1) _ (c .before .before .before .before .before .before .before .before .before .before .before .before .next-edge .ensures) (c .before .before .before .before .before .before .before .before .before .before .before .if1 .left) _ _ (c .before .before .before .before .before .before .before .before .before .save .ensures) (c .before .before .before .before .before .clear-weights2 .ensures), c .before .before .before .before .before .before .before .before .before .before .before .before .before .before .before .before .before .before .before .before .pre .1 .1)
 
+-- src/lib.rt:59:9
 finalize-eq-same-length-2 : (t : ℕ) → finalize-eq-lts.Need-same-length-2 (
   links-of-reads.Asked,
   links-of-reads.Learnt,
@@ -197,8 +224,9 @@ finalize-eq-same-length-2 : (t : ℕ) → finalize-eq-lts.Need-same-length-2 (
   finalize-eq-neighbors-below t,
   finalize-eq-neighbors.Post,
 ) (finalize-eq-at t) finalize-eq.Post
-finalize-eq-same-length-2 t c = sent-finishes _ _ _ _ _ (c .before .before .before .before .before .before .before .before .before .before .before .before .before .before .before .before .before .before .before .before .before .before .before .before .before .before .before .before .before .before .before .before .pre .1 .0) _ _ _ (c .before .before .before .before .before .before .before .before .before .before .before .before .before .before .before .before .before .before .before .before .before .before .before .before .before .before .before .before .before .before .before .before .pre .1 .1) (c .before .before .before .before .before .before .before .before .before .before .before .before .before .before .before .before .before .before .before .before .before .before .links-of .ensures .0) (c .before .before .before .before .before .before .before .before .before .before .before .before .before .before .before .before .before .before .before .before .before .before .links-of .ensures .1) _ (c .before .before .before .before .before .before .before .before .before .before .before .before .before .before .before .before .before .before .before .before .next-edge .ensures) (c .before .before .before .before .before .before .before .before .before .before .before .before .before .before .before .before .before .before .before .if1 .left) _ _ (c .before .before .before .before .before .before .before .before .before .before .before .before .before .before .before .before .before .save .ensures) (c .before .before .before .before .before .before .before .before .before .before .before .before .before .clear-weights2 .ensures) _ _ (c .before .before .before .before .before .before .before .send-edges .ensures) (c .if2 .taken) .kept .gas
+finalize-eq-same-length-2 t c = sent-finishes _ _ _ _ _ (c .before .before .before .before .before .before .before .before .before .before .before .before .before .before .before .before .before .before .before .before .before .before .before .before .before .before .before .before .pre .1 .0) _ _ _ (c .before .before .before .before .before .before .before .before .before .before .before .before .before .before .before .before .before .before .before .before .before .before .before .before .before .before .before .before .pre .1 .1) (c .before .before .before .before .before .before .before .before .before .before .before .before .before .before .before .before .before .before .before .before .before .before .links-of .ensures .0) (c .before .before .before .before .before .before .before .before .before .before .before .before .before .before .before .before .before .before .before .before .before .before .links-of .ensures .1) _ (c .before .before .before .before .before .before .before .before .before .before .before .before .before .before .before .before .before .before .before .before .next-edge .ensures) (c .before .before .before .before .before .before .before .before .before .before .before .before .before .before .before .before .before .before .before .if1 .left) _ _ (c .before .before .before .before .before .before .before .before .before .before .before .before .before .before .before .before .before .save .ensures) (c .before .before .before .before .before .before .before .before .before .before .before .before .before .clear-weights2 .ensures) _ _ (c .before .before .before .before .before .before .before .send-edges .ensures) (c .if2 .taken) .kept .gas
 
+-- src/lib.rt:59:9
 finalize-eq-same-length-3 : (t : ℕ) → finalize-eq-lts.Need-same-length-3 (
   links-of-reads.Asked,
   links-of-reads.Learnt,
@@ -213,8 +241,9 @@ finalize-eq-same-length-3 : (t : ℕ) → finalize-eq-lts.Need-same-length-3 (
   finalize-eq-neighbors-below t,
   finalize-eq-neighbors.Post,
 ) (finalize-eq-at t) finalize-eq.Post
-finalize-eq-same-length-3 t c = sent-finishes _ _ _ _ _ (c .before .before .before .before .before .before .before .before .before .before .before .before .before .before .before .before .before .before .before .before .before .before .before .before .before .before .before .before .before .before .before .before .pre .1 .0) _ _ _ (c .before .before .before .before .before .before .before .before .before .before .before .before .before .before .before .before .before .before .before .before .before .before .before .before .before .before .before .before .before .before .before .before .pre .1 .1) (c .before .before .before .before .before .before .before .before .before .before .before .before .before .before .before .before .before .before .before .before .before .before .links-of .ensures .0) (c .before .before .before .before .before .before .before .before .before .before .before .before .before .before .before .before .before .before .before .before .before .before .links-of .ensures .1) _ (c .before .before .before .before .before .before .before .before .before .before .before .before .before .before .before .before .before .before .before .before .next-edge .ensures) (c .before .before .before .before .before .before .before .before .before .before .before .before .before .before .before .before .before .before .before .if1 .left) _ _ (c .before .before .before .before .before .before .before .before .before .before .before .before .before .before .before .before .before .save .ensures) (c .before .before .before .before .before .before .before .before .before .before .before .before .before .clear-weights2 .ensures) _ _ (c .before .before .before .before .before .before .before .send-edges .ensures) (c .if2 .taken) .kept .floats
+finalize-eq-same-length-3 t c = sent-finishes _ _ _ _ _ (c .before .before .before .before .before .before .before .before .before .before .before .before .before .before .before .before .before .before .before .before .before .before .before .before .before .before .before .before .pre .1 .0) _ _ _ (c .before .before .before .before .before .before .before .before .before .before .before .before .before .before .before .before .before .before .before .before .before .before .before .before .before .before .before .before .pre .1 .1) (c .before .before .before .before .before .before .before .before .before .before .before .before .before .before .before .before .before .before .before .before .before .before .links-of .ensures .0) (c .before .before .before .before .before .before .before .before .before .before .before .before .before .before .before .before .before .before .before .before .before .before .links-of .ensures .1) _ (c .before .before .before .before .before .before .before .before .before .before .before .before .before .before .before .before .before .before .before .before .next-edge .ensures) (c .before .before .before .before .before .before .before .before .before .before .before .before .before .before .before .before .before .before .before .if1 .left) _ _ (c .before .before .before .before .before .before .before .before .before .before .before .before .before .before .before .before .before .save .ensures) (c .before .before .before .before .before .before .before .before .before .before .before .before .before .clear-weights2 .ensures) _ _ (c .before .before .before .before .before .before .before .send-edges .ensures) (c .if2 .taken) .kept .floats
 
+-- src/lib.rt:59:9
 finalize-eq-same-length-4 : (t : ℕ) → finalize-eq-lts.Need-same-length-4 (
   links-of-reads.Asked,
   links-of-reads.Learnt,
@@ -229,8 +258,9 @@ finalize-eq-same-length-4 : (t : ℕ) → finalize-eq-lts.Need-same-length-4 (
   finalize-eq-neighbors-below t,
   finalize-eq-neighbors.Post,
 ) (finalize-eq-at t) finalize-eq.Post
-finalize-eq-same-length-4 t c = sent-finishes _ _ _ _ _ (c .before .before .before .before .before .before .before .before .before .before .before .before .before .before .before .before .before .before .before .before .before .before .before .before .before .before .before .before .before .before .before .before .pre .1 .0) _ _ _ (c .before .before .before .before .before .before .before .before .before .before .before .before .before .before .before .before .before .before .before .before .before .before .before .before .before .before .before .before .before .before .before .before .pre .1 .1) (c .before .before .before .before .before .before .before .before .before .before .before .before .before .before .before .before .before .before .before .before .before .before .links-of .ensures .0) (c .before .before .before .before .before .before .before .before .before .before .before .before .before .before .before .before .before .before .before .before .before .before .links-of .ensures .1) _ (c .before .before .before .before .before .before .before .before .before .before .before .before .before .before .before .before .before .before .before .before .next-edge .ensures) (c .before .before .before .before .before .before .before .before .before .before .before .before .before .before .before .before .before .before .before .if1 .left) _ _ (c .before .before .before .before .before .before .before .before .before .before .before .before .before .before .before .before .before .save .ensures) (c .before .before .before .before .before .before .before .before .before .before .before .before .before .clear-weights2 .ensures) _ _ (c .before .before .before .before .before .before .before .send-edges .ensures) (c .if2 .taken) .kept .bytes
+finalize-eq-same-length-4 t c = sent-finishes _ _ _ _ _ (c .before .before .before .before .before .before .before .before .before .before .before .before .before .before .before .before .before .before .before .before .before .before .before .before .before .before .before .before .pre .1 .0) _ _ _ (c .before .before .before .before .before .before .before .before .before .before .before .before .before .before .before .before .before .before .before .before .before .before .before .before .before .before .before .before .pre .1 .1) (c .before .before .before .before .before .before .before .before .before .before .before .before .before .before .before .before .before .before .before .before .before .before .links-of .ensures .0) (c .before .before .before .before .before .before .before .before .before .before .before .before .before .before .before .before .before .before .before .before .before .before .links-of .ensures .1) _ (c .before .before .before .before .before .before .before .before .before .before .before .before .before .before .before .before .before .before .before .before .next-edge .ensures) (c .before .before .before .before .before .before .before .before .before .before .before .before .before .before .before .before .before .before .before .if1 .left) _ _ (c .before .before .before .before .before .before .before .before .before .before .before .before .before .before .before .before .before .save .ensures) (c .before .before .before .before .before .before .before .before .before .before .before .before .before .clear-weights2 .ensures) _ _ (c .before .before .before .before .before .before .before .send-edges .ensures) (c .if2 .taken) .kept .bytes
 
+-- src/lib.rt:59:9
 finalize-eq-returns-2 : (t : ℕ) → finalize-eq-lts.Need-returns-2 (
   links-of-reads.Asked,
   links-of-reads.Learnt,
@@ -245,8 +275,9 @@ finalize-eq-returns-2 : (t : ℕ) → finalize-eq-lts.Need-returns-2 (
   finalize-eq-neighbors-below t,
   finalize-eq-neighbors.Post,
 ) (finalize-eq-at t) finalize-eq.Post
-finalize-eq-returns-2 t c = sent-finishes _ _ _ _ _ (c .before .before .before .before .before .before .before .before .before .before .before .before .before .before .before .before .before .before .before .before .before .before .before .before .before .before .before .before .before .before .before .before .pre .1 .0) _ _ _ (c .before .before .before .before .before .before .before .before .before .before .before .before .before .before .before .before .before .before .before .before .before .before .before .before .before .before .before .before .before .before .before .before .pre .1 .1) (c .before .before .before .before .before .before .before .before .before .before .before .before .before .before .before .before .before .before .before .before .before .before .links-of .ensures .0) (c .before .before .before .before .before .before .before .before .before .before .before .before .before .before .before .before .before .before .before .before .before .before .links-of .ensures .1) _ (c .before .before .before .before .before .before .before .before .before .before .before .before .before .before .before .before .before .before .before .before .next-edge .ensures) (c .before .before .before .before .before .before .before .before .before .before .before .before .before .before .before .before .before .before .before .if1 .left) _ _ (c .before .before .before .before .before .before .before .before .before .before .before .before .before .before .before .before .before .save .ensures) (c .before .before .before .before .before .before .before .before .before .before .before .before .before .clear-weights2 .ensures) _ _ (c .before .before .before .before .before .before .before .send-edges .ensures) (c .if2 .taken)
+finalize-eq-returns-2 t c = sent-finishes _ _ _ _ _ (c .before .before .before .before .before .before .before .before .before .before .before .before .before .before .before .before .before .before .before .before .before .before .before .before .before .before .before .before .pre .1 .0) _ _ _ (c .before .before .before .before .before .before .before .before .before .before .before .before .before .before .before .before .before .before .before .before .before .before .before .before .before .before .before .before .pre .1 .1) (c .before .before .before .before .before .before .before .before .before .before .before .before .before .before .before .before .before .before .before .before .before .before .links-of .ensures .0) (c .before .before .before .before .before .before .before .before .before .before .before .before .before .before .before .before .before .before .before .before .before .before .links-of .ensures .1) _ (c .before .before .before .before .before .before .before .before .before .before .before .before .before .before .before .before .before .before .before .before .next-edge .ensures) (c .before .before .before .before .before .before .before .before .before .before .before .before .before .before .before .before .before .before .before .if1 .left) _ _ (c .before .before .before .before .before .before .before .before .before .before .before .before .before .before .before .before .before .save .ensures) (c .before .before .before .before .before .before .before .before .before .before .before .before .before .clear-weights2 .ensures) _ _ (c .before .before .before .before .before .before .before .send-edges .ensures) (c .if2 .taken)
 
+-- src/lib.rt:61:9
 finalize-eq-finalize-eq-neighbors-requires :
     (t : ℕ) → finalize-eq-lts.Need-finalize-eq-neighbors-requires (
       links-of-reads.Asked,
@@ -262,8 +293,9 @@ finalize-eq-finalize-eq-neighbors-requires :
       finalize-eq-neighbors-below t,
       finalize-eq-neighbors.Post,
     ) (finalize-eq-at t) finalize-eq.Post
-finalize-eq-finalize-eq-neighbors-requires t c κs = (omega (arith, c .before .before .before .before .before .before .before .before .before .before .before .before .before .before .before .before .before .before .before .before .before .before .before .before .before .before .before .before .before .before .before .before .before .before .before .pre .0, fell _ _ _ _ _ (c .before .before .before .before .before .before .before .before .before .before .before .before .before .before .before .before .before .before .before .before .before .before .before .before .before .before .before .before .before .before .before .before .before .before .before .pre .1 .0) _ _ _ (c .before .before .before .before .before .before .before .before .before .before .before .before .before .before .before .before .before .before .before .before .before .before .before .before .before .before .before .before .before .before .before .before .before .before .before .pre .1 .1) (c .before .before .before .before .before .before .before .before .before .before .before .before .before .before .before .before .before .before .before .before .before .before .before .before .before .links-of .ensures .0) (c .before .before .before .before .before .before .before .before .before .before .before .before .before .before .before .before .before .before .before .before .before .before .before .before .before .links-of .ensures .1) _ (c .before .before .before .before .before .before .before .before .before .before .before .before .before .before .before .before .before .before .before .before .before .before .before .next-edge .ensures) (c .before .before .before .before .before .before .before .before .before .before .before .before .before .before .before .before .before .before .before .before .before .before .if1 .left) _ _ (c .before .before .before .before .before .before .before .before .before .before .before .before .before .before .before .before .before .before .before .before .save .ensures) (c .before .before .before .before .before .before .before .before .before .before .before .before .before .before .before .before .clear-weights2 .ensures) _ _ (c .before .before .before .before .before .before .before .before .before .before .send-edges .ensures) (c .before .before .before .if2 .left)), (givers-begun _ _ _ _ _ (c .before .before .before .before .before .before .before .before .before .before .before .before .before .before .before .before .before .before .before .before .before .before .before .before .before .before .before .before .before .before .before .before .before .before .before .pre .1 .0) _ _ _ (c .before .before .before .before .before .before .before .before .before .before .before .before .before .before .before .before .before .before .before .before .before .before .before .before .before .before .before .before .before .before .before .before .before .before .before .pre .1 .1) (c .before .before .before .before .before .before .before .before .before .before .before .before .before .before .before .before .before .before .before .before .before .before .before .before .before .links-of .ensures .0) (c .before .before .before .before .before .before .before .before .before .before .before .before .before .before .before .before .before .before .before .before .before .before .before .before .before .links-of .ensures .1) _ (c .before .before .before .before .before .before .before .before .before .before .before .before .before .before .before .before .before .before .before .before .before .before .before .next-edge .ensures) (c .before .before .before .before .before .before .before .before .before .before .before .before .before .before .before .before .before .before .before .before .before .before .if1 .left) _ _ (c .before .before .before .before .before .before .before .before .before .before .before .before .before .before .before .before .before .before .before .before .save .ensures) (c .before .before .before .before .before .before .before .before .before .before .before .before .before .before .before .before .clear-weights2 .ensures) _ _ (c .before .before .before .before .before .before .before .before .before .before .send-edges .ensures) (c .before .before .before .if2 .left), c .before .before .before .before .before .before .before .before .before .before .before .before .before .before .before .before .before .before .before .before .before .before .before .before .before .before .before .before .before .before .before .before .before .before .before .pre .1 .1))
+finalize-eq-finalize-eq-neighbors-requires t c κs = (omega (arith, c .before .before .before .before .before .before .before .before .before .before .before .before .before .before .before .before .before .before .before .before .before .before .before .before .before .before .before .before .before .before .before .pre .0, fell _ _ _ _ _ (c .before .before .before .before .before .before .before .before .before .before .before .before .before .before .before .before .before .before .before .before .before .before .before .before .before .before .before .before .before .before .before .pre .1 .0) _ _ _ (c .before .before .before .before .before .before .before .before .before .before .before .before .before .before .before .before .before .before .before .before .before .before .before .before .before .before .before .before .before .before .before .pre .1 .1) (c .before .before .before .before .before .before .before .before .before .before .before .before .before .before .before .before .before .before .before .before .before .before .before .before .before .links-of .ensures .0) (c .before .before .before .before .before .before .before .before .before .before .before .before .before .before .before .before .before .before .before .before .before .before .before .before .before .links-of .ensures .1) _ (c .before .before .before .before .before .before .before .before .before .before .before .before .before .before .before .before .before .before .before .before .before .before .before .next-edge .ensures) (c .before .before .before .before .before .before .before .before .before .before .before .before .before .before .before .before .before .before .before .before .before .before .if1 .left) _ _ (c .before .before .before .before .before .before .before .before .before .before .before .before .before .before .before .before .before .before .before .before .save .ensures) (c .before .before .before .before .before .before .before .before .before .before .before .before .before .before .before .before .clear-weights2 .ensures) _ _ (c .before .before .before .before .before .before .before .before .before .before .send-edges .ensures) (c .before .before .before .if2 .left)), (givers-begun _ _ _ _ _ (c .before .before .before .before .before .before .before .before .before .before .before .before .before .before .before .before .before .before .before .before .before .before .before .before .before .before .before .before .before .before .before .pre .1 .0) _ _ _ (c .before .before .before .before .before .before .before .before .before .before .before .before .before .before .before .before .before .before .before .before .before .before .before .before .before .before .before .before .before .before .before .pre .1 .1) (c .before .before .before .before .before .before .before .before .before .before .before .before .before .before .before .before .before .before .before .before .before .before .before .before .before .links-of .ensures .0) (c .before .before .before .before .before .before .before .before .before .before .before .before .before .before .before .before .before .before .before .before .before .before .before .before .before .links-of .ensures .1) _ (c .before .before .before .before .before .before .before .before .before .before .before .before .before .before .before .before .before .before .before .before .before .before .before .next-edge .ensures) (c .before .before .before .before .before .before .before .before .before .before .before .before .before .before .before .before .before .before .before .before .before .before .if1 .left) _ _ (c .before .before .before .before .before .before .before .before .before .before .before .before .before .before .before .before .before .before .before .before .save .ensures) (c .before .before .before .before .before .before .before .before .before .before .before .before .before .before .before .before .clear-weights2 .ensures) _ _ (c .before .before .before .before .before .before .before .before .before .before .send-edges .ensures) (c .before .before .before .if2 .left), c .before .before .before .before .before .before .before .before .before .before .before .before .before .before .before .before .before .before .before .before .before .before .before .before .before .before .before .before .before .before .before .pre .1 .1))
 
+-- src/lib.rt:74:9
 finalize-eq-send-edges-requires-2 : (t : ℕ) → finalize-eq-lts.Need-send-edges-requires-2 (
   links-of-reads.Asked,
   links-of-reads.Learnt,
@@ -278,8 +310,9 @@ finalize-eq-send-edges-requires-2 : (t : ℕ) → finalize-eq-lts.Need-send-edge
   finalize-eq-neighbors-below t,
   finalize-eq-neighbors.Post,
 ) (finalize-eq-at t) finalize-eq.Post
-finalize-eq-send-edges-requires-2 t c κs = (rest-going _ _ _ _ _ (c .before .before .before .before .before .before .before .before .before .before .before .before .before .before .before .before .before .before .before .before .before .before .before .before .before .before .before .before .before .before .before .before .before .before .before .before .before .before .before .before .before .before .before .before .before .pre .1 .0) _ _ _ (c .before .before .before .before .before .before .before .before .before .before .before .before .before .before .before .before .before .before .before .before .before .before .before .before .before .before .before .before .before .before .before .before .before .before .before .before .before .before .before .before .before .before .before .before .before .pre .1 .1) (c .before .before .before .before .before .before .before .before .before .before .before .before .before .before .before .before .before .before .before .before .before .before .before .before .before .before .before .before .before .before .before .before .before .before .before .links-of .ensures .0) (c .before .before .before .before .before .before .before .before .before .before .before .before .before .before .before .before .before .before .before .before .before .before .before .before .before .before .before .before .before .before .before .before .before .before .before .links-of .ensures .1) _ (c .before .before .before .before .before .before .before .before .before .before .before .before .before .before .before .before .before .before .before .before .before .before .before .before .before .before .before .before .before .before .before .before .before .next-edge .ensures) (c .before .before .before .before .before .before .before .before .before .before .before .before .before .before .before .before .before .before .before .before .before .before .before .before .before .before .before .before .before .before .before .before .if1 .left) _ _ (c .before .before .before .before .before .before .before .before .before .before .before .before .before .before .before .before .before .before .before .before .before .before .before .before .before .before .before .before .before .before .save .ensures) (c .before .before .before .before .before .before .before .before .before .before .before .before .before .before .before .before .before .before .before .before .before .before .before .before .before .before .clear-weights2 .ensures) _ _ (c .before .before .before .before .before .before .before .before .before .before .before .before .before .before .before .before .before .before .before .before .send-edges .ensures) (c .before .before .before .before .before .before .before .before .before .before .before .before .before .if2 .left) _ (c .before .before .before .before .before .before .before .before .before .finalize-eq-neighbors .ensures), c .before .before .before .before .before .before .before .before .before .before .before .before .before .before .before .before .before .before .before .before .before .before .before .before .before .before .before .before .before .before .before .before .before .before .before .before .before .before .before .before .before .before .before .before .before .pre .1 .1)
+finalize-eq-send-edges-requires-2 t c κs = (rest-going _ _ _ _ _ (c .before .before .before .before .before .before .before .before .before .before .before .before .before .before .before .before .before .before .before .before .before .before .before .before .before .before .before .before .before .before .before .before .before .before .before .before .before .before .before .before .before .pre .1 .0) _ _ _ (c .before .before .before .before .before .before .before .before .before .before .before .before .before .before .before .before .before .before .before .before .before .before .before .before .before .before .before .before .before .before .before .before .before .before .before .before .before .before .before .before .before .pre .1 .1) (c .before .before .before .before .before .before .before .before .before .before .before .before .before .before .before .before .before .before .before .before .before .before .before .before .before .before .before .before .before .before .before .before .before .before .before .links-of .ensures .0) (c .before .before .before .before .before .before .before .before .before .before .before .before .before .before .before .before .before .before .before .before .before .before .before .before .before .before .before .before .before .before .before .before .before .before .before .links-of .ensures .1) _ (c .before .before .before .before .before .before .before .before .before .before .before .before .before .before .before .before .before .before .before .before .before .before .before .before .before .before .before .before .before .before .before .before .before .next-edge .ensures) (c .before .before .before .before .before .before .before .before .before .before .before .before .before .before .before .before .before .before .before .before .before .before .before .before .before .before .before .before .before .before .before .before .if1 .left) _ _ (c .before .before .before .before .before .before .before .before .before .before .before .before .before .before .before .before .before .before .before .before .before .before .before .before .before .before .before .before .before .before .save .ensures) (c .before .before .before .before .before .before .before .before .before .before .before .before .before .before .before .before .before .before .before .before .before .before .before .before .before .before .clear-weights2 .ensures) _ _ (c .before .before .before .before .before .before .before .before .before .before .before .before .before .before .before .before .before .before .before .before .send-edges .ensures) (c .before .before .before .before .before .before .before .before .before .before .before .before .before .if2 .left) _ (c .before .before .before .before .before .before .before .before .before .finalize-eq-neighbors .ensures), c .before .before .before .before .before .before .before .before .before .before .before .before .before .before .before .before .before .before .before .before .before .before .before .before .before .before .before .before .before .before .before .before .before .before .before .before .before .before .before .before .before .pre .1 .1)
 
+-- src/lib.rt:15:1
 finalize-eq-same-length-5 : (t : ℕ) → finalize-eq-lts.Need-same-length-5 (
   links-of-reads.Asked,
   links-of-reads.Learnt,
@@ -294,8 +327,9 @@ finalize-eq-same-length-5 : (t : ℕ) → finalize-eq-lts.Need-same-length-5 (
   finalize-eq-neighbors-below t,
   finalize-eq-neighbors.Post,
 ) (finalize-eq-at t) finalize-eq.Post
-finalize-eq-same-length-5 t c = rest-finishes _ _ _ _ _ (c .before .before .before .before .before .before .before .before .before .before .before .before .before .before .before .before .before .before .before .before .before .before .before .before .before .before .before .before .before .before .before .before .before .before .before .before .before .before .before .before .before .before .before .before .before .before .before .before .before .before .before .before .pre .1 .0) _ _ _ (c .before .before .before .before .before .before .before .before .before .before .before .before .before .before .before .before .before .before .before .before .before .before .before .before .before .before .before .before .before .before .before .before .before .before .before .before .before .before .before .before .before .before .before .before .before .before .before .before .before .before .before .before .pre .1 .1) (c .before .before .before .before .before .before .before .before .before .before .before .before .before .before .before .before .before .before .before .before .before .before .before .before .before .before .before .before .before .before .before .before .before .before .before .before .before .before .before .before .before .before .links-of .ensures .0) (c .before .before .before .before .before .before .before .before .before .before .before .before .before .before .before .before .before .before .before .before .before .before .before .before .before .before .before .before .before .before .before .before .before .before .before .before .before .before .before .before .before .before .links-of .ensures .1) _ (c .before .before .before .before .before .before .before .before .before .before .before .before .before .before .before .before .before .before .before .before .before .before .before .before .before .before .before .before .before .before .before .before .before .before .before .before .before .before .before .before .next-edge .ensures) (c .before .before .before .before .before .before .before .before .before .before .before .before .before .before .before .before .before .before .before .before .before .before .before .before .before .before .before .before .before .before .before .before .before .before .before .before .before .before .before .if1 .left) _ _ (c .before .before .before .before .before .before .before .before .before .before .before .before .before .before .before .before .before .before .before .before .before .before .before .before .before .before .before .before .before .before .before .before .before .before .before .before .before .save .ensures) (c .before .before .before .before .before .before .before .before .before .before .before .before .before .before .before .before .before .before .before .before .before .before .before .before .before .before .before .before .before .before .before .before .before .clear-weights2 .ensures) _ _ (c .before .before .before .before .before .before .before .before .before .before .before .before .before .before .before .before .before .before .before .before .before .before .before .before .before .before .before .send-edges .ensures) (c .before .before .before .before .before .before .before .before .before .before .before .before .before .before .before .before .before .before .before .before .if2 .left) _ (c .before .before .before .before .before .before .before .before .before .before .before .before .before .before .before .before .finalize-eq-neighbors .ensures) _ _ (c .before .before .before .before .before .before .send-edges2 .ensures) .kept .gas
+finalize-eq-same-length-5 t c = rest-finishes _ _ _ _ _ (c .before .before .before .before .before .before .before .before .before .before .before .before .before .before .before .before .before .before .before .before .before .before .before .before .before .before .before .before .before .before .before .before .before .before .before .before .before .before .before .before .before .before .before .before .before .before .before .before .pre .1 .0) _ _ _ (c .before .before .before .before .before .before .before .before .before .before .before .before .before .before .before .before .before .before .before .before .before .before .before .before .before .before .before .before .before .before .before .before .before .before .before .before .before .before .before .before .before .before .before .before .before .before .before .before .pre .1 .1) (c .before .before .before .before .before .before .before .before .before .before .before .before .before .before .before .before .before .before .before .before .before .before .before .before .before .before .before .before .before .before .before .before .before .before .before .before .before .before .before .before .before .before .links-of .ensures .0) (c .before .before .before .before .before .before .before .before .before .before .before .before .before .before .before .before .before .before .before .before .before .before .before .before .before .before .before .before .before .before .before .before .before .before .before .before .before .before .before .before .before .before .links-of .ensures .1) _ (c .before .before .before .before .before .before .before .before .before .before .before .before .before .before .before .before .before .before .before .before .before .before .before .before .before .before .before .before .before .before .before .before .before .before .before .before .before .before .before .before .next-edge .ensures) (c .before .before .before .before .before .before .before .before .before .before .before .before .before .before .before .before .before .before .before .before .before .before .before .before .before .before .before .before .before .before .before .before .before .before .before .before .before .before .before .if1 .left) _ _ (c .before .before .before .before .before .before .before .before .before .before .before .before .before .before .before .before .before .before .before .before .before .before .before .before .before .before .before .before .before .before .before .before .before .before .before .before .before .save .ensures) (c .before .before .before .before .before .before .before .before .before .before .before .before .before .before .before .before .before .before .before .before .before .before .before .before .before .before .before .before .before .before .before .before .before .clear-weights2 .ensures) _ _ (c .before .before .before .before .before .before .before .before .before .before .before .before .before .before .before .before .before .before .before .before .before .before .before .before .before .before .before .send-edges .ensures) (c .before .before .before .before .before .before .before .before .before .before .before .before .before .before .before .before .before .before .before .before .if2 .left) _ (c .before .before .before .before .before .before .before .before .before .before .before .before .before .before .before .before .finalize-eq-neighbors .ensures) _ _ (c .before .before .before .before .before .before .send-edges2 .ensures) .kept .gas
 
+-- src/lib.rt:15:1
 finalize-eq-same-length-6 : (t : ℕ) → finalize-eq-lts.Need-same-length-6 (
   links-of-reads.Asked,
   links-of-reads.Learnt,
@@ -310,8 +344,9 @@ finalize-eq-same-length-6 : (t : ℕ) → finalize-eq-lts.Need-same-length-6 (
   finalize-eq-neighbors-below t,
   finalize-eq-neighbors.Post,
 ) (finalize-eq-at t) finalize-eq.Post
-finalize-eq-same-length-6 t c = rest-finishes _ _ _ _ _ (c .before .before .before .before .before .before .before .before .before .before .before .before .before .before .before .before .before .before .before .before .before .before .before .before .before .before .before .before .before .before .before .before .before .before .before .before .before .before .before .before .before .before .before .before .before .before .before .before .before .before .before .before .pre .1 .0) _ _ _ (c .before .before .before .before .before .before .before .before .before .before .before .before .before .before .before .before .before .before .before .before .before .before .before .before .before .before .before .before .before .before .before .before .before .before .before .before .before .before .before .before .before .before .before .before .before .before .before .before .before .before .before .before .pre .1 .1) (c .before .before .before .before .before .before .before .before .before .before .before .before .before .before .before .before .before .before .before .before .before .before .before .before .before .before .before .before .before .before .before .before .before .before .before .before .before .before .before .before .before .before .links-of .ensures .0) (c .before .before .before .before .before .before .before .before .before .before .before .before .before .before .before .before .before .before .before .before .before .before .before .before .before .before .before .before .before .before .before .before .before .before .before .before .before .before .before .before .before .before .links-of .ensures .1) _ (c .before .before .before .before .before .before .before .before .before .before .before .before .before .before .before .before .before .before .before .before .before .before .before .before .before .before .before .before .before .before .before .before .before .before .before .before .before .before .before .before .next-edge .ensures) (c .before .before .before .before .before .before .before .before .before .before .before .before .before .before .before .before .before .before .before .before .before .before .before .before .before .before .before .before .before .before .before .before .before .before .before .before .before .before .before .if1 .left) _ _ (c .before .before .before .before .before .before .before .before .before .before .before .before .before .before .before .before .before .before .before .before .before .before .before .before .before .before .before .before .before .before .before .before .before .before .before .before .before .save .ensures) (c .before .before .before .before .before .before .before .before .before .before .before .before .before .before .before .before .before .before .before .before .before .before .before .before .before .before .before .before .before .before .before .before .before .clear-weights2 .ensures) _ _ (c .before .before .before .before .before .before .before .before .before .before .before .before .before .before .before .before .before .before .before .before .before .before .before .before .before .before .before .send-edges .ensures) (c .before .before .before .before .before .before .before .before .before .before .before .before .before .before .before .before .before .before .before .before .if2 .left) _ (c .before .before .before .before .before .before .before .before .before .before .before .before .before .before .before .before .finalize-eq-neighbors .ensures) _ _ (c .before .before .before .before .before .before .send-edges2 .ensures) .kept .floats
+finalize-eq-same-length-6 t c = rest-finishes _ _ _ _ _ (c .before .before .before .before .before .before .before .before .before .before .before .before .before .before .before .before .before .before .before .before .before .before .before .before .before .before .before .before .before .before .before .before .before .before .before .before .before .before .before .before .before .before .before .before .before .before .before .before .pre .1 .0) _ _ _ (c .before .before .before .before .before .before .before .before .before .before .before .before .before .before .before .before .before .before .before .before .before .before .before .before .before .before .before .before .before .before .before .before .before .before .before .before .before .before .before .before .before .before .before .before .before .before .before .before .pre .1 .1) (c .before .before .before .before .before .before .before .before .before .before .before .before .before .before .before .before .before .before .before .before .before .before .before .before .before .before .before .before .before .before .before .before .before .before .before .before .before .before .before .before .before .before .links-of .ensures .0) (c .before .before .before .before .before .before .before .before .before .before .before .before .before .before .before .before .before .before .before .before .before .before .before .before .before .before .before .before .before .before .before .before .before .before .before .before .before .before .before .before .before .before .links-of .ensures .1) _ (c .before .before .before .before .before .before .before .before .before .before .before .before .before .before .before .before .before .before .before .before .before .before .before .before .before .before .before .before .before .before .before .before .before .before .before .before .before .before .before .before .next-edge .ensures) (c .before .before .before .before .before .before .before .before .before .before .before .before .before .before .before .before .before .before .before .before .before .before .before .before .before .before .before .before .before .before .before .before .before .before .before .before .before .before .before .if1 .left) _ _ (c .before .before .before .before .before .before .before .before .before .before .before .before .before .before .before .before .before .before .before .before .before .before .before .before .before .before .before .before .before .before .before .before .before .before .before .before .before .save .ensures) (c .before .before .before .before .before .before .before .before .before .before .before .before .before .before .before .before .before .before .before .before .before .before .before .before .before .before .before .before .before .before .before .before .before .clear-weights2 .ensures) _ _ (c .before .before .before .before .before .before .before .before .before .before .before .before .before .before .before .before .before .before .before .before .before .before .before .before .before .before .before .send-edges .ensures) (c .before .before .before .before .before .before .before .before .before .before .before .before .before .before .before .before .before .before .before .before .if2 .left) _ (c .before .before .before .before .before .before .before .before .before .before .before .before .before .before .before .before .finalize-eq-neighbors .ensures) _ _ (c .before .before .before .before .before .before .send-edges2 .ensures) .kept .floats
 
+-- src/lib.rt:15:1
 finalize-eq-same-length-7 : (t : ℕ) → finalize-eq-lts.Need-same-length-7 (
   links-of-reads.Asked,
   links-of-reads.Learnt,
@@ -326,8 +361,9 @@ finalize-eq-same-length-7 : (t : ℕ) → finalize-eq-lts.Need-same-length-7 (
   finalize-eq-neighbors-below t,
   finalize-eq-neighbors.Post,
 ) (finalize-eq-at t) finalize-eq.Post
-finalize-eq-same-length-7 t c = rest-finishes _ _ _ _ _ (c .before .before .before .before .before .before .before .before .before .before .before .before .before .before .before .before .before .before .before .before .before .before .before .before .before .before .before .before .before .before .before .before .before .before .before .before .before .before .before .before .before .before .before .before .before .before .before .before .before .before .before .before .pre .1 .0) _ _ _ (c .before .before .before .before .before .before .before .before .before .before .before .before .before .before .before .before .before .before .before .before .before .before .before .before .before .before .before .before .before .before .before .before .before .before .before .before .before .before .before .before .before .before .before .before .before .before .before .before .before .before .before .before .pre .1 .1) (c .before .before .before .before .before .before .before .before .before .before .before .before .before .before .before .before .before .before .before .before .before .before .before .before .before .before .before .before .before .before .before .before .before .before .before .before .before .before .before .before .before .before .links-of .ensures .0) (c .before .before .before .before .before .before .before .before .before .before .before .before .before .before .before .before .before .before .before .before .before .before .before .before .before .before .before .before .before .before .before .before .before .before .before .before .before .before .before .before .before .before .links-of .ensures .1) _ (c .before .before .before .before .before .before .before .before .before .before .before .before .before .before .before .before .before .before .before .before .before .before .before .before .before .before .before .before .before .before .before .before .before .before .before .before .before .before .before .before .next-edge .ensures) (c .before .before .before .before .before .before .before .before .before .before .before .before .before .before .before .before .before .before .before .before .before .before .before .before .before .before .before .before .before .before .before .before .before .before .before .before .before .before .before .if1 .left) _ _ (c .before .before .before .before .before .before .before .before .before .before .before .before .before .before .before .before .before .before .before .before .before .before .before .before .before .before .before .before .before .before .before .before .before .before .before .before .before .save .ensures) (c .before .before .before .before .before .before .before .before .before .before .before .before .before .before .before .before .before .before .before .before .before .before .before .before .before .before .before .before .before .before .before .before .before .clear-weights2 .ensures) _ _ (c .before .before .before .before .before .before .before .before .before .before .before .before .before .before .before .before .before .before .before .before .before .before .before .before .before .before .before .send-edges .ensures) (c .before .before .before .before .before .before .before .before .before .before .before .before .before .before .before .before .before .before .before .before .if2 .left) _ (c .before .before .before .before .before .before .before .before .before .before .before .before .before .before .before .before .finalize-eq-neighbors .ensures) _ _ (c .before .before .before .before .before .before .send-edges2 .ensures) .kept .bytes
+finalize-eq-same-length-7 t c = rest-finishes _ _ _ _ _ (c .before .before .before .before .before .before .before .before .before .before .before .before .before .before .before .before .before .before .before .before .before .before .before .before .before .before .before .before .before .before .before .before .before .before .before .before .before .before .before .before .before .before .before .before .before .before .before .before .pre .1 .0) _ _ _ (c .before .before .before .before .before .before .before .before .before .before .before .before .before .before .before .before .before .before .before .before .before .before .before .before .before .before .before .before .before .before .before .before .before .before .before .before .before .before .before .before .before .before .before .before .before .before .before .before .pre .1 .1) (c .before .before .before .before .before .before .before .before .before .before .before .before .before .before .before .before .before .before .before .before .before .before .before .before .before .before .before .before .before .before .before .before .before .before .before .before .before .before .before .before .before .before .links-of .ensures .0) (c .before .before .before .before .before .before .before .before .before .before .before .before .before .before .before .before .before .before .before .before .before .before .before .before .before .before .before .before .before .before .before .before .before .before .before .before .before .before .before .before .before .before .links-of .ensures .1) _ (c .before .before .before .before .before .before .before .before .before .before .before .before .before .before .before .before .before .before .before .before .before .before .before .before .before .before .before .before .before .before .before .before .before .before .before .before .before .before .before .before .next-edge .ensures) (c .before .before .before .before .before .before .before .before .before .before .before .before .before .before .before .before .before .before .before .before .before .before .before .before .before .before .before .before .before .before .before .before .before .before .before .before .before .before .before .if1 .left) _ _ (c .before .before .before .before .before .before .before .before .before .before .before .before .before .before .before .before .before .before .before .before .before .before .before .before .before .before .before .before .before .before .before .before .before .before .before .before .before .save .ensures) (c .before .before .before .before .before .before .before .before .before .before .before .before .before .before .before .before .before .before .before .before .before .before .before .before .before .before .before .before .before .before .before .before .before .clear-weights2 .ensures) _ _ (c .before .before .before .before .before .before .before .before .before .before .before .before .before .before .before .before .before .before .before .before .before .before .before .before .before .before .before .send-edges .ensures) (c .before .before .before .before .before .before .before .before .before .before .before .before .before .before .before .before .before .before .before .before .if2 .left) _ (c .before .before .before .before .before .before .before .before .before .before .before .before .before .before .before .before .finalize-eq-neighbors .ensures) _ _ (c .before .before .before .before .before .before .send-edges2 .ensures) .kept .bytes
 
+-- src/lib.rt:15:1
 finalize-eq-returns-3 : (t : ℕ) → finalize-eq-lts.Need-returns-3 (
   links-of-reads.Asked,
   links-of-reads.Learnt,
@@ -342,16 +378,33 @@ finalize-eq-returns-3 : (t : ℕ) → finalize-eq-lts.Need-returns-3 (
   finalize-eq-neighbors-below t,
   finalize-eq-neighbors.Post,
 ) (finalize-eq-at t) finalize-eq.Post
-finalize-eq-returns-3 t c = rest-finishes _ _ _ _ _ (c .before .before .before .before .before .before .before .before .before .before .before .before .before .before .before .before .before .before .before .before .before .before .before .before .before .before .before .before .before .before .before .before .before .before .before .before .before .before .before .before .before .before .before .before .before .before .before .before .before .before .before .before .pre .1 .0) _ _ _ (c .before .before .before .before .before .before .before .before .before .before .before .before .before .before .before .before .before .before .before .before .before .before .before .before .before .before .before .before .before .before .before .before .before .before .before .before .before .before .before .before .before .before .before .before .before .before .before .before .before .before .before .before .pre .1 .1) (c .before .before .before .before .before .before .before .before .before .before .before .before .before .before .before .before .before .before .before .before .before .before .before .before .before .before .before .before .before .before .before .before .before .before .before .before .before .before .before .before .before .before .links-of .ensures .0) (c .before .before .before .before .before .before .before .before .before .before .before .before .before .before .before .before .before .before .before .before .before .before .before .before .before .before .before .before .before .before .before .before .before .before .before .before .before .before .before .before .before .before .links-of .ensures .1) _ (c .before .before .before .before .before .before .before .before .before .before .before .before .before .before .before .before .before .before .before .before .before .before .before .before .before .before .before .before .before .before .before .before .before .before .before .before .before .before .before .before .next-edge .ensures) (c .before .before .before .before .before .before .before .before .before .before .before .before .before .before .before .before .before .before .before .before .before .before .before .before .before .before .before .before .before .before .before .before .before .before .before .before .before .before .before .if1 .left) _ _ (c .before .before .before .before .before .before .before .before .before .before .before .before .before .before .before .before .before .before .before .before .before .before .before .before .before .before .before .before .before .before .before .before .before .before .before .before .before .save .ensures) (c .before .before .before .before .before .before .before .before .before .before .before .before .before .before .before .before .before .before .before .before .before .before .before .before .before .before .before .before .before .before .before .before .before .clear-weights2 .ensures) _ _ (c .before .before .before .before .before .before .before .before .before .before .before .before .before .before .before .before .before .before .before .before .before .before .before .before .before .before .before .send-edges .ensures) (c .before .before .before .before .before .before .before .before .before .before .before .before .before .before .before .before .before .before .before .before .if2 .left) _ (c .before .before .before .before .before .before .before .before .before .before .before .before .before .before .before .before .finalize-eq-neighbors .ensures) _ _ (c .before .before .before .before .before .before .send-edges2 .ensures)
+finalize-eq-returns-3 t c = rest-finishes _ _ _ _ _ (c .before .before .before .before .before .before .before .before .before .before .before .before .before .before .before .before .before .before .before .before .before .before .before .before .before .before .before .before .before .before .before .before .before .before .before .before .before .before .before .before .before .before .before .before .before .before .before .before .pre .1 .0) _ _ _ (c .before .before .before .before .before .before .before .before .before .before .before .before .before .before .before .before .before .before .before .before .before .before .before .before .before .before .before .before .before .before .before .before .before .before .before .before .before .before .before .before .before .before .before .before .before .before .before .before .pre .1 .1) (c .before .before .before .before .before .before .before .before .before .before .before .before .before .before .before .before .before .before .before .before .before .before .before .before .before .before .before .before .before .before .before .before .before .before .before .before .before .before .before .before .before .before .links-of .ensures .0) (c .before .before .before .before .before .before .before .before .before .before .before .before .before .before .before .before .before .before .before .before .before .before .before .before .before .before .before .before .before .before .before .before .before .before .before .before .before .before .before .before .before .before .links-of .ensures .1) _ (c .before .before .before .before .before .before .before .before .before .before .before .before .before .before .before .before .before .before .before .before .before .before .before .before .before .before .before .before .before .before .before .before .before .before .before .before .before .before .before .before .next-edge .ensures) (c .before .before .before .before .before .before .before .before .before .before .before .before .before .before .before .before .before .before .before .before .before .before .before .before .before .before .before .before .before .before .before .before .before .before .before .before .before .before .before .if1 .left) _ _ (c .before .before .before .before .before .before .before .before .before .before .before .before .before .before .before .before .before .before .before .before .before .before .before .before .before .before .before .before .before .before .before .before .before .before .before .before .before .save .ensures) (c .before .before .before .before .before .before .before .before .before .before .before .before .before .before .before .before .before .before .before .before .before .before .before .before .before .before .before .before .before .before .before .before .before .clear-weights2 .ensures) _ _ (c .before .before .before .before .before .before .before .before .before .before .before .before .before .before .before .before .before .before .before .before .before .before .before .before .before .before .before .send-edges .ensures) (c .before .before .before .before .before .before .before .before .before .before .before .before .before .before .before .before .before .before .before .before .if2 .left) _ (c .before .before .before .before .before .before .before .before .before .before .before .before .before .before .before .before .finalize-eq-neighbors .ensures) _ _ (c .before .before .before .before .before .before .send-edges2 .ensures)
 
 abbrev finalize-eq-neighbors-Inv-loop : finalize-eq-neighbors-lts.InvT-loop
-finalize-eq-neighbors-Inv-loop row zone used up gases ids mixtures starts neighbours immutable words gas₀ floats₀ bytes₀ from to now₀ k₀ gas floats bytes now k =
-    Giving (ground ids mixtures starts neighbours immutable gases) words zone up from to (areas gas₀ floats₀ bytes₀ used) k (areas gas floats bytes now)
+finalize-eq-neighbors-Inv-loop row zone used up gases rows marks words gas₀ floats₀ bytes₀ from to now₀ k₀ neighbours gas floats bytes now k =
+    Giving (boardOf rows marks gases) words zone up from to (areas gas₀ floats₀ bytes₀ used) k (areas gas floats bytes now)
 
 abbrev finalize-eq-neighbors-μ-loop : finalize-eq-neighbors-lts.MeasureT-loop
-finalize-eq-neighbors-μ-loop row zone used up gases ids mixtures starts neighbours immutable words gas₀ floats₀ bytes₀ from to now₀ k₀ gas floats bytes now k =
+finalize-eq-neighbors-μ-loop row zone used up gases rows marks words gas₀ floats₀ bytes₀ from to now₀ k₀ neighbours gas floats bytes now k =
     to - k
 
+-- src/lib.rt:111:33
+finalize-eq-neighbors-element-copy-out-links-of :
+    (t : ℕ) → finalize-eq-neighbors-lts.Need-element-copy-out-links-of (
+      links-of-reads.Asked,
+      links-of-reads.Learnt,
+      next-edge-reads.Asked,
+      next-edge-reads.Learnt,
+      finalize-eq-below t,
+      finalize-eq.Post,
+    )
+    (finalize-eq-neighbors-at t)
+    finalize-eq-neighbors.Post
+    finalize-eq-neighbors-Inv-loop
+    finalize-eq-neighbors-μ-loop
+finalize-eq-neighbors-element-copy-out-links-of t c = search needs
+
+-- src/lib.rt:111:9
 finalize-eq-neighbors-links-of-requires :
     (t : ℕ) → finalize-eq-neighbors-lts.Need-links-of-requires (
       links-of-reads.Asked,
@@ -365,8 +418,9 @@ finalize-eq-neighbors-links-of-requires :
     finalize-eq-neighbors.Post
     finalize-eq-neighbors-Inv-loop
     finalize-eq-neighbors-μ-loop
-finalize-eq-neighbors-links-of-requires t c κs = omega (arith, c .before .before .before .before .before .before .before .before .before .pre .1 .0 .ready .board .starts, c .before .before .before .before .before .before .before .before .before .pre .1 .0 .row)
+finalize-eq-neighbors-links-of-requires t c κs = omega (arith, c .before .before .before .before .before .pre .1 .0 .ready .board .starts, c .before .before .before .before .before .pre .1 .0 .row)
 
+-- src/lib.rt:115:9
 finalize-eq-neighbors-next-edge-requires :
     (t : ℕ) → finalize-eq-neighbors-lts.Need-next-edge-requires (
       links-of-reads.Asked,
@@ -380,8 +434,25 @@ finalize-eq-neighbors-next-edge-requires :
     finalize-eq-neighbors.Post
     finalize-eq-neighbors-Inv-loop
     finalize-eq-neighbors-μ-loop
-finalize-eq-neighbors-next-edge-requires t c κs = links-room _ _ _ _ _ (c .before .before .before .before .before .before .before .before .before .before .before .pre .1 .0) _ _ _ (c .before .before .before .before .before .before .before .before .before .before .before .pre .1 .1) (c .before .links-of .ensures .0) (c .before .links-of .ensures .1) (now (c .before .before .before .before .before .before .before .before .before .before .before .args .floats)) refl
+finalize-eq-neighbors-next-edge-requires t c κs = links-room _ _ _ _ _ (c .before .before .before .before .before .before .before .pre .1 .0) _ _ _ (c .before .before .before .before .before .before .before .pre .1 .1) (c .before .links-of .ensures .0) (c .before .links-of .ensures .1) (now (c .before .before .before .before .before .before .before .args .floats)) refl
 
+-- src/lib.rt:116:22
+finalize-eq-neighbors-element-copy-out-neighbours :
+    (t : ℕ) → finalize-eq-neighbors-lts.Need-element-copy-out-neighbours (
+      links-of-reads.Asked,
+      links-of-reads.Learnt,
+      next-edge-reads.Asked,
+      next-edge-reads.Learnt,
+      finalize-eq-below t,
+      finalize-eq.Post,
+    )
+    (finalize-eq-neighbors-at t)
+    finalize-eq-neighbors.Post
+    finalize-eq-neighbors-Inv-loop
+    finalize-eq-neighbors-μ-loop
+finalize-eq-neighbors-element-copy-out-neighbours t c = search needs
+
+-- src/lib.rt:117:5
 finalize-eq-neighbors-loop-holds : (t : ℕ) → finalize-eq-neighbors-lts.Need-loop-holds (
   links-of-reads.Asked,
   links-of-reads.Learnt,
@@ -394,8 +465,9 @@ finalize-eq-neighbors-loop-holds : (t : ℕ) → finalize-eq-neighbors-lts.Need-
     finalize-eq-neighbors.Post
     finalize-eq-neighbors-Inv-loop
     finalize-eq-neighbors-μ-loop
-finalize-eq-neighbors-loop-holds t c = loop-start _ _ _ _ _ (c .before .before .before .before .before .before .before .before .before .before .before .before .pre .1 .0) _ _ _ (c .before .before .before .before .before .before .before .before .before .before .before .before .pre .1 .1) (c .before .before .links-of .ensures .0) (c .before .before .links-of .ensures .1) _ (c .next-edge .ensures)
+finalize-eq-neighbors-loop-holds t c = loop-start _ _ _ _ _ (c .before .before .before .before .before .before .before .before .before .pre .1 .0) _ _ _ (c .before .before .before .before .before .before .before .before .before .pre .1 .1) (c .before .before .before .links-of .ensures .0) (c .before .before .before .links-of .ensures .1) _ (c .before .next-edge .ensures)
 
+-- src/lib.rt:119:13
 finalize-eq-neighbors-mul-finalize-eq : (t : ℕ) → finalize-eq-neighbors-lts.Need-mul-finalize-eq (
   links-of-reads.Asked,
   links-of-reads.Learnt,
@@ -408,8 +480,9 @@ finalize-eq-neighbors-mul-finalize-eq : (t : ℕ) → finalize-eq-neighbors-lts.
     finalize-eq-neighbors.Post
     finalize-eq-neighbors-Inv-loop
     finalize-eq-neighbors-μ-loop
-finalize-eq-neighbors-mul-finalize-eq t c = let e = link-below _ _ _ _ _ (c .before .before .before .before .before .before .before .before .before .before .before .before .before .before .pre .1 .0) _ _ _ (c .before .before .before .before .before .before .before .before .before .before .before .before .before .before .pre .1 .1) (c .before .before .before .before .links-of .ensures .0) (c .before .before .before .before .links-of .ensures .1) _ _ (c .before .loop .inv) (c .loop-test .taken) in omega (arith, e .0, e .1)
+finalize-eq-neighbors-mul-finalize-eq t c = let e = link-below _ _ _ _ _ (c .before .before .before .before .before .before .before .before .before .before .before .pre .1 .0) _ _ _ (c .before .before .before .before .before .before .before .before .before .before .before .pre .1 .1) (c .before .before .before .before .before .links-of .ensures .0) (c .before .before .before .before .before .links-of .ensures .1) _ _ (c .before .loop .inv) (c .loop-test .taken) in omega (arith, e .0, e .1)
 
+-- src/lib.rt:119:13
 finalize-eq-neighbors-shared-slice-read-finalize-eq :
     (t : ℕ) → finalize-eq-neighbors-lts.Need-shared-slice-read-finalize-eq (
       links-of-reads.Asked,
@@ -423,8 +496,9 @@ finalize-eq-neighbors-shared-slice-read-finalize-eq :
     finalize-eq-neighbors.Post
     finalize-eq-neighbors-Inv-loop
     finalize-eq-neighbors-μ-loop
-finalize-eq-neighbors-shared-slice-read-finalize-eq t c = link-below _ _ _ _ _ (c .before .before .before .before .before .before .before .before .before .before .before .before .before .before .before .pre .1 .0) _ _ _ (c .before .before .before .before .before .before .before .before .before .before .before .before .before .before .before .pre .1 .1) (c .before .before .before .before .before .links-of .ensures .0) (c .before .before .before .before .before .links-of .ensures .1) _ _ (c .before .before .loop .inv) (c .before .loop-test .taken) .0
+finalize-eq-neighbors-shared-slice-read-finalize-eq t c = link-below _ _ _ _ _ (c .before .before .before .before .before .before .before .before .before .before .before .before .pre .1 .0) _ _ _ (c .before .before .before .before .before .before .before .before .before .before .before .before .pre .1 .1) (c .before .before .before .before .before .before .links-of .ensures .0) (c .before .before .before .before .before .before .links-of .ensures .1) _ _ (c .before .before .loop .inv) (c .before .loop-test .taken) .0
 
+-- src/lib.rt:119:13
 finalize-eq-neighbors-cast-finalize-eq : (t : ℕ) → finalize-eq-neighbors-lts.Need-cast-finalize-eq (
   links-of-reads.Asked,
   links-of-reads.Learnt,
@@ -437,8 +511,9 @@ finalize-eq-neighbors-cast-finalize-eq : (t : ℕ) → finalize-eq-neighbors-lts
     finalize-eq-neighbors.Post
     finalize-eq-neighbors-Inv-loop
     finalize-eq-neighbors-μ-loop
-finalize-eq-neighbors-cast-finalize-eq t c = omega (arith, c .shared-slice-known7 .given (c .before .before .loop .k))
+finalize-eq-neighbors-cast-finalize-eq t c = omega (arith, c .shared-slice-known2 .given (c .before .before .loop .k))
 
+-- src/lib.rt:118:9
 finalize-eq-neighbors-finalize-eq-requires :
     (t : ℕ) → finalize-eq-neighbors-lts.Need-finalize-eq-requires (
       links-of-reads.Asked,
@@ -452,8 +527,9 @@ finalize-eq-neighbors-finalize-eq-requires :
     finalize-eq-neighbors.Post
     finalize-eq-neighbors-Inv-loop
     finalize-eq-neighbors-μ-loop
-finalize-eq-neighbors-finalize-eq-requires t c κs = (omega (arith, c .before .before .before .before .before .before .before .before .before .before .before .before .before .before .before .before .before .before .pre .0, c .before .before .before .before .before .loop .inv .made .fewer), (giver-begun _ _ _ _ _ (c .before .before .before .before .before .before .before .before .before .before .before .before .before .before .before .before .before .before .pre .1 .0) _ _ _ (c .before .before .before .before .before .before .before .before .before .before .before .before .before .before .before .before .before .before .pre .1 .1) (c .before .before .before .before .before .before .before .before .links-of .ensures .0) (c .before .before .before .before .before .before .before .before .links-of .ensures .1) _ _ (c .before .before .before .before .before .loop .inv) (c .before .before .before .before .loop-test .taken), c .before .before .before .before .before .before .before .before .before .before .before .before .before .before .before .before .before .before .pre .1 .1))
+finalize-eq-neighbors-finalize-eq-requires t c κs = (omega (arith, c .before .before .before .before .before .before .before .before .before .before .before .before .before .before .before .pre .0, c .before .before .before .before .before .loop .inv .made .fewer), (giver-begun _ _ _ _ _ (c .before .before .before .before .before .before .before .before .before .before .before .before .before .before .before .pre .1 .0) _ _ _ (c .before .before .before .before .before .before .before .before .before .before .before .before .before .before .before .pre .1 .1) (c .before .before .before .before .before .before .before .before .before .links-of .ensures .0) (c .before .before .before .before .before .before .before .before .before .links-of .ensures .1) _ _ (c .before .before .before .before .before .loop .inv) (c .before .before .before .before .loop-test .taken), c .before .before .before .before .before .before .before .before .before .before .before .before .before .before .before .pre .1 .1))
 
+-- src/lib.rt:131:36
 finalize-eq-neighbors-add-next-edge : (t : ℕ) → finalize-eq-neighbors-lts.Need-add-next-edge (
   links-of-reads.Asked,
   links-of-reads.Learnt,
@@ -466,8 +542,9 @@ finalize-eq-neighbors-add-next-edge : (t : ℕ) → finalize-eq-neighbors-lts.Ne
     finalize-eq-neighbors.Post
     finalize-eq-neighbors-Inv-loop
     finalize-eq-neighbors-μ-loop
-finalize-eq-neighbors-add-next-edge t c = let e = link-below _ _ _ _ _ (c .before .before .before .before .before .before .before .before .before .before .before .before .before .before .before .before .before .before .before .before .before .before .before .before .before .pre .1 .0) _ _ _ (c .before .before .before .before .before .before .before .before .before .before .before .before .before .before .before .before .before .before .before .before .before .before .before .before .before .pre .1 .1) (c .before .before .before .before .before .before .before .before .before .before .before .before .before .before .before .links-of .ensures .0) (c .before .before .before .before .before .before .before .before .before .before .before .before .before .before .before .links-of .ensures .1) _ _ (c .before .before .before .before .before .before .before .before .before .before .before .before .loop .inv) (c .before .before .before .before .before .before .before .before .before .before .before .loop-test .taken) in omega (arith, e .0, e .1)
+finalize-eq-neighbors-add-next-edge t c = let e = link-below _ _ _ _ _ (c .before .before .before .before .before .before .before .before .before .before .before .before .before .before .before .before .before .before .before .before .before .before .pre .1 .0) _ _ _ (c .before .before .before .before .before .before .before .before .before .before .before .before .before .before .before .before .before .before .before .before .before .before .pre .1 .1) (c .before .before .before .before .before .before .before .before .before .before .before .before .before .before .before .before .links-of .ensures .0) (c .before .before .before .before .before .before .before .before .before .before .before .before .before .before .before .before .links-of .ensures .1) _ _ (c .before .before .before .before .before .before .before .before .before .before .before .before .loop .inv) (c .before .before .before .before .before .before .before .before .before .before .before .loop-test .taken) in omega (arith, e .0, e .1)
 
+-- src/lib.rt:131:9
 finalize-eq-neighbors-next-edge-requires-2 :
     (t : ℕ) → finalize-eq-neighbors-lts.Need-next-edge-requires-2 (
       links-of-reads.Asked,
@@ -481,8 +558,9 @@ finalize-eq-neighbors-next-edge-requires-2 :
     finalize-eq-neighbors.Post
     finalize-eq-neighbors-Inv-loop
     finalize-eq-neighbors-μ-loop
-finalize-eq-neighbors-next-edge-requires-2 t c κs = edge-room _ _ _ _ _ (c .before .before .before .before .before .before .before .before .before .before .before .before .before .before .before .before .before .before .before .before .before .before .before .before .before .before .pre .1 .0) _ _ _ (c .before .before .before .before .before .before .before .before .before .before .before .before .before .before .before .before .before .before .before .before .before .before .before .before .before .before .pre .1 .1) (c .before .before .before .before .before .before .before .before .before .before .before .before .before .before .before .before .links-of .ensures .0) (c .before .before .before .before .before .before .before .before .before .before .before .before .before .before .before .before .links-of .ensures .1) _ _ (c .before .before .before .before .before .before .before .before .before .before .before .before .before .loop .inv) (c .before .before .before .before .before .before .before .before .before .before .before .before .loop-test .taken) (c .before .before .before .before .before .before .before .finalize-eq .last .1 .1 .1 .1 .1 .1 .1 .1 .1 .1 .1 .1 .0) (c .before .before .before .before .before .before .before .finalize-eq .ensures .kept .floats)
+finalize-eq-neighbors-next-edge-requires-2 t c κs = edge-room _ _ _ _ _ (c .before .before .before .before .before .before .before .before .before .before .before .before .before .before .before .before .before .before .before .before .before .before .before .pre .1 .0) _ _ _ (c .before .before .before .before .before .before .before .before .before .before .before .before .before .before .before .before .before .before .before .before .before .before .before .pre .1 .1) (c .before .before .before .before .before .before .before .before .before .before .before .before .before .before .before .before .before .links-of .ensures .0) (c .before .before .before .before .before .before .before .before .before .before .before .before .before .before .before .before .before .links-of .ensures .1) _ _ (c .before .before .before .before .before .before .before .before .before .before .before .before .before .loop .inv) (c .before .before .before .before .before .before .before .before .before .before .before .before .loop-test .taken) (c .before .before .before .before .before .before .before .finalize-eq .last .1 .1 .1 .1 .1 .1 .1 .1 .1 .0) (c .before .before .before .before .before .before .before .finalize-eq .ensures .kept .floats)
 
+-- src/lib.rt:117:5
 finalize-eq-neighbors-loop-less : (t : ℕ) → finalize-eq-neighbors-lts.Need-loop-less (
   links-of-reads.Asked,
   links-of-reads.Learnt,
@@ -497,6 +575,7 @@ finalize-eq-neighbors-loop-less : (t : ℕ) → finalize-eq-neighbors-lts.Need-l
     finalize-eq-neighbors-μ-loop
 finalize-eq-neighbors-loop-less t c = omega (arith, c .next-edge2 .ensures .low, c .before .before .before .before .before .before .before .before .before .before .before .before .before .loop-test .taken)
 
+-- src/lib.rt:117:5
 finalize-eq-neighbors-loop-again : (t : ℕ) → finalize-eq-neighbors-lts.Need-loop-again (
   links-of-reads.Asked,
   links-of-reads.Learnt,
@@ -509,8 +588,9 @@ finalize-eq-neighbors-loop-again : (t : ℕ) → finalize-eq-neighbors-lts.Need-
     finalize-eq-neighbors.Post
     finalize-eq-neighbors-Inv-loop
     finalize-eq-neighbors-μ-loop
-finalize-eq-neighbors-loop-again t c = loop-next _ _ _ _ _ (c .before .before .before .before .before .before .before .before .before .before .before .before .before .before .before .before .before .before .before .before .before .before .before .before .before .before .before .pre .1 .0) _ _ _ (c .before .before .before .before .before .before .before .before .before .before .before .before .before .before .before .before .before .before .before .before .before .before .before .before .before .before .before .pre .1 .1) (c .before .before .before .before .before .before .before .before .before .before .before .before .before .before .before .before .before .links-of .ensures .0) (c .before .before .before .before .before .before .before .before .before .before .before .before .before .before .before .before .before .links-of .ensures .1) _ _ (c .before .before .before .before .before .before .before .before .before .before .before .before .before .before .loop .inv) (c .before .before .before .before .before .before .before .before .before .before .before .before .before .loop-test .taken) _ _ (c .before .before .before .before .before .before .before .before .finalize-eq .ensures) (c .next-edge2 .ensures)
+finalize-eq-neighbors-loop-again t c = loop-next _ _ _ _ _ (c .before .before .before .before .before .before .before .before .before .before .before .before .before .before .before .before .before .before .before .before .before .before .before .before .pre .1 .0) _ _ _ (c .before .before .before .before .before .before .before .before .before .before .before .before .before .before .before .before .before .before .before .before .before .before .before .before .pre .1 .1) (c .before .before .before .before .before .before .before .before .before .before .before .before .before .before .before .before .before .before .links-of .ensures .0) (c .before .before .before .before .before .before .before .before .before .before .before .before .before .before .before .before .before .before .links-of .ensures .1) _ _ (c .before .before .before .before .before .before .before .before .before .before .before .before .before .before .loop .inv) (c .before .before .before .before .before .before .before .before .before .before .before .before .before .loop-test .taken) _ _ (c .before .before .before .before .before .before .before .before .finalize-eq .ensures) (c .next-edge2 .ensures)
 
+-- src/lib.rt:94:1
 finalize-eq-neighbors-same-length : (t : ℕ) → finalize-eq-neighbors-lts.Need-same-length (
   links-of-reads.Asked,
   links-of-reads.Learnt,
@@ -525,6 +605,7 @@ finalize-eq-neighbors-same-length : (t : ℕ) → finalize-eq-neighbors-lts.Need
     finalize-eq-neighbors-μ-loop
 finalize-eq-neighbors-same-length t c = c .before .loop .inv .made .kept .gas
 
+-- src/lib.rt:94:1
 finalize-eq-neighbors-same-length-2 : (t : ℕ) → finalize-eq-neighbors-lts.Need-same-length-2 (
   links-of-reads.Asked,
   links-of-reads.Learnt,
@@ -539,6 +620,7 @@ finalize-eq-neighbors-same-length-2 : (t : ℕ) → finalize-eq-neighbors-lts.Ne
     finalize-eq-neighbors-μ-loop
 finalize-eq-neighbors-same-length-2 t c = c .before .loop .inv .made .kept .floats
 
+-- src/lib.rt:94:1
 finalize-eq-neighbors-same-length-3 : (t : ℕ) → finalize-eq-neighbors-lts.Need-same-length-3 (
   links-of-reads.Asked,
   links-of-reads.Learnt,
@@ -553,6 +635,7 @@ finalize-eq-neighbors-same-length-3 : (t : ℕ) → finalize-eq-neighbors-lts.Ne
     finalize-eq-neighbors-μ-loop
 finalize-eq-neighbors-same-length-3 t c = c .before .loop .inv .made .kept .bytes
 
+-- src/lib.rt:94:1
 finalize-eq-neighbors-returns : (t : ℕ) → finalize-eq-neighbors-lts.Need-returns (
   links-of-reads.Asked,
   links-of-reads.Learnt,
@@ -565,7 +648,7 @@ finalize-eq-neighbors-returns : (t : ℕ) → finalize-eq-neighbors-lts.Need-ret
     finalize-eq-neighbors.Post
     finalize-eq-neighbors-Inv-loop
     finalize-eq-neighbors-μ-loop
-finalize-eq-neighbors-returns t c = givers-finished _ _ _ _ _ (c .before .before .before .before .before .before .before .before .before .before .before .before .before .before .pre .1 .0) _ _ _ (c .before .before .before .before .before .before .before .before .before .before .before .before .before .before .pre .1 .1) (c .before .before .before .before .links-of .ensures .0) (c .before .before .before .before .links-of .ensures .1) _ _ (c .before .loop .inv) (c .loop-test .left)
+finalize-eq-neighbors-returns t c = givers-finished _ _ _ _ _ (c .before .before .before .before .before .before .before .before .before .before .before .pre .1 .0) _ _ _ (c .before .before .before .before .before .before .before .before .before .before .before .pre .1 .1) (c .before .before .before .before .before .links-of .ensures .0) (c .before .before .before .before .before .links-of .ensures .1) _ _ (c .before .loop .inv) (c .loop-test .left)
 
 pub +finalize-eq+finalize-eq-neighbors-spec : {M : Type 1} → statement M
 +finalize-eq+finalize-eq-neighbors-spec =
@@ -585,6 +668,7 @@ pub +finalize-eq+finalize-eq-neighbors-spec : {M : Type 1} → statement M
     )
     (finalize-eq-at t)
     finalize-eq.Post
+    (finalize-eq-element-copy-out-links-of t)
     (finalize-eq-links-of-requires t)
     (finalize-eq-next-edge-requires t)
     (finalize-eq-clear-weights-requires t)
@@ -615,8 +699,10 @@ pub +finalize-eq+finalize-eq-neighbors-spec : {M : Type 1} → statement M
     finalize-eq-neighbors.Post
     finalize-eq-neighbors-Inv-loop
     finalize-eq-neighbors-μ-loop
+    (finalize-eq-neighbors-element-copy-out-links-of t)
     (finalize-eq-neighbors-links-of-requires t)
     (finalize-eq-neighbors-next-edge-requires t)
+    (finalize-eq-neighbors-element-copy-out-neighbours t)
     (finalize-eq-neighbors-loop-holds t)
     (finalize-eq-neighbors-mul-finalize-eq t)
     (finalize-eq-neighbors-shared-slice-read-finalize-eq t)
