@@ -1,5 +1,6 @@
--- A move of air gas by gas: the first i gases are moved and the others stand, so that a turn moves one more and the last one all. Assumes nothing.
-use Prim.Native.Nat.{ℕ, zero, suc, _+_, _-_, _*_, _≤_, _<_}
+-- A mixture's new amounts are stored one by one over its part of the list. A removal and a merge store in parts that lie apart, so either may come first.
+-- Assumes nothing.
+use Prim.Native.Nat.{ℕ, zero, suc, _+_, _*_, _≤_, _<_}
 use native.Mathlib.Omega.{arith}
 use native.Mathlib.Nat.{not-suc-le-zero, le-of-suc-le-suc}
 use native.Mathlib.Decide.{decLt}
@@ -7,16 +8,18 @@ use mathlib.Core.Path.{_≡_, refl, ap, ap₂, sym, _∙_, subst}
 use mathlib.Core.Logic.{inl, inr}
 use mathlib.Core.List.{List, [], _∷_, _++_, map, append-nil}
 use mathlib.Core.Bool.{Bool, true, false, not, cond}
-use lib.ListN.{length, getD, take, drop, replicate, length-drop, length-map, drop-of-length-le}
-use lib.Seq.{drop-drop, paste, paste-zero, length-paste, length-take-le, getD-take, getD-drop}
+use lib.ListN.{length, getD, set, take, drop, replicate, length-map, drop-of-length-le}
+use lib.Seq.{drop-drop, paste, paste-zero, paste-suc, length-paste, getD-take, getD-drop}
 use lib.Dec.{eqb}
 use lib.Ieee.{Float, nan}
 use Rattle.basics.specs.Floats.{0f, 1f, _+f_, _*f_, _-f_}
 use Rattle.basics.proofs.Stores.{Far, paste-far, paste-set, paste-next, paste-all}
 use Rattle.board_rules.specs.Board.{Board, immutableMix}
-use Rattle.mixture_rules.specs.Mixture.{sum, scale, plus, ratio, remove, part, putPart, amounts, change, totalMix, moveAir, clearAir}
-use Rattle.mixture.specs.Moves.{Holds, setIf, moveGas}
-use Rattle.mixture.proofs.Parts.{before, plus-length}
+use Rattle.mixture_rules.specs.Mixture.{scale, plus, ratio, remove, part, putPart, amounts, change, totalMix, moveAir, clearAir}
+use Rattle.mixture.specs.Moves.{Holds, merged, removed}
+use Rattle.mixture.proofs.Parts.{before, part-length, plus-length, Full, Has, scaled-full, plus-full, change-apart}
+
+-- ---- what stands at a place
 
 scale-at : (q : Float) (xs : List Float) (i : ℕ) → i < length xs → getD (scale q xs) i nan ≡ getD xs i nan *f q
 unfolding scale
@@ -35,190 +38,164 @@ plus-at (x ∷ xs) [] i h k = absurd (not-suc-le-zero k)
 plus-at (x ∷ xs) (y ∷ ys) zero h k = refl
 plus-at (x ∷ xs) (y ∷ ys) (suc i) h k = plus-at xs ys i (le-of-suc-le-suc h) (le-of-suc-le-suc k)
 
-module _ (w : List Float) (g m : ℕ) (h : Holds w g m) where
-  held-length : length (part g m w) ≡ g
-  held-length = length-take-le g (drop (m * g) w) (subst (λ (k : ℕ). g ≤ k) (sym (length-drop (m * g) w)) (omega arith))
+part-at : (w : List Float) (g m i : ℕ) → i < g → getD (part g m w) i nan ≡ getD w (m * g + i) nan
+part-at w g m i k = getD-take g (drop (m * g) w) i nan k ∙ getD-drop (m * g) w i nan
 
-  held-at : (i : ℕ) → i < g → getD (part g m w) i nan ≡ getD w (m * g + i) nan
-  held-at i k = getD-take g (drop (m * g) w) i nan k ∙ getD-drop (m * g) w i nan
-
-far : (g m n i k : ℕ) → (m ≡ n → ⊥) → i < g → k ≤ g → Far (n * g) k (m * g + i)
-far g m n i k ne hi hk = go (decLt m n) (decLt n m)
+-- the i-th place of m is none of the first k of n
+far : (g m n i k : ℕ) → i < g → k ≤ g → (m ≡ n → k ≤ i) → Far (n * g) k (m * g + i)
+far g m n i k hi hk f = go (decLt m n) (decLt n m)
   where
     go : Dec (m < n) → Dec (n < m) → Far (n * g) k (m * g + i)
     go (yes l) d = let b = before g l in inl (omega arith)
     go (no l) (yes l′) = let b = before g l′ in inr (omega arith)
-    go (no l) (no l′) = absurd (ne (omega arith))
+    go (no l) (no l′) =
+        let e : m ≡ n = omega arith in
+        let j : k ≤ i = f e in
+        inr (subst (λ (x : ℕ). n * g + k ≤ x * g + i) (sym e) (omega arith))
 
--- the first n of the new amounts are stored from `at` on, where the test passed
-abbrev over : Bool → ℕ → List Float → ℕ → List Float → List Float
-over t at new n d = cond t (paste d at new n) d
+-- ---- stores one by one
 
-module _ (t : Bool) (at : ℕ) (new : List Float) where
-  over-none : (d : List Float) → over t at new 0 d ≡ d
-  over-none d = go t
-    where
-      go : (t : Bool) → over t at new 0 d ≡ d
-      go true = sym (paste-zero d at new)
-      go false = refl
+module _ (w : List Float) (g m : ℕ) (new : List Float) where
+  -- the first i new amounts are stored
+  unfoldable pub stored : ℕ → List Float
+  stored i = paste w (m * g) new i
 
-  module _ (n : ℕ) (d : List Float) (hd : at + n ≤ length d) (hs : n ≤ length new) where
-    over-length : length (over t at new n d) ≡ length d
-    over-length = go t
-      where
-        go : (t : Bool) → length (over t at new n d) ≡ length d
-        go true = length-paste d at new n hd hs
-        go false = refl
+  pub stored-none : w ≡ stored 0
+  unfolding stored
+  stored-none = paste-zero w (m * g) new
 
-    over-far : (j : ℕ) → Far at n j → getD (over t at new n d) j nan ≡ getD d j nan
-    over-far j f = go t
-      where
-        go : (t : Bool) → getD (over t at new n d) j nan ≡ getD d j nan
-        go true = paste-far d at new n hd hs j nan f
-        go false = refl
+  module _ (h : Holds w g m) (l : length new ≡ g) where
+    -- the places that are still to come, and those of other mixtures, are as they were
+    stored-at : (i n : ℕ) → i < g → getD (stored i) (n * g + i) nan ≡ getD w (n * g + i) nan
+    unfolding stored
+    stored-at i n k = paste-far w (m * g) new i (omega arith) (omega arith) (n * g + i) nan (far g n m i i k (omega arith) (λ e. omega arith))
 
-    over-set : (u : Bool) (j : ℕ) (x : Float) → Far at n j → setIf u j x (over t at new n d) ≡ over t at new n (setIf u j x d)
-    over-set u j x f = go t u
-      where
-        go : (t u : Bool) → setIf u j x (over t at new n d) ≡ over t at new n (setIf u j x d)
-        go true true = paste-set d at new n hd hs j x f
-        go true false = refl
-        go false u = refl
+    stored-next : (i : ℕ) (x : Float) → i < g → x ≡ getD new i nan → set (stored i) (m * g + i) x ≡ stored (i + 1)
+    unfolding stored
+    stored-next i x k e = rw e (paste-next w (m * g) new i nan (omega arith) (omega arith))
 
-  over-next : (i : ℕ) (d : List Float) (x : Float) → at + i < length d → i < length new → x ≡ getD new i nan
-      → setIf t (at + i) x (over t at new i d) ≡ over t at new (i + 1) d
-  over-next i d x hd hs e = go t
-    where
-      go : (t : Bool) → setIf t (at + i) x (over t at new i d) ≡ over t at new (i + 1) d
-      go true = rw e (paste-next d at new i nan hd hs)
-      go false = refl
+    stored-all : (b : Board) → b .gases ≡ g → immutableMix b m ≡ false → stored g ≡ change b m new w
+    unfolding stored change
+    stored-all b e i = paste-all w (m * g) new g l ∙ rw (i, e)
 
-module _ (w : List Float) (g giver taker : ℕ) (goes stays : Float) (loses gains : Bool) where
+-- ---- a removal, and a merge
+
+module _ (w : List Float) (g giver : ℕ) (goes : Float) where
   abbrev kept : List Float
-  kept = scale stays (part g giver w)
+  kept = scale (1f -f goes) (part g giver w)
 
-  abbrev left : ℕ → List Float
-  left i = over loses (giver * g) kept i w
+  -- the first i amounts are what stays of them
+  abbrev pub staying : ℕ → List Float
+  staying i = stored w g giver kept i
 
-  abbrev got : List Float
-  got = plus (part g taker (left g)) (scale goes (part g giver w))
-
-  -- the first i gases are moved
-  unfoldable pub moved : ℕ → List Float
-  moved i = over gains (taker * g) got i (left i)
-
-  pub moved-none : moved 0 ≡ w
-  unfolding moved
-  moved-none = over-none gains (taker * g) got (left 0) ∙ over-none loses (giver * g) kept w
-
-  module _ (hg : Holds w g giver) (ht : Holds w g taker) where
+  module _ (h : Holds w g giver) where
     kept-length : length kept ≡ g
-    kept-length = scale-length stays (part g giver w) ∙ held-length w g giver hg
+    kept-length = scale-length (1f -f goes) (part g giver w) ∙ part-length g w giver h
 
-    left-length : (i : ℕ) → i ≤ g → length (left i) ≡ length w
-    left-length i h = let k = kept-length in over-length loses (giver * g) kept i w (omega arith) (omega arith)
+    pub staying-next : (v : List Float) (i : ℕ) → i < g → v ≡ staying i
+        → set v (giver * g + i) (getD v (giver * g + i) nan *f (1f -f goes)) ≡ staying (i + 1)
+    staying-next v i k e =
+        let l = part-length g w giver h in
+        rw e (stored-next w g giver kept h kept-length i _ k
+        (ap (λ (x : Float). x *f (1f -f goes)) (stored-at w g giver kept h kept-length i giver k ∙ sym (part-at w g giver i k))
+        ∙ sym (scale-at (1f -f goes) (part g giver w) i (omega arith))))
 
-    left-holds : Holds (left g) g taker
-    left-holds = let l = left-length g (omega arith) in omega arith
+    pub staying-all : (b : Board) → b .gases ≡ g → immutableMix b giver ≡ false → staying g ≡ removed b giver goes w
+    unfolding amounts
+    staying-all b e i = stored-all w g giver kept h kept-length b e i ∙ rw e
 
-    got-length : length got ≡ g
-    got-length = plus-length (part g taker (left g)) (scale goes (part g giver w)) ∙ held-length (left g) g taker left-holds
+  module _ (taker : ℕ) where
+    abbrev got : List Float
+    got = plus (part g taker w) (scale goes (part g giver w))
 
-    pub moved-length : (i : ℕ) → i ≤ g → length (moved i) ≡ length w
-    unfolding moved
-    moved-length i h =
-        let l = left-length i h in
-        let k = got-length in
-        over-length gains (taker * g) got i (left i) (omega arith) (omega arith) ∙ l
+    -- what goes is added to the taker's first i amounts
+    abbrev pub joining : ℕ → List Float
+    joining i = stored w g taker got i
 
-    module _ (ne : giver ≡ taker → ⊥) (i : ℕ) (h : i < g) where
-      abbrev I : ℕ
-      I = giver * g + i
+    module _ (hg : Holds w g giver) (ht : Holds w g taker) where
+      got-length : length got ≡ g
+      got-length = plus-length (part g taker w) (scale goes (part g giver w)) ∙ part-length g w taker ht
 
-      abbrev J : ℕ
-      J = taker * g + i
+      pub joining-next : (v : List Float) (i : ℕ) → i < g → v ≡ joining i
+          → set v (taker * g + i) (getD v (taker * g + i) nan +f getD v (giver * g + i) nan *f goes) ≡ joining (i + 1)
+      joining-next v i k e =
+          let p = part-length g w giver hg in
+          let q = part-length g w taker ht in
+          let r = scale-length goes (part g giver w) in
+          let at : (n : ℕ) → getD (joining i) (n * g + i) nan ≡ getD (part g n w) i nan =
+          λ n. stored-at w g taker got ht got-length i n k ∙ sym (part-at w g n i k) in
+          rw e (stored-next w g taker got ht got-length i _ k
+          (ap₂ (λ (x y : Float). x +f y *f goes) (at taker) (at giver)
+          ∙ ap (λ (y : Float). getD (part g taker w) i nan +f y) (sym (scale-at goes (part g giver w) i (omega arith)))
+          ∙ sym (plus-at (part g taker w) (scale goes (part g giver w)) i (omega arith) (omega arith))))
 
-      -- what the giver has, and what stays of it
-      given : getD (part g giver w) i nan ≡ getD w I nan
-      given = held-at w g giver hg i h
+      pub joining-all : (b : Board) → b .gases ≡ g → immutableMix b taker ≡ false → joining g ≡ merged b giver taker goes w
+      unfolding amounts
+      joining-all b e i = stored-all w g taker got ht got-length b e i ∙ rw e
 
-      left-at : (k : ℕ) → k ≤ g → getD (left k) J nan ≡ getD w J nan
-      left-at k l = let e = kept-length in over-far loses (giver * g) kept k w (omega arith) (omega arith) J (far g taker giver i k (λ q. ne (sym q)) h l)
+-- ---- stores that lie apart
 
-      read : getD (over gains (taker * g) got i (left i)) I nan ≡ getD w I nan
-      read =
-          let l = left-length i (omega arith) in
-          let k = kept-length in
-          let n = got-length in
-          over-far gains (taker * g) got i (left i) (omega arith) (omega arith) I (far g giver taker i i ne h (omega arith))
-          ∙ over-far loses (giver * g) kept i w (omega arith) (omega arith) I (inr (omega arith))
+module _ (d : List Float) (p : ℕ) (s : List Float) (n : ℕ) (hd : p + n ≤ length d) (hs : n ≤ length s) (q : ℕ) (t : List Float) where
+  paste-paste : (i : ℕ) → q + i ≤ length d → i ≤ length t → ((j : ℕ) → j < i → Far p n (q + j))
+      → paste (paste d p s n) q t i ≡ paste (paste d q t i) p s n
+  paste-paste zero h k f = sym (paste-zero (paste d p s n) q t) ∙ ap (λ (x : List Float). paste x p s n) (paste-zero d q t)
+  paste-paste (suc i) h k f =
+      let l = length-paste d p s n hd hs in
+      let m = length-paste d q t i (omega arith) (omega arith) in
+      sym (paste-suc (paste d p s n) q t i nan (omega arith) (omega arith))
+      ∙ ap (λ (x : List Float). set x (q + i) (getD t i nan)) (paste-paste i (omega arith) (omega arith) (λ j u. f j (omega arith)))
+      ∙ paste-set (paste d q t i) p s n (omega arith) hs (q + i) (getD t i nan) (f i (omega arith))
+      ∙ ap (λ (x : List Float). paste x p s n) (paste-suc d q t i nan (omega arith) (omega arith))
 
-      lost : (x : Float) → x ≡ getD w I nan → setIf loses I (x *f stays) (over gains (taker * g) got i (left i)) ≡ over gains (taker * g) got i (left (i + 1))
-      lost x e =
-          let l = left-length i (omega arith) in
-          let k = kept-length in
-          let n = got-length in
-          over-set gains (taker * g) got i (left i) (omega arith) (omega arith) loses I (x *f stays) (far g giver taker i i ne h (omega arith))
-          ∙ ap (over gains (taker * g) got i)
-          (over-next loses (giver * g) kept i w (x *f stays) (omega arith) (omega arith)
-          (ap (λ (y : Float). y *f stays) (e ∙ sym given) ∙ sym (scale-at stays (part g giver w) i (let p = held-length w g giver hg in omega arith))))
+module _ (b : Board) (m n : ℕ) (ne : m ≡ n → ⊥) (w : List Float) (hm : Has b w m) (hn : Has b w n) (x y : List Float) (lx : Full b x) (ly : Full b y) where
+  put-put : putPart (b .gases) m x (putPart (b .gases) n y w) ≡ putPart (b .gases) n y (putPart (b .gases) m x w)
+  put-put =
+      let g = b .gases in
+      ap (putPart g m x) (sym (paste-all w (n * g) y g ly))
+      ∙ sym (paste-all (paste w (n * g) y g) (m * g) x g lx)
+      ∙ paste-paste w (n * g) y g (omega arith) (omega arith) (m * g) x g (omega arith) (omega arith)
+      (λ j u. far g m n j g u (omega arith) (λ e. absurd (ne e)))
+      ∙ paste-all (paste w (m * g) x g) (n * g) y g ly
+      ∙ ap (putPart g n y) (paste-all w (m * g) x g lx)
 
-      gained : (x y : Float) → x ≡ getD w I nan → y ≡ getD (over gains (taker * g) got i (left (i + 1))) J nan
-          → setIf gains J (y +f x *f goes) (over gains (taker * g) got i (left (i + 1))) ≡ over gains (taker * g) got (i + 1) (left (i + 1))
-      gained x y ex ey =
-          let l = left-length (i + 1) (omega arith) in
-          let n = got-length in
-          let p = held-length w g giver hg in
-          let q = scale-length goes (part g giver w) in
-          let r = held-length (left g) g taker left-holds in
-          let there : y ≡ getD (part g taker (left g)) i nan =
-          ey ∙ over-far gains (taker * g) got i (left (i + 1)) (omega arith) (omega arith) J (inr (omega arith)) ∙ left-at (i + 1) (omega arith)
-          ∙ sym (held-at (left g) g taker left-holds i h ∙ left-at g (omega arith)) in
-          over-next gains (taker * g) got i (left (i + 1)) (y +f x *f goes) (omega arith) (omega arith)
-          (ap₂ (λ (a c : Float). a +f c) there (ap (λ (a : Float). a *f goes) (ex ∙ sym given) ∙ sym (scale-at goes (part g giver w) i (omega arith)))
-          ∙ sym (plus-at (part g taker (left g)) (scale goes (part g giver w)) i (omega arith) (omega arith)))
+  change-change : change b m x (change b n y w) ≡ change b n y (change b m x w)
+  unfolding change
+  change-change = go (immutableMix b m) (immutableMix b n)
+    where
+      go : (t u : Bool) → cond t (cond u w (putPart (b .gases) n y w)) (putPart (b .gases) m x (cond u w (putPart (b .gases) n y w)))
+          ≡ cond u (cond t w (putPart (b .gases) m x w)) (putPart (b .gases) n y (cond t w (putPart (b .gases) m x w)))
+      go true u = refl
+      go false true = refl
+      go false false = put-put
 
-      moved-suc : moveGas loses gains goes stays I J (moved i) ≡ moved (i + 1)
-      unfolding moved
-      moved-suc =
-          let s : List Float = over gains (taker * g) got i (left i) in
-          let x : Float = getD s I nan in
-          let e = lost x read in
-          ap (λ (l : List Float). setIf gains J (getD l J nan +f x *f goes) l) e
-          ∙ gained x (getD (over gains (taker * g) got i (left (i + 1))) J nan) read refl
+-- a merge and then a removal are a move
+pub moved : (b : Board) (giver taker : ℕ) → (giver ≡ taker → ⊥) → (w : List Float) (g : ℕ) → b .gases ≡ g → Holds w g giver → Holds w g taker
+    → (a goes : Float) → goes ≡ ratio a (totalMix b w giver) → (v v′ : List Float) → v ≡ merged b giver taker goes w → v′ ≡ removed b giver goes v
+    → v′ ≡ moveAir b giver taker a w
+unfolding moveAir remove totalMix
+moved b giver taker ne w g same hg′ ht′ a goes e v v′ m r =
+    let hg : Has b w giver = rw same hg′ in
+    let ht : Has b w taker = rw same ht′ in
+    let stays : List Float = scale (1f -f goes) (amounts b w giver) in
+    let gone : List Float = scale goes (amounts b w giver) in
+    let got : List Float = plus (amounts b w taker) gone in
+    let full : Full b got = plus-full b w taker ht gone in
+    let full′ : Full b stays = scaled-full b w giver hg (1f -f goes) in
+    r ∙ ap (removed b giver goes) m
+    ∙ rw (← e)
+    (ap (λ (l : List Float). change b giver (scale (1f -f goes) l) (change b taker got w)) (change-apart b taker got full w ht giver (λ q. absurd (ne q)))
+    ∙ change-change b giver taker ne w hg ht stays got full′ full
+    ∙ ap (λ (l : List Float). change b taker (plus l gone) (change b giver stays w))
+    (sym (change-apart b giver stays full′ w hg taker (λ q. absurd (ne (sym q))))))
 
-      pub moved-next : (v v′ : List Float) → v ≡ moved i → v′ ≡ moveGas loses gains goes stays I J v → v′ ≡ moved (i + 1)
-      moved-next v v′ e e′ = e′ ∙ ap (moveGas loses gains goes stays I J) e ∙ moved-suc
+-- ---- the test of a mixture's mark
 
-    over-change : (b : Board) (t : Bool) (m : ℕ) (new d : List Float) → b .gases ≡ g → t ≡ not (immutableMix b m) → length new ≡ g
-        → over t (m * g) new g d ≡ change b m new d
-    unfolding change
-    over-change b t m new d e q l =
-        ap (λ (u : Bool). over u (m * g) new g d) q ∙ go (immutableMix b m) ∙ ap (λ (k : ℕ). cond (immutableMix b m) d (putPart k m new d)) (sym e)
-      where
-        go : (u : Bool) → over (not u) (m * g) new g d ≡ cond u d (putPart g m new d)
-        go true = refl
-        go false = paste-all d (m * g) new g l
+pub mark-is : (b : Board) (m : ℕ) (immutable : List ℕ) (t : Bool) → b .immutable ≡ immutable → eqb (getD immutable m 0) 0 ≡ t → immutableMix b m ≡ not t
+mark-is b m immutable t e q = ap (λ (l : List ℕ). not (eqb (getD l m 0) 0)) e ∙ ap not q
 
-    -- all gases are moved
-    pub moved-all : (b : Board) (a : Float) → b .gases ≡ g → loses ≡ not (immutableMix b giver) → gains ≡ not (immutableMix b taker)
-        → goes ≡ ratio a (sum (part g giver w)) → stays ≡ 1f -f goes → moved g ≡ moveAir b giver taker a w
-    unfolding moved moveAir remove amounts
-    moved-all b a e el eg q s =
-        let l : left g ≡ change b giver kept w = over-change b loses giver kept w e el kept-length in
-        over-change b gains taker got (left g) e eg got-length ∙ rw (l, e, ← q, ← s)
-
--- what the code tests and totals, in the definitions' words
-pub changeable : (b : Board) (m : ℕ) (immutable : List ℕ) → b .immutable ≡ immutable → eqb (getD immutable m 0) 0 ≡ not (immutableMix b m)
-changeable b m immutable e = ap (λ (l : List ℕ). eqb (getD l m 0) 0) (sym e) ∙ sym (twice (eqb (getD (b .immutable) m 0) 0))
-  where
-    twice : (t : Bool) → not (not t) ≡ t
-    twice true = refl
-    twice false = refl
-
-pub total-is : (b : Board) (w : List Float) (g m : ℕ) (r : Float) → b .gases ≡ g → r ≡ totalMix b w m → r ≡ sum (part g m w)
-unfolding totalMix amounts
-total-is b w g m r e q = q ∙ ap (λ (k : ℕ). sum (part k m w)) e
+pub unchanged : (b : Board) (m : ℕ) (new w : List Float) → immutableMix b m ≡ true → w ≡ change b m new w
+unfolding change
+unchanged b m new w e = rw e
 
 -- ---- clearing
 
@@ -227,16 +204,12 @@ zeros [] = refl
 zeros (x ∷ xs) = ap (λ (r : List Float). 0f ∷ r) (zeros xs)
 
 module _ (b : Board) (m : ℕ) (w : List Float) where
-  pub kept-immutable : immutableMix b m ≡ true → clearAir b m w ≡ w
-  unfolding clearAir change
-  kept-immutable e = rw e
-
   -- the mixture's part came back as zeros
   pub cleared : (g k : ℕ) (ys : List Float) → b .gases ≡ g → immutableMix b m ≡ false → Holds w g m → k ≡ g → ys ≡ replicate g 0f ++ drop g (take k (drop (m * g) w))
       → take (m * g) w ++ (ys ++ drop k (drop (m * g) w)) ≡ clearAir b m w
   unfolding clearAir change amounts
   cleared g k ys e i h q y =
-      let l = held-length w g m h in
+      let l = part-length g w m h in
       let new : ys ≡ map (λ x. 0f) (part g m w) =
       y ∙ ap (λ (n : ℕ). replicate g 0f ++ drop g (take n (drop (m * g) w))) q
       ∙ ap (λ (r : List Float). replicate g 0f ++ r) (drop-of-length-le (part g m w) {i = g} (omega arith))

@@ -24,16 +24,12 @@ before g {m} {n} h = subst (λ (k : ℕ). k ≤ n * g) (suc-mul m g) (mul-le-mul
 pub holds-of : (gas : List Float) (count g m : ℕ) → length gas ≡ count * g → m < count → Holds gas g m
 holds-of gas count g m e h = subst (λ (k : ℕ). m * g + g ≤ k) (sym e) (before g h)
 
-module _ (g M : ℕ) (gas : List Float) (fits : length gas ≡ M * g) (m : ℕ) (new : List Float) (h : m < M) (l : length new ≡ g) where
-  room : m * g + g ≤ length gas
-  room = subst (λ (k : ℕ). m * g + g ≤ k) (sym fits) (before g h)
-
+module _ (g : ℕ) (gas : List Float) (m : ℕ) (new : List Float) (h : Holds gas g m) (l : length new ≡ g) where
   head : length (take (m * g) gas) ≡ m * g
-  head = let r = room in length-take-le (m * g) gas (omega arith)
+  head = length-take-le (m * g) gas (omega arith)
 
   pub put-length : length (putPart g m new gas) ≡ length gas
   put-length =
-      let r = room in
       let e = head in
       simp (length-append, e, l, length-drop) (omega arith)
 
@@ -78,10 +74,8 @@ module _ (g M : ℕ) (gas : List Float) (fits : length gas ≡ M * g) (m : ℕ) 
       go (no i) (yes j) = above n j
       go (no i) (no j) = absurd (ne (omega arith))
 
-pub part-length : (g M : ℕ) (gas : List Float) → length gas ≡ M * g → (m : ℕ) → m < M → length (part g m gas) ≡ g
-part-length g M gas fits m h =
-    let k : m * g + g ≤ M * g = before g h in
-    length-take-le g (drop (m * g) gas) (subst (λ (x : ℕ). g ≤ x) (sym (length-drop (m * g) gas)) (omega arith))
+pub part-length : (g : ℕ) (gas : List Float) (m : ℕ) → Holds gas g m → length (part g m gas) ≡ g
+part-length g gas m h = length-take-le g (drop (m * g) gas) (subst (λ (x : ℕ). g ≤ x) (sym (length-drop (m * g) gas)) (omega arith))
 
 pub plus-length : (xs ys : List Float) → length (plus xs ys) ≡ length xs
 unfolding plus
@@ -97,37 +91,48 @@ module _ (b : Board) where
   abbrev pub Full : List Float → Type 0
   Full new = length new ≡ b .gases
 
-  amounts-full : (gas : List Float) → Fits gas → (m : ℕ) → m < mixtureCount b → Full (amounts b gas m)
-  unfolding amounts
-  amounts-full gas f m h = part-length (b .gases) (mixtureCount b) gas f m h
+  -- the gas has room for a mixture
+  abbrev pub Has : List Float → ℕ → Type 0
+  Has gas m = Holds gas (b .gases) m
 
-  module _ (m : ℕ) (new : List Float) (h : m < mixtureCount b) (l : Full new) where
-    pub change-fits : (gas : List Float) → Fits gas → Fits (change b m new gas)
+  pub amounts-full : (gas : List Float) (m : ℕ) → Has gas m → Full (amounts b gas m)
+  unfolding amounts
+  amounts-full gas m h = part-length (b .gases) gas m h
+
+  pub scaled-full : (gas : List Float) (m : ℕ) → Has gas m → (q : Float) → Full (scale q (amounts b gas m))
+  unfolding scale
+  scaled-full gas m h q = length-map (amounts b gas m) _ ∙ amounts-full gas m h
+
+  pub plus-full : (gas : List Float) (m : ℕ) → Has gas m → (ys : List Float) → Full (plus (amounts b gas m) ys)
+  plus-full gas m h ys = plus-length (amounts b gas m) ys ∙ amounts-full gas m h
+
+  module _ (m : ℕ) (new : List Float) (l : Full new) where
+    pub change-length : (gas : List Float) → Has gas m → length (change b m new gas) ≡ length gas
     unfolding change
-    change-fits gas f = go (immutableMix b m)
+    change-length gas h = go (immutableMix b m)
       where
-        go : (t : Bool) → length (cond t gas (putPart (b .gases) m new gas)) ≡ mixtureCount b * b .gases
-        go true = f
-        go false = put-length (b .gases) (mixtureCount b) gas f m new h l ∙ f
+        go : (t : Bool) → length (cond t gas (putPart (b .gases) m new gas)) ≡ length gas
+        go true = refl
+        go false = put-length (b .gases) gas m new h l
 
     -- the store leaves another mixture, and an immutable one
-    pub change-apart : (gas : List Float) → Fits gas → (n : ℕ) → (n ≡ m → T (immutableMix b n)) → amounts b (change b m new gas) n ≡ amounts b gas n
+    pub change-apart : (gas : List Float) → Has gas m → (n : ℕ) → (n ≡ m → T (immutableMix b n)) → amounts b (change b m new gas) n ≡ amounts b gas n
     unfolding change amounts
-    change-apart gas f n u = pick (ℕ-discrete n m)
+    change-apart gas h n u = pick (ℕ-discrete n m)
       where
         go : (t : Bool) → (n ≡ m → T t) → part (b .gases) n (cond t gas (putPart (b .gases) m new gas)) ≡ part (b .gases) n gas
         go true k = refl
-        go false k = put-other (b .gases) (mixtureCount b) gas f m new h l n (λ e. k e)
+        go false k = put-other (b .gases) gas m new h l n (λ e. k e)
 
         pick : Dec (n ≡ m) → part (b .gases) n (cond (immutableMix b m) gas (putPart (b .gases) m new gas)) ≡ part (b .gases) n gas
         pick (yes e) = go (immutableMix b m) (λ e′. subst (λ (x : ℕ). T (immutableMix b x)) e (u e))
         pick (no ne) = go (immutableMix b m) (λ e. absurd (ne e))
 
     -- what a mixture holds after the store turns on what it held and on what is stored
-    pub change-like : (new′ : List Float) → new ≡ new′ → (gas gas′ : List Float) → Fits gas → Fits gas′ → (n : ℕ)
+    pub change-like : (new′ : List Float) → new ≡ new′ → (gas gas′ : List Float) → Has gas m → Has gas′ m → (n : ℕ)
         → amounts b gas n ≡ amounts b gas′ n → amounts b (change b m new gas) n ≡ amounts b (change b m new′ gas′) n
     unfolding change amounts
-    change-like new′ e gas gas′ f f′ n a = rw (← e) (go (immutableMix b m) (ℕ-discrete n m))
+    change-like new′ e gas gas′ h h′ n a = rw (← e) (go (immutableMix b m) (ℕ-discrete n m))
       where
         G : ℕ
         G = b .gases
@@ -135,9 +140,9 @@ module _ (b : Board) where
         go : (t : Bool) → Dec (n ≡ m) → part G n (cond t gas (putPart G m new gas)) ≡ part G n (cond t gas′ (putPart G m new gas′))
         go true d = a
         go false (yes i) =
-            ap (λ (x : ℕ). part G x (putPart G m new gas)) i ∙ put-same G (mixtureCount b) gas f m new h l
-            ∙ sym (ap (λ (x : ℕ). part G x (putPart G m new gas′)) i ∙ put-same G (mixtureCount b) gas′ f′ m new h l)
-        go false (no ne) = put-other G (mixtureCount b) gas f m new h l n ne ∙ a ∙ sym (put-other G (mixtureCount b) gas′ f′ m new h l n ne)
+            ap (λ (x : ℕ). part G x (putPart G m new gas)) i ∙ put-same G gas m new h l
+            ∙ sym (ap (λ (x : ℕ). part G x (putPart G m new gas′)) i ∙ put-same G gas′ m new h′ l)
+        go false (no ne) = put-other G gas m new h l n ne ∙ a ∙ sym (put-other G gas′ m new h′ l n ne)
 
   module _ (from to : ℕ) (a : Float) (hf : from < mixtureCount b) (ht : to < mixtureCount b) where
     abbrev kept : List Float → List Float
@@ -149,27 +154,33 @@ module _ (b : Board) where
     abbrev got : List Float → List Float
     got gas = plus (amounts b (left gas) to) (remove a (amounts b gas from) .goes)
 
+    has : (gas : List Float) → Fits gas → (m : ℕ) → m < mixtureCount b → Has gas m
+    has gas f m h = holds-of gas (mixtureCount b) (b .gases) m f h
+
     kept-full : (gas : List Float) → Fits gas → Full (kept gas)
-    unfolding remove scale
-    kept-full gas f = length-map (amounts b gas from) _ ∙ amounts-full gas f from hf
+    unfolding remove
+    kept-full gas f = scaled-full gas from (has gas f from hf) _
 
     left-fits : (gas : List Float) → Fits gas → Fits (left gas)
-    left-fits gas f = change-fits from (kept gas) hf (kept-full gas f) gas f
+    left-fits gas f = change-length from (kept gas) (kept-full gas f) gas (has gas f from hf) ∙ f
+
+    left-has : (gas : List Float) → Fits gas → Has (left gas) to
+    left-has gas f = has (left gas) (left-fits gas f) to ht
 
     got-full : (gas : List Float) → Fits gas → Full (got gas)
-    got-full gas f = plus-length (amounts b (left gas) to) _ ∙ amounts-full (left gas) (left-fits gas f) to ht
+    got-full gas f = plus-full (left gas) to (left-has gas f) _
 
     pub move-fits : (gas : List Float) → Fits gas → Fits (moveAir b from to a gas)
     unfolding moveAir
-    move-fits gas f = change-fits to (got gas) ht (got-full gas f) (left gas) (left-fits gas f)
+    move-fits gas f = change-length to (got gas) (got-full gas f) (left gas) (left-has gas f) ∙ left-fits gas f
 
     -- a move leaves a mixture that is neither of the two, or immutable
     pub move-apart : (gas : List Float) → Fits gas → (n : ℕ) → (n ≡ from → T (immutableMix b n)) → (n ≡ to → T (immutableMix b n))
         → amounts b (moveAir b from to a gas) n ≡ amounts b gas n
     unfolding moveAir
     move-apart gas f n u v =
-        change-apart to (got gas) ht (got-full gas f) (left gas) (left-fits gas f) n v
-        ∙ change-apart from (kept gas) hf (kept-full gas f) gas f n u
+        change-apart to (got gas) (got-full gas f) (left gas) (left-has gas f) n v
+        ∙ change-apart from (kept gas) (kept-full gas f) gas (has gas f from hf) n u
 
     -- what a mixture holds after a move turns on what it and the two held
     pub move-like : (gas gas′ : List Float) → Fits gas → Fits gas′ → amounts b gas from ≡ amounts b gas′ from → amounts b gas to ≡ amounts b gas′ to
@@ -178,6 +189,6 @@ module _ (b : Board) where
     move-like gas gas′ f f′ ef et n en =
         let k : kept gas ≡ kept gas′ = ap (λ (x : List Float). remove a x .stays) ef in
         let at : (j : ℕ) → amounts b gas j ≡ amounts b gas′ j → amounts b (left gas) j ≡ amounts b (left gas′) j =
-        λ j e. change-like from (kept gas) hf (kept-full gas f) (kept gas′) k gas gas′ f f′ j e in
+        λ j e. change-like from (kept gas) (kept-full gas f) (kept gas′) k gas gas′ (has gas f from hf) (has gas′ f′ from hf) j e in
         let g : got gas ≡ got gas′ = ap₂ (λ (x y : List Float). plus x (remove a y .goes)) (at to et) ef in
-        change-like to (got gas) ht (got-full gas f) (got gas′) g (left gas) (left gas′) (left-fits gas f) (left-fits gas′ f′) n (at n en)
+        change-like to (got gas) (got-full gas f) (got gas′) g (left gas) (left gas′) (left-has gas f) (left-has gas′ f′) n (at n en)

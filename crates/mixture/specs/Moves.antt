@@ -1,23 +1,21 @@
--- One gas of a move of air.
+-- The two changes of a move of air, each on its own. Of the giver's amounts the share `goes` goes, the rest stays.
 use mathlib.Core.List.{List}
-use mathlib.Core.Bool.{Bool}
 use Prim.Native.Nat.{ℕ, _+_, _*_, _≤_}
-use lib.ListN.{length, getD, set}
-use lib.Ieee.{Float, nan}
-use Rattle.basics.specs.Loops.{if_then_else_}
-use Rattle.basics.specs.Floats.{_+f_, _*f_}
+use lib.ListN.{length}
+use lib.Ieee.{Float}
+use Rattle.basics.specs.Floats.{1f, _-f_}
+use Rattle.board_rules.specs.Board.{Board}
+use Rattle.mixture_rules.specs.Mixture.{scale, plus, amounts, change}
 
 -- the list holds a mixture's amounts, of g to a mixture
 abbrev pub Holds : List Float → ℕ → ℕ → Type 0
 Holds gas g m = m * g + g ≤ length gas
 
--- a store that is made where the test passed
-abbrev pub setIf : Bool → ℕ → Float → List Float → List Float
-setIf t i x w = if t then set w i x else w
+module _ (b : Board) where
+  -- what goes of the giver is merged into the taker
+  abbrev pub merged : ℕ → ℕ → Float → List Float → List Float
+  merged giver taker goes gas = change b taker (plus (amounts b gas taker) (scale goes (amounts b gas giver))) gas
 
--- one gas of `moveAir`: the giver's amount stands at i, the taker's at j
-abbrev pub moveGas : Bool → Bool → Float → Float → ℕ → ℕ → List Float → List Float
-moveGas loses gains goes stays i j w =
-    let x = getD w i nan in
-    let left = setIf loses i (x *f stays) w in
-    setIf gains j (getD left j nan +f x *f goes) left
+  -- what goes of the giver is gone
+  abbrev pub removed : ℕ → Float → List Float → List Float
+  removed giver goes gas = change b giver (scale (1f -f goes) (amounts b gas giver)) gas

@@ -7,7 +7,7 @@ ghost use Rattle.basics.specs.Loops.{every};
 ghost use Rattle.basics.specs.Floats.{finiteSignClear};
 ghost use Rattle.board_rules.specs.Board.{Board};
 ghost use Rattle.mixture_rules.specs.Mixture.{sum, ratio, total, totalMix, moveAir, clearAir, amountFits};
-ghost use Rattle.mixture.specs.Moves.{Holds, setIf, moveGas};
+ghost use Rattle.mixture.specs.Moves.{Holds, merged, removed};
 
 // The sum of the amounts from the left.
 fn sum(amounts: &[f32]) -> f32
@@ -48,27 +48,44 @@ fn ratio(amount: f32, total: f32) -> f32
     if 1.0 <= q { 1.0 } else { q }
 }
 
-fn set_if(change: bool, gas: &mut [f32], i: usize, x: f32)
-    requires { ⌜ i < length (now gas) ⌝ }
-    ensures { λ _. ⌜ now (gas .exit) ≡ setIf change i x (now (gas .entry)) ⌝ }
+// Merges what goes of the giver's amounts into the taker's, unless the taker is immutable. The giver has not lost it yet, so no copy is made.
+fn merge(immutable: &[u8], gas: &mut [f32], gases: usize, giver: usize, taker: usize, goes: f32)
+    requires { ⌜ taker < length (now immutable) ⌝ }
+    requires { ⌜ Holds (now gas) gases giver × Holds (now gas) gases taker ⌝ }
+    ensures { λ _. ⌜ ((b : Board) → b .immutable ≡ now (immutable .entry) → b .gases ≡ gases → now (gas .exit) ≡ merged b giver taker goes (now (gas .entry))) ⌝ }
 {
-    if change {
-        gas[i] = x;
+    if immutable[taker] != 0 {
+        return;
+    }
+    let from = giver * gases;
+    let to = taker * gases;
+    let mut i = 0;
+    while i < gases {
+        let at = to + i;
+        gas[at] = gas[at] + gas[from + i] * goes;
+        i += 1;
     }
 }
 
-// One gas: of the giver's amount at i a share goes to the taker's at j, and a share stays. An immutable mixture neither loses nor gains.
-fn move_gas(gas: &mut [f32], i: usize, j: usize, goes: f32, stays: f32, loses: bool, gains: bool)
-    requires { ⌜ (i < length (now gas)) × (j < length (now gas)) ⌝ }
-    ensures { λ _. ⌜ now (gas .exit) ≡ moveGas loses gains goes stays i j (now (gas .entry)) ⌝ }
+// Leaves what stays of a mixture's amounts, unless it is immutable.
+fn remove(immutable: &[u8], gas: &mut [f32], gases: usize, giver: usize, goes: f32)
+    requires { ⌜ (giver < length (now immutable)) × Holds (now gas) gases giver ⌝ }
+    ensures { λ _. ⌜ ((b : Board) → b .immutable ≡ now (immutable .entry) → b .gases ≡ gases → now (gas .exit) ≡ removed b giver goes (now (gas .entry))) ⌝ }
 {
-    let x = gas[i];
-    set_if(loses, gas, i, x * stays);
-    let y = gas[j];
-    set_if(gains, gas, j, y + x * goes);
+    if immutable[giver] != 0 {
+        return;
+    }
+    let stays = 1.0 - goes;
+    let from = giver * gases;
+    let mut i = 0;
+    while i < gases {
+        let at = from + i;
+        gas[at] = gas[at] * stays;
+        i += 1;
+    }
 }
 
-// Removes the amount from one mixture and merges what was removed into another one, gas by gas.
+// Removes the amount from one mixture and merges what was removed into another one. The two parts of the list lie apart, so the merge may come first.
 pub fn move_air(
     immutable: &[u8],
     gas: &mut [f32],
@@ -84,16 +101,8 @@ pub fn move_air(
 {
     let total = total_mix(gas, gases, giver);
     let goes = ratio(amount, total);
-    let stays = 1.0 - goes;
-    let loses = immutable[giver] == 0;
-    let gains = immutable[taker] == 0;
-    let from = giver * gases;
-    let to = taker * gases;
-    let mut i = 0;
-    while i < gases {
-        move_gas(gas, from + i, to + i, goes, stays, loses, gains);
-        i += 1;
-    }
+    merge(immutable, gas, gases, giver, taker, goes);
+    remove(immutable, gas, gases, giver, goes);
 }
 
 // Sets every amount of a mixture to 0, unless it is immutable.

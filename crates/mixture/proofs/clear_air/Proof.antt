@@ -1,14 +1,10 @@
 -- The mixture's part comes back as zeros, and an immutable one is left. Assumes nothing.
-use Prim.Native.Nat.{ℕ, _+_, _-_, _*_}
-use mathlib.Core.Path.{_∙_, ap, sym}
-use mathlib.Core.Bool.{not}
-use mathlib.Core.List.{List}
+use Prim.Native.Nat.{_+_, _-_, _*_}
 use native.Mathlib.Omega.{arith}
-use lib.ListN.{getD}
-use lib.Dec.{eqb}
 use borrow.Author.Tests.{eq-eqb, ne-eqb}
 use denote.Ref.{now}
-use Rattle.mixture.proofs.Moves.{cleared, kept-immutable}
+use Rattle.mixture_rules.specs.Mixture.{clearAir}
+use Rattle.mixture.proofs.Moves.{cleared, mark-is, unchanged}
 use borrow.Author.Needs.{needs}
 use Rattle.mixture.proofs.clear_air.Statement.{statement}
 use Rattle.mixture.proofs.clear_air.Tie as tie
@@ -17,9 +13,10 @@ shared-slice-read-if1 : tie.Need-shared-slice-read-if1
 shared-slice-read-if1 c = search needs
 
 returns : tie.Need-returns
+unfolding clearAir
 returns c = λ b i e.
     let a = c .before .before .before .before .args in
-    sym (kept-immutable b (a .mix) (now (a .gas)) (ap (λ (l : List ℕ). not (eqb (getD l (a .mix) 0) 0)) i ∙ ap not (ne-eqb _ _ (c .if1 .taken))))
+    unchanged b (a .mix) _ (now (a .gas)) (mark-is b (a .mix) _ _ i (ne-eqb _ _ (c .if1 .taken)))
 
 mul-from : tie.Need-mul-from
 mul-from c = search needs
@@ -49,7 +46,7 @@ returns-2 : tie.Need-returns-2
 returns-2 c = λ b i e.
     let a = c .before .before .before .before .before .before .before .before .args in
     cleared b (a .mix) (now (a .gas)) (a .gases) (a .mix * a .gases + a .gases - a .mix * a .gases) (c .before .before .clear-floats .last .0) e
-    (ap (λ (l : List ℕ). not (eqb (getD l (a .mix) 0) 0)) i ∙ ap not (eq-eqb _ _ (c .before .before .before .before .if1 .left)))
+    (mark-is b (a .mix) _ _ i (eq-eqb _ _ (c .before .before .before .before .if1 .left)))
     (c .before .before .before .before .before .before .before .before .pre .1) (omega arith) (c .before .before .clear-floats .ensures)
 
 pub clear-air-spec : {M : Type 1} → statement M
