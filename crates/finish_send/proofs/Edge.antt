@@ -22,7 +22,8 @@ use Rattle.events.proofs.Sizes.{encode-size}
 use Rattle.plan_state.specs.Steps.{ownedBy, backLink}
 use Rattle.plan_state.proofs.Weights.{found-more}
 use Rattle.finalize_eq.specs.Lifted.{above}
-use Rattle.finish_send.specs.Sending.{Next, saveAt, zeroAt, shared}
+use Rattle.finish_send.specs.Areas.{Areas}
+use Rattle.finish_send.specs.Sending.{Next, saveAt, zeroAt, shared, Sends}
 
 -- the reverse of a link is one of the links
 pub back-below : (e k z : ℕ) (w : List ℕ) → k < e → getD w (e + k) 0 ≤ e → Found (λ j. j < e) (backLink (take e (drop e w)) (take e w) z k)
@@ -86,3 +87,7 @@ next-none p k to i l h h′ n = record { low = l; high = omega arith; none = λ 
 pub pressure-size : (z : ℕ) (x : Float) (i j : ℕ) → length (encode (Pressure z x i j)) ≡ 20
 unfolding sizeOf kindOf
 pressure-size z x i j = encode-size (Pressure z x i j)
+
+-- the place of the lifted weights, by another name
+pub sends-at : {b : Board} {row k z i j : ℕ} {words : List ℕ} {a a′ : Areas} → i ≡ j → Sends b row k z i words a a′ → Sends b row k z j words a a′
+sends-at {b = b} {row = row} {k = k} {z = z} {words = words} {a = a} {a′ = a′} e s = subst (λ (x : ℕ). Sends b row k z x words a a′) e s

@@ -26,7 +26,7 @@ use Rattle.plan_state.proofs.Links.{reverse-within}
 use Rattle.finalize_eq.specs.Lifted.{above, pending, Held, sendHeld, giversHeld}
 use Rattle.finalize_eq.proofs.Weights.{alter-less}
 use Rattle.finish_send.specs.Areas.{Areas, ownerIn, reverseIn, liftedAt, weightIn, liftedIn, Shows, Ready, Kept}
-use Rattle.finish_send.specs.Sending.{marks, Next, SendFits, Sends, pairAs, toSend, Going, Progress, SentTo}
+use Rattle.finish_send.specs.Sending.{Counted, marks, Next, SendFits, Sends, pairAs, toSend, Going, Progress, SentTo}
 use Rattle.finish_send.proofs.Ranges.{run-parts, run-last, run-none, run-idle}
 use Rattle.finish_send.proofs.Shown.{owner-at, reverse-at, lifted-at, kept-none, kept-then, sent-kept, sent-lifted, sent-weight, sent-used, sent-shows}
 
@@ -190,11 +190,18 @@ module _ (b : Board) (words : List ℕ) (stop : Bool) (z r up from to : ℕ) (a 
   Here k a′ = At b words stop z r up from to a k a′
 
   -- what the calls in the loop ask
+  pub few-links : to ≤ 24576
+  few-links = omega (arith, within, g .ready .board .links)
+
   pub edge-room : (k : ℕ) (f : List Float) → length f ≡ length (a .floats) → k ≤ to → (z < 4096) × ((k ≤ to) × ((to ≤ length words) × (up + to ≤ length f)))
   edge-room k f q l = let e = within in (g .zone, (l, (omega (arith, g .ready .words), omega (arith, u, g .ready .floats, q))))
 
-  pub short-room : (a′ : Areas) → Kept b a a′ → (r < length (b .mixtures)) × Holds (a′ .gas) (b .gases) (mixOf b r)
-  short-room a′ q = (omega (arith, g .ready .board .mixes, g .row), holds-of (a′ .gas) (mixtureCount b) (b .gases) (mixOf b r) (q .gas ∙ g .ready .board .fits) (g .ready .board .mixed r))
+  pub short-room : (a′ : Areas) → Kept b a a′ → Counted b r (a′ .gas)
+  short-room a′ q = record {
+    mixed = omega (arith, g .ready .board .mixes, g .row);
+    small = omega (arith, g .ready .board .mixes, g .ready .board .turfs .1);
+    held = holds-of (a′ .gas) (mixtureCount b) (b .gases) (mixOf b r) (q .gas ∙ g .ready .board .fits) (g .ready .board .mixed r);
+  }
 
   found : (i k : ℕ) (a′ : Areas) → Progress b words stop z r from to i a a′ → Next (marks words (a′ .floats) z up true) i to k → Here k a′
   found i k a′ m n = record {
@@ -206,12 +213,13 @@ module _ (b : Board) (words : List ℕ) (stop : Bool) (z r up from to : ℕ) (a 
   loop-start k n = found from k a (made-none b words stop z r from to a (g .order)) n
 
   pub send-fits : (k : ℕ) (a′ : Areas) → Here k a′ → k < to
-      → SendFits b r k z up words a′
+      → SendFits b r k z (liftedAt b) words a′
   send-fits k a′ m l =
       let p = m .made in
       let rd = ready-kept (g .ready) (p .kept) in
       let e : to ≤ linkCount b = within in
-      let n = to-send-here b words z k to within (a′ .floats) l (subst (λ (x : ℕ). marks words (a′ .floats) z x true k ≡ true) u (m .here l)) in
+      let here = subst (λ (x : ℕ). marks words (a′ .floats) z x true k ≡ true) u (m .here l) in
+      let n = to-send-here b words z k to within (a′ .floats) l here in
       record {
         zone = g .zone;
         turfs = rd .board .turfs .1;
@@ -221,7 +229,7 @@ module _ (b : Board) (words : List ℕ) (stop : Bool) (z r up from to : ℕ) (a 
         back = subst (λ (x : ℕ). x ≤ linkCount b) (sym (reverse-at (linkCount b) k words (omega (arith, e))))
             (reverse-within b (turfCount b) (rd .linked) (ownerIn (linkCount b) words) z (reverseIn (linkCount b) words) (rd .reverse) r k (g .row) (in-row k (p .low) l));
         weights = omega (arith, rd .floats);
-        lifted = omega (arith, u, rd .floats, e);
+        lifted = omega (arith, rd .floats, e);
         rows = (g .row, rd .board .ends k);
         moves = record {
           small = omega (arith, rd .board .mixes, rd .board .turfs .1);
@@ -229,25 +237,25 @@ module _ (b : Board) (words : List ℕ) (stop : Bool) (z r up from to : ℕ) (a 
           mixes = (rd .board .mixed r, rd .board .mixed (end b k));
           amounts = rd .board .fits;
         };
-        room = omega (arith, p .room, n, g .room, p .kept .bytes);
-        positive = both (eqb (getD words k 0) (z + 1)) (above (getD (a′ .floats) (up + k) nan)) (m .here l) .1;
+        room = omega (arith, p .room, n, g .room, p .kept .events);
+        positive = both (eqb (getD words k 0) (z + 1)) (above (getD (a′ .floats) (liftedAt b + k) nan)) here .1;
       }
 
   pub loop-next : (k j : ℕ) (a′ a″ : Areas) (short : Bool) → Here k a′ → k < to → short ≡ false
-      → ((c : Board) → c .mixtures ≡ b .mixtures → c .gases ≡ b .gases → short ≡ stop && lt (total c (a′ .gas) r) (getD (a′ .floats) (up + k) nan))
-      → Sends b r k z up words a′ a″
+      → short ≡ stop && lt (total b (a′ .gas) r) (getD (a′ .floats) (up + k) nan)
+      → Sends b r k z (liftedAt b) words a′ a″
       → Next (marks words (a″ .floats) z up true) (k + 1) to j → Here j a″
   loop-next k j a′ a″ short m l q is s n =
       found (k + 1) j a″
       (made-send b words stop z r from to a within k a′ a″ (m .made) (g .ready) (g .row) (in-row k (m .made .low) l) l (subst (λ (x : ℕ). marks words (a′ .floats) z x true k ≡ true) u (m .here l))
-      (subst (λ (x : ℕ). stop && lt (total b (a′ .gas) r) (getD (a′ .floats) (x + k) nan) ≡ false) u (sym (is b refl refl) ∙ q))
-      (subst (λ (x : ℕ). Sends b r k z x words a′ a″) u s)) n
+      (subst (λ (x : ℕ). stop && lt (total b (a′ .gas) r) (getD (a′ .floats) (x + k) nan) ≡ false) u (sym is ∙ q))
+      s) n
 
   pub stopped : (k : ℕ) (a′ : Areas) (short : Bool) → Here k a′ → k < to → short ≡ true
-      → ((c : Board) → c .mixtures ≡ b .mixtures → c .gases ≡ b .gases → short ≡ stop && lt (total c (a′ .gas) r) (getD (a′ .floats) (up + k) nan))
+      → short ≡ stop && lt (total b (a′ .gas) r) (getD (a′ .floats) (up + k) nan)
       → SentTo b words stop z r from to k a a′
   stopped k a′ short m l q is =
-      let s = both stop (lt (total b (a′ .gas) r) (getD (a′ .floats) (up + k) nan)) (sym (is b refl refl) ∙ q) in
+      let s = both stop (lt (total b (a′ .gas) r) (getD (a′ .floats) (up + k) nan)) (sym is ∙ q) in
       record {
         made = m .made;
         whole = λ e. absurd (differ (sym (s .0) ∙ e));

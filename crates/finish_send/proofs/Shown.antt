@@ -44,51 +44,51 @@ reverse-at e k words h = sym (getD-take e (drop e words) k 0 h ∙ lib.Seq.getD-
 
 module _ (b : Board) (f : List Float) (k : ℕ) (h : k < linkCount b) where
   pub weight-at : getD f k nan ≡ getD (weightIn b f) k nan
-  weight-at = cut-get (fsizes (turfCount b) (linkCount b)) f nan 0 k k (omega arith) h (omega arith)
+  weight-at = cut-get (fsizes b) f nan 0 k k (omega arith) h (omega arith)
 
   pub lifted-at : getD f (liftedAt b + k) nan ≡ getD (liftedIn b f) k nan
-  lifted-at = cut-get (fsizes (turfCount b) (linkCount b)) f nan 3 k (liftedAt b + k) (omega arith) h (omega arith)
+  lifted-at = cut-get (fsizes b) f nan 2 k (liftedAt b + k) (omega arith) h (omega arith)
 
 -- ---- a weight set to 0
 
 cut-alter : (b : Board) (s : Spot) (f : List Float) → Found (λ k. k < linkCount b) s
-    → cut (fsizes (turfCount b) (linkCount b)) (alter s (λ y. 0f) f) ≡ set (cut (fsizes (turfCount b) (linkCount b)) f) 0 (alter s (λ y. 0f) (weightIn b f))
-cut-alter b (At k) f h = cut-set (fsizes (turfCount b) (linkCount b)) f 0 k 0f k (omega arith) h (omega arith)
+    → cut (fsizes b) (alter s (λ y. 0f) f) ≡ set (cut (fsizes b) f) 0 (alter s (λ y. 0f) (weightIn b f))
+cut-alter b (At k) f h = cut-set (fsizes b) f 0 k 0f k (omega arith) h (omega arith)
 cut-alter b Nowhere f h = refl
 
 module _ (b : Board) (s : Spot) (f f′ : List Float) (h : Found (λ k. k < linkCount b) s) (e : f′ ≡ alter s (λ y. 0f) f) where
-  cuts : cut (fsizes (turfCount b) (linkCount b)) f′ ≡ set (cut (fsizes (turfCount b) (linkCount b)) f) 0 (alter s (λ y. 0f) (weightIn b f))
-  cuts = ap (cut (fsizes (turfCount b) (linkCount b))) e ∙ cut-alter b s f h
+  cuts : cut (fsizes b) f′ ≡ set (cut (fsizes b) f) 0 (alter s (λ y. 0f) (weightIn b f))
+  cuts = ap (cut (fsizes b)) e ∙ cut-alter b s f h
 
   pub altered-weight : weightIn b f′ ≡ alter s (λ y. 0f) (weightIn b f)
   altered-weight = ap (λ (l : List (List Float)). getD l 0 []) cuts
 
   pub altered-lifted : liftedIn b f′ ≡ liftedIn b f
-  altered-lifted = ap (λ (l : List (List Float)). getD l 3 []) cuts
+  altered-lifted = ap (λ (l : List (List Float)). getD l 2 []) cuts
 
   pub altered-others : others b f′ ≡ others b f
   unfolding others
-  altered-others = ap (λ (l : List (List Float)). getD l 1 [] ∷ getD l 2 [] ∷ getD l 4 [] ∷ []) cuts
+  altered-others = ap (λ (l : List (List Float)). getD l 1 [] ∷ getD l 3 [] ∷ getD l 4 [] ∷ []) cuts
 
 -- ---- nothing changed, and one change after the other
 
 pub kept-none : (b : Board) (a : Areas) → Kept b a a
-kept-none b a = record { gas = refl; floats = refl; bytes = refl; rest = refl; grown = omega arith; past = refl }
+kept-none b a = record { gas = refl; floats = refl; events = refl; rest = refl; grown = omega arith; past = refl }
 
 pub kept-then : {b : Board} {a a′ a″ : Areas} → Kept b a a′ → Kept b a′ a″ → Kept b a a″
 kept-then {b} {a} {a′} {a″} k l = record {
   gas = l .gas ∙ k .gas;
   floats = l .floats ∙ k .floats;
-  bytes = l .bytes ∙ k .bytes;
+  events = l .events ∙ k .events;
   rest = l .rest ∙ k .rest;
   grown = omega (arith, k .grown, l .grown);
   past = l .past ∙ after (a″ .used - a′ .used) (omega (arith, l .grown));
 }
   where
-    after : (d : ℕ) → d + a′ .used ≡ a″ .used → drop (a″ .used) (a′ .bytes) ≡ drop (a″ .used) (a .bytes)
+    after : (d : ℕ) → d + a′ .used ≡ a″ .used → drop (a″ .used) (a′ .events) ≡ drop (a″ .used) (a .events)
     after d e =
         let q : a″ .used ≡ a′ .used + d = omega (arith, e) in
-        rw q (sym (drop-drop d (a′ .used) (a′ .bytes)) ∙ ap (drop d) (k .past) ∙ drop-drop d (a′ .used) (a .bytes))
+        rw q (sym (drop-drop d (a′ .used) (a′ .events)) ∙ ap (drop d) (k .past) ∙ drop-drop d (a′ .used) (a .events))
 
 -- ---- the events
 
@@ -133,7 +133,7 @@ module _ (b : Board) (words : List ℕ) (z r k : ℕ) (a a′ : Areas) (ready : 
   sent-kept = record {
     gas = ap length (s .air) ∙ shared-fits b r (end b k) x (a .gas) (ready .board .fits) (ready .board .mixed r) (ready .board .mixed (end b k));
     floats = ap length (s .weights) ∙ alter-size back (λ y. 0f) (a .floats);
-    bytes = wrote-length (s .event);
+    events = wrote-length (s .event);
     rest = altered-others b back (a .floats) (a′ .floats) back-in (s .weights);
     grown = omega (arith, s .event .end);
     past = wrote-rest (s .event);

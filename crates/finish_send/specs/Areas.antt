@@ -7,6 +7,8 @@ use lib.Ieee.{Float}
 use Rattle.basics.specs.Regions.{region}
 use Rattle.board_rules.specs.Board.{Board, turfCount, linkCount}
 use Rattle.turfs.specs.Tables.{Accepted}
+use Rattle.scratch.specs.Layout as layout
+use Rattle.scratch.specs.Layout.{floatSizes}
 use Rattle.events.specs.Area.{Holds}
 use Rattle.event_rules.specs.declared.Event.{Event}
 use Rattle.reverse_links.specs.Reverse.{Linked, Reverses}
@@ -20,11 +22,11 @@ Written es used area = Holds es used area area
 pub record Areas : Type 0 where
   pub gas : List Float
   pub floats : List Float
-  pub bytes : List ℕ
+  pub events : List ℕ
   pub used : ℕ
 
 abbrev pub areas : List Float → List Float → List ℕ → ℕ → Areas
-areas gas floats bytes used = record { gas = gas; floats = floats; bytes = bytes; used = used }
+areas gas floats events used = record { gas = gas; floats = floats; events = events; used = used }
 
 -- words: by link, the zone that owns it and its reverse
 abbrev pub ownerIn : ℕ → List ℕ → List ℕ
@@ -33,30 +35,30 @@ ownerIn e words = take e words
 abbrev pub reverseIn : ℕ → List ℕ → List ℕ
 reverseIn e words = take e (drop e words)
 
--- floats: by link the weight, two arrays by row, by link the lifted weight
-abbrev pub fsizes : ℕ → ℕ → List ℕ
-fsizes n e = e ∷ n ∷ n ∷ e ∷ []
+-- the floats' arrays
+abbrev pub fsizes : Board → List ℕ
+fsizes b = floatSizes (turfCount b) (linkCount b)
 
 -- where the lifted weights start
 abbrev pub liftedAt : Board → ℕ
-liftedAt b = linkCount b + turfCount b + turfCount b
+liftedAt b = layout.liftedAt (turfCount b) (linkCount b)
 
 abbrev pub weightIn : Board → List Float → List Float
-weightIn b f = region (fsizes (turfCount b) (linkCount b)) 0 f
+weightIn b f = region (fsizes b) 0 f
 
 abbrev pub liftedIn : Board → List Float → List Float
-liftedIn b f = region (fsizes (turfCount b) (linkCount b)) 3 f
+liftedIn b f = region (fsizes b) 2 f
 
 -- the floats that finishing leaves as they are
 unfoldable pub others : Board → List Float → List (List Float)
-others b f = region (fsizes (turfCount b) (linkCount b)) 1 f ∷ region (fsizes (turfCount b) (linkCount b)) 2 f ∷ region (fsizes (turfCount b) (linkCount b)) 4 f ∷ []
+others b f = region (fsizes b) 1 f ∷ region (fsizes b) 3 f ∷ region (fsizes b) 4 f ∷ []
 
 -- the areas hold the state h
 pub record Shows (b : Board) (a : Areas) (h : Held) : Type 0 where
   pub gas : a .gas ≡ h .done .gas
   pub weight : weightIn b (a .floats) ≡ h .done .weight
   pub lifted : liftedIn b (a .floats) ≡ h .lifted
-  pub events : Written (h .done .events) (a .used) (a .bytes)
+  pub events : Written (h .done .events) (a .used) (a .events)
 
 -- what a function of finishing may rely on: a board that isn't refused, the reverse of each link, room for the arrays
 pub record Ready (b : Board) (ws : List ℕ) (gas fs : List Float) : Type 0 where
@@ -70,7 +72,7 @@ pub record Ready (b : Board) (ws : List ℕ) (gas fs : List Float) : Type 0 wher
 pub record Kept (b : Board) (a a′ : Areas) : Type 0 where
   pub gas : length (a′ .gas) ≡ length (a .gas)
   pub floats : length (a′ .floats) ≡ length (a .floats)
-  pub bytes : length (a′ .bytes) ≡ length (a .bytes)
+  pub events : length (a′ .events) ≡ length (a .events)
   pub rest : others b (a′ .floats) ≡ others b (a .floats)
   pub grown : a .used ≤ a′ .used
-  pub past : drop (a′ .used) (a′ .bytes) ≡ drop (a′ .used) (a .bytes)
+  pub past : drop (a′ .used) (a′ .events) ≡ drop (a′ .used) (a .events)

@@ -11,6 +11,7 @@ use Rattle.basics.specs.Floats.{0f}
 use Rattle.basics.specs.Lists.{count}
 use Rattle.board_rules.specs.Board.{Board, turfCount, linkCount, mixtureCount, mixOf, end}
 use Rattle.mixture_rules.specs.Mixture.{total, moveAir}
+use Rattle.mixture.specs.Moves.{Holds}
 use Rattle.event_rules.specs.Events.{encode}
 use Rattle.events.specs.Area.{Wrote}
 use Rattle.event_rules.specs.declared.Event.the-variants.{Pressure}
@@ -48,6 +49,12 @@ shared b r a x gas = if eqb (mixOf b r) (mixOf b a) then gas else moveAir b (mix
 
 -- ---- one edge
 
+-- what a turf's total may rely on
+pub record Counted (b : Board) (row : ℕ) (gas : List Float) : Type 0 where
+  pub mixed : row < length (b .mixtures)
+  pub small : length (b .mixtures) ≤ 4096
+  pub held : Holds gas (b .gases) (mixOf b row)
+
 -- what moving air between two turfs may rely on
 pub record MoveFits (b : Board) (row to : ℕ) (gas : List Float) : Type 0 where
   pub small : length (b .mixtures) ≤ 4096
@@ -67,14 +74,14 @@ pub record SendFits (b : Board) (row k z up : ℕ) (words : List ℕ) (a : Areas
   pub lifted : up + k < length (a .floats)
   pub rows : (row < turfCount b) × (end b k < turfCount b)
   pub moves : MoveFits b row (end b k) (a .gas)
-  pub room : a .used + 20 ≤ length (a .bytes)
+  pub room : a .used + 20 ≤ length (a .events)
   pub positive : above (getD (a .floats) (up + k) nan) ≡ true
 
 -- the reverse weight, the air, the record
 pub record Sends (b : Board) (row k z up : ℕ) (words : List ℕ) (a a′ : Areas) : Type 0 where
   pub weights : a′ .floats ≡ alter (backLink (reverseIn (linkCount b) words) (ownerIn (linkCount b) words) z k) (λ y. 0f) (a .floats)
   pub air : a′ .gas ≡ shared b row (end b k) (getD (a .floats) (up + k) nan) (a .gas)
-  pub event : Wrote (encode (Pressure z (getD (a .floats) (up + k) nan) (getD (b .ids) row 0) (getD (b .ids) (end b k) 0))) (a .used) (a′ .used) (a .bytes) (a′ .bytes)
+  pub event : Wrote (encode (Pressure z (getD (a .floats) (up + k) nan) (getD (b .ids) row 0) (getD (b .ids) (end b k) 0))) (a .used) (a′ .used) (a .events) (a′ .events)
 
 -- ---- the edges of a turf
 
@@ -98,7 +105,7 @@ pub record Going (b : Board) (words : List ℕ) (z r from to : ℕ) (a : Areas) 
   pub low : getD (b .starts) r 0 ≤ from
   pub order : from ≤ to
   pub high : to ≤ getD (b .starts) (r + 1) 0
-  pub room : a .used + 20 * pending (weightIn b (a .floats)) + 20 * toSend b words (a .floats) z from to ≤ length (a .bytes)
+  pub room : a .used + 20 * pending (weightIn b (a .floats)) + 20 * toSend b words (a .floats) z from to ≤ length (a .events)
 
 -- all links of the turf r from `from` up to `at` were gone through
 pub record Progress (b : Board) (words : List ℕ) (stop : Bool) (z r from to at : ℕ) (a a′ : Areas) : Type 0 where

@@ -16,13 +16,25 @@ ghost use lib.Ieee.{nan, lt};
 ghost use Rattle.basics.specs.Loops.{run, upFrom};
 ghost use Rattle.basics.specs.Floats.{0f};
 ghost use Rattle.basics.specs.Lists.{Found};
-ghost use Rattle.board_rules.specs.Board.{Board};
 ghost use Rattle.mixture_rules.specs.Mixture.{total};
-ghost use Rattle.mixture.specs.Moves.{Holds};
 ghost use Rattle.process_zone.specs.Edges.{alter};
 ghost use Rattle.turfs.specs.Tables.{boardAt};
 ghost use Rattle.finish_send.specs.Areas.{areas, liftedAt};
-ghost use Rattle.finish_send.specs.Sending.{sideOf, marks, Next, saveAt, zeroAt, shared, MoveFits, SendFits, Sends, Going, SentTo};
+ghost use Rattle.finish_send.specs.Sending.{sideOf, marks, Next, saveAt, zeroAt, shared, Counted, MoveFits, SendFits, Sends, Going, SentTo};
+
+// The turf in hand: its row, its zone, and the board's number of gases.
+pub struct Turf {
+    pub row: usize,
+    pub zone: u32,
+    pub gases: usize,
+}
+
+// Links from one up to another, and whether sending stops where the turf is short.
+pub struct Span {
+    pub from: usize,
+    pub to: usize,
+    pub stop: bool,
+}
 
 // Where sending stopped, and the bytes written.
 pub struct Sent {
@@ -127,124 +139,93 @@ fn clear_at(spot: Spot, floats: &mut [f32])
     }
 }
 
-// Air moves where the mixtures differ.
-fn move_between(
-    rows: &Rows,
-    marks: &Marks,
-    gas: &mut [f32],
-    gases: usize,
-    row: usize,
-    to: usize,
-    amount: f32,
-)
-    requires { ⌜ MoveFits (boardAt rows marks gases) row to (now gas) ⌝ }
-    ensures { λ _. ⌜ now (gas .exit) ≡ shared (boardAt (rows .entry) (marks .entry) gases) row to amount (now (gas .entry)) ⌝ }
+// Air moves from the turf to the row `to` where the mixtures differ.
+fn move_between(turf: Turf, to: usize, amount: f32, rows: &Rows, marks: &Marks, gas: &mut [f32])
+    requires { ⌜ MoveFits (boardAt rows marks (turf .gases)) (turf .row) to (now gas) ⌝ }
+    ensures { λ _. ⌜ now (gas .exit) ≡ shared (boardAt (rows .entry) (marks .entry) (turf .gases)) (turf .row) to amount (now (gas .entry)) ⌝ }
 {
     let mixtures = rows[MIXTURES];
+    let row = turf.row;
     let giver = mixtures[row] as usize;
     let taker = mixtures[to] as usize;
     if giver == taker {
         return;
     }
-    mixture::move_air(marks[IMMUTABLE], gas, gases, giver, taker, amount);
+    mixture::move_air(marks[IMMUTABLE], gas, turf.gases, giver, taker, amount);
 }
 
-// One edge of the turf `row`, whose planned amount was lifted.
+// The turf's edge k, whose planned amount was lifted: its reverse is cleared, the air moves, and the record is written.
 fn send(
-    row: usize,
+    turf: Turf,
     k: usize,
-    zone: u32,
     used: usize,
-    up: usize,
-    gases: usize,
     rows: &Rows,
     marks: &Marks,
-    words: &[u32],
     gas: &mut [f32],
+    words: &[u32],
     floats: &mut [f32],
-    bytes: &mut [u8],
+    events: &mut [u8],
 ) -> usize
-    requires { ⌜ SendFits (boardAt rows marks gases) row k zone up (now words) (areas (now gas) (now floats) (now bytes) used) ⌝ }
-    ensures { λ r. ⌜ Sends (boardAt (rows .entry) (marks .entry) gases) row k zone up (now (words .entry)) (areas (now (gas .entry)) (now (floats .entry)) (now (bytes .entry)) used) (areas (now (gas .exit)) (now (floats .exit)) (now (bytes .exit)) r) ⌝ }
+    requires { let b = boardAt rows marks (turf .gases) in ⌜ SendFits b (turf .row) k (turf .zone) (liftedAt b) (now words) (areas (now gas) (now floats) (now events) used) ⌝ }
+    ensures { λ r. let b = boardAt (rows .entry) (marks .entry) (turf .gases) in ⌜ Sends b (turf .row) k (turf .zone) (liftedAt b) (now (words .entry)) (areas (now (gas .entry)) (now (floats .entry)) (now (events .entry)) used) (areas (now (gas .exit)) (now (floats .exit)) (now (events .exit)) r) ⌝ }
 {
     let ids = rows[IDS];
     let neighbours = rows[NEIGHBOURS];
+    let row = turf.row;
+    let e = neighbours.len();
+    let up = scratch::lifted_at(ids.len(), e);
     let amount = floats[up + k];
     let to = neighbours[k] as usize;
-    let back = plan_state::back_link(k, zone, neighbours.len(), words);
+    let back = plan_state::back_link(k, turf.zone, e, words);
     clear_at(back, floats);
-    move_between(rows, marks, gas, gases, row, to, amount);
-    events::append(
-        bytes,
-        used,
-        Event::Pressure {
-            zone,
-            amount,
-            from: ids[row],
-            to: ids[to],
-        },
-    )
+    move_between(turf, to, amount, rows, marks, gas);
+    let record = Event::Pressure {
+        zone: turf.zone,
+        amount,
+        from: ids[row],
+        to: ids[to],
+    };
+    events::append(events, used, record)
 }
 
 // Whether the turf's total is below the amount, where that is asked.
-fn is_short(
-    stop: bool,
-    mixtures: &[u32],
-    gas: &[f32],
-    gases: usize,
-    row: usize,
-    amount: f32,
-) -> bool
-    requires { ⌜ (row < length (now mixtures)) × Holds (now gas) gases (getD (now mixtures) row 0) ⌝ }
-    ensures { λ r. ⌜ ((b : Board) → b .mixtures ≡ now (mixtures .entry) → b .gases ≡ gases → r ≡ stop && lt (total b (now (gas .entry)) row) amount) ⌝ }
+fn is_short(stop: bool, turf: Turf, amount: f32, rows: &Rows, marks: &Marks, gas: &[f32]) -> bool
+    requires { ⌜ Counted (boardAt rows marks (turf .gases)) (turf .row) (now gas) ⌝ }
+    ensures { λ r. ⌜ r ≡ stop && lt (total (boardAt (rows .entry) (marks .entry) (turf .gases)) (now (gas .entry)) (turf .row)) amount ⌝ }
 {
     if stop {
-        return mixture::total(mixtures, gas, gases, row) < amount;
+        return mixture::total(rows[MIXTURES], gas, turf.gases, turf.row) < amount;
     }
     false
 }
 
-// Sends what was lifted above 0, edge by edge; with `stop`, only until the turf's total is below the amount.
+// Sends what was lifted above 0 over the turf's links, edge by edge; with `stop`, only until the turf's total is below the amount.
 pub fn send_edges(
-    stop: bool,
-    row: usize,
-    from: usize,
-    to: usize,
-    zone: u32,
+    turf: Turf,
+    links: Span,
     used: usize,
-    up: usize,
-    gases: usize,
     rows: &Rows,
     marks: &Marks,
-    words: &[u32],
     gas: &mut [f32],
+    words: &[u32],
     floats: &mut [f32],
-    bytes: &mut [u8],
+    events: &mut [u8],
 ) -> Sent
-    requires { ⌜ Going (boardAt rows marks gases) (now words) zone row from to (areas (now gas) (now floats) (now bytes) used) ⌝ }
-    requires { ⌜ up ≡ liftedAt (boardAt rows marks gases) ⌝ }
-    ensures { λ r. ⌜ SentTo (boardAt (rows .entry) (marks .entry) gases) (now (words .entry)) stop zone row from to (r .at) (areas (now (gas .entry)) (now (floats .entry)) (now (bytes .entry)) used) (areas (now (gas .exit)) (now (floats .exit)) (now (bytes .exit)) (r .used)) ⌝ }
+    requires { ⌜ Going (boardAt rows marks (turf .gases)) (now words) (turf .zone) (turf .row) (links .from) (links .to) (areas (now gas) (now floats) (now events) used) ⌝ }
+    ensures { λ r. let b = boardAt (rows .entry) (marks .entry) (turf .gases) in ⌜ SentTo b (now (words .entry)) (links .stop) (turf .zone) (turf .row) (links .from) (links .to) (r .at) (areas (now (gas .entry)) (now (floats .entry)) (now (events .entry)) used) (areas (now (gas .exit)) (now (floats .exit)) (now (events .exit)) (r .used)) ⌝ }
 {
+    let zone = turf.zone;
+    let to = links.to;
+    let from = links.from;
+    let stop = links.stop;
+    let up = scratch::lifted_at(rows[IDS].len(), rows[NEIGHBOURS].len());
     let mut now = used;
     let mut k = next_edge(from, to, zone, up, true, words, floats);
     while k < to {
-        if is_short(stop, rows[MIXTURES], gas, gases, row, floats[up + k]) {
+        if is_short(stop, turf, floats[up + k], rows, marks, gas) {
             return Sent { at: k, used: now };
         }
-        now = send(
-            row,
-            k,
-            zone,
-            now,
-            up,
-            gases,
-            rows,
-            marks,
-            words,
-            gas,
-            floats,
-            bytes,
-        );
+        now = send(turf, k, now, rows, marks, gas, words, floats, events);
         k = next_edge(k + 1, to, zone, up, true, words, floats);
     }
     Sent { at: to, used: now }

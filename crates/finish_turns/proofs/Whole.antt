@@ -31,10 +31,10 @@ holds-later {es} {es′} {used} {used′} {lent} {area} {area′} h l s p w = re
 pub record Ends (b : Board) (lent : List ℕ) (a : Areas) (d : Done) : Type 0 where
   pub gas : a .gas ≡ d .gas
   pub weight : weightIn b (a .floats) ≡ d .weight
-  pub events : Holds (d .events) (a .used) lent (a .bytes)
+  pub events : Holds (d .events) (a .used) lent (a .events)
 
 pub finished : (b : Board) (count : ℕ) (turns ws ws′ : List ℕ) (a a′ : Areas) → FinishesAll b count turns ws ws′ a a′ → (zones : List Zone) → Same (turfCount b) (cursorAt b) count ws zones
     → (lent : List ℕ) (d : Done) → Ends b lent a d → Ends b lent a′ (finishAll b (ownerIn (linkCount b) ws) zones turns d)
 finished b count turns ws ws′ a a′ q zones s lent d h =
     let v = q .done zones s d (record { gas = h .gas; weight = h .weight; events = holds-written (h .events) }) in
-    record { gas = v .gas; weight = v .weight; events = holds-later (h .events) (q .kept .grown) (q .kept .bytes) (q .kept .past) (v .events) }
+    record { gas = v .gas; weight = v .weight; events = holds-later (h .events) (q .kept .grown) (q .kept .events) (q .kept .past) (v .events) }
