@@ -59,3 +59,7 @@ module _ (b : Board) (owner : List ℕ) (z : ℕ) where
       cond (quiet r (h .done .weight))
       (record { done = cleared r (h .done); lifted = h .lifted })
       (run (pairHeld (λ a g. finishHeld n a g) r) (edgesOf b owner z r) (record { done = cleared r (h .done); lifted = save (edgesOf b owner z r) (h .done .weight) (h .lifted) }))
+
+  -- the givers of the turf r, each finished by n levels
+  abbrev pub giversOf : ℕ → ℕ → Held → Held
+  giversOf n r = giversHeld (finishHeld n) r

@@ -66,7 +66,7 @@ pub record Ready (b : Board) (ws : List ℕ) (gas fs : List Float) : Type 0 wher
   pub linked : Linked (turfCount b) (b .starts) (b .neighbours)
   pub reverse : Reverses b (turfCount b) (reverseIn (linkCount b) ws)
   pub words : linkCount b + linkCount b ≤ length ws
-  pub floats : liftedAt b + linkCount b ≤ length fs
+  pub floats : liftedAt b + linkCount b + turfCount b ≤ length fs
 
 -- what finishing leaves as it was
 pub record Kept (b : Board) (a a′ : Areas) : Type 0 where

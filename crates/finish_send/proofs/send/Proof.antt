@@ -93,10 +93,9 @@ append-requires : tie.Need-append-requires
 append-requires c κs =
     let entry = c .before .before .before .before .before .before .before .before .before .before .before .before .before .before .before .before .before .before .before .before .before in
     let floats = now (entry .args .floats) in
-    let k = entry .args .k in
-    (
+    let k = entry .args .k in (
       has-bits _ (subst (λ (i : ℕ). above (getD floats (i + k) nan) ≡ true) (sym (c .before .before .before .before .before .before .before .before .before .before .before .before .before .before .lifted-at .ensures)) (entry .pre .positive)),
-      entry .pre .room
+      entry .pre .room,
     )
 
 -- src/lib.rt:158:1

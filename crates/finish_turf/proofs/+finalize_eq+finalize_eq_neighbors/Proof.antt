@@ -10,6 +10,8 @@ use Rattle.finish_send.specs.Areas.{areas}
 use Rattle.finish_turf.proofs.Turf.{links-room, clear-room, saved-size, quiet-finishes, lifted-going, sent-finishes, fell, givers-begun, rest-going, rest-finishes}
 use Rattle.finish_turf.proofs.Givers.{Giving, loop-start, giver-begun, link-below, edge-room, loop-next, givers-finished}
 use Prim.Native.Nat.{ℕ, _+_, _-_, _<_}
+use mathlib.Core.List.{List}
+use lib.Ieee.{Float}
 use borrow.Fn.Kinds.{In}
 use borrow.Fn.PlainCycle.{Measures, is, falls, and}
 use Rattle.finish_turf.proofs.finalize_eq.Reads as finalize-eq
@@ -22,15 +24,20 @@ use Rattle.finish_send.proofs.clear_weights.Reads as clear-weights-reads
 use Rattle.finish_send.proofs.next_edge.Reads as next-edge-reads
 use Rattle.finish_send.proofs.save.Reads as save-reads
 use Rattle.finish_send.proofs.send_edges.Reads as send-edges-reads
+use Rattle.scratch.proofs.lifted_at.Reads as lifted-at-reads
 use Rattle.turfs.proofs.links_of.Reads as links-of-reads
 use Rattle.finish_turf.proofs.+finalize_eq+finalize_eq_neighbors.{statement}
 use Rattle.finish_turf.proofs.+finalize_eq+finalize_eq_neighbors.Tie.{close}
 
+-- twice the weights above 0, of a board with these neighbours
+abbrev twice : List ℕ → List Float → ℕ
+twice neighbours floats = pending (take (length neighbours) floats) + pending (take (length neighbours) floats)
+
 abbrev μ-finalize-eq : Measures 8 finalize-eq-kinds.ps ℕ
-μ-finalize-eq κs a = pending (take (length (table (now (a .1 .1 .1 .1 .1 .0)) 3)) (now (a .1 .1 .1 .1 .1 .1 .1 .1 .1 .0))) + pending (take (length (table (now (a .1 .1 .1 .1 .1 .0)) 3)) (now (a .1 .1 .1 .1 .1 .1 .1 .1 .1 .0)))
+μ-finalize-eq κs a = twice (table (now (a .1 .1 .0)) 3) (now (a .1 .1 .1 .1 .1 .1 .0))
 
 abbrev μ-finalize-eq-neighbors : Measures 8 finalize-eq-neighbors-kinds.ps ℕ
-μ-finalize-eq-neighbors κs a = pending (take (length (table (now (a .1 .1 .1 .1 .1 .0)) 3)) (now (a .1 .1 .1 .1 .1 .1 .1 .1 .1 .0))) + pending (take (length (table (now (a .1 .1 .1 .1 .1 .0)) 3)) (now (a .1 .1 .1 .1 .1 .1 .1 .1 .1 .0))) + 1
+μ-finalize-eq-neighbors κs a = twice (table (now (a .1 .1 .0)) 3) (now (a .1 .1 .1 .1 .1 .1 .0)) + 1
 
 abbrev finalize-eq-at : ℕ → In 8 finalize-eq-kinds.ps
 finalize-eq-at t =
@@ -56,7 +63,6 @@ finalize-eq-neighbors-below t =
     (falls 8 finalize-eq-neighbors-kinds.ps _<_ μ-finalize-eq-neighbors t)
     finalize-eq-neighbors.Pre
 
--- src/lib.rt:32:33
 finalize-eq-element-copy-out-links-of : (t : ℕ) → finalize-eq-lts.Need-element-copy-out-links-of (
   links-of-reads.Asked,
   links-of-reads.Learnt,
@@ -64,6 +70,8 @@ finalize-eq-element-copy-out-links-of : (t : ℕ) → finalize-eq-lts.Need-eleme
   next-edge-reads.Learnt,
   clear-weights-reads.Asked,
   clear-weights-reads.Learnt,
+  lifted-at-reads.Asked,
+  lifted-at-reads.Learnt,
   save-reads.Asked,
   save-reads.Learnt,
   send-edges-reads.Asked,
@@ -73,7 +81,6 @@ finalize-eq-element-copy-out-links-of : (t : ℕ) → finalize-eq-lts.Need-eleme
 ) (finalize-eq-at t) finalize-eq.Post
 finalize-eq-element-copy-out-links-of t c = search needs
 
--- src/lib.rt:32:9
 finalize-eq-links-of-requires : (t : ℕ) → finalize-eq-lts.Need-links-of-requires (
   links-of-reads.Asked,
   links-of-reads.Learnt,
@@ -81,6 +88,8 @@ finalize-eq-links-of-requires : (t : ℕ) → finalize-eq-lts.Need-links-of-requ
   next-edge-reads.Learnt,
   clear-weights-reads.Asked,
   clear-weights-reads.Learnt,
+  lifted-at-reads.Asked,
+  lifted-at-reads.Learnt,
   save-reads.Asked,
   save-reads.Learnt,
   send-edges-reads.Asked,
@@ -88,9 +97,8 @@ finalize-eq-links-of-requires : (t : ℕ) → finalize-eq-lts.Need-links-of-requ
   finalize-eq-neighbors-below t,
   finalize-eq-neighbors.Post,
 ) (finalize-eq-at t) finalize-eq.Post
-finalize-eq-links-of-requires t c κs = omega (arith, c .before .before .before .before .before .pre .1 .0 .ready .board .starts, c .before .before .before .before .before .pre .1 .0 .row)
+finalize-eq-links-of-requires t c κs = omega (arith, c .before .before .before .before .before .pre .1 .ready .board .starts, c .before .before .before .before .before .pre .1 .row)
 
--- src/lib.rt:35:8
 finalize-eq-next-edge-requires : (t : ℕ) → finalize-eq-lts.Need-next-edge-requires (
   links-of-reads.Asked,
   links-of-reads.Learnt,
@@ -98,6 +106,8 @@ finalize-eq-next-edge-requires : (t : ℕ) → finalize-eq-lts.Need-next-edge-re
   next-edge-reads.Learnt,
   clear-weights-reads.Asked,
   clear-weights-reads.Learnt,
+  lifted-at-reads.Asked,
+  lifted-at-reads.Learnt,
   save-reads.Asked,
   save-reads.Learnt,
   send-edges-reads.Asked,
@@ -105,9 +115,8 @@ finalize-eq-next-edge-requires : (t : ℕ) → finalize-eq-lts.Need-next-edge-re
   finalize-eq-neighbors-below t,
   finalize-eq-neighbors.Post,
 ) (finalize-eq-at t) finalize-eq.Post
-finalize-eq-next-edge-requires t c κs = let e = links-room _ _ _ _ _ (c .before .before .before .before .before .before .before .pre .1 .0) _ _ _ (c .before .before .before .before .before .before .before .pre .1 .1) (c .before .links-of .ensures .0) (c .before .links-of .ensures .1) (now (c .before .before .before .before .before .before .before .args .floats)) refl in (e .0, (e .1 .0, (e .1 .1 .0, omega (arith, e .1 .1 .1))))
+finalize-eq-next-edge-requires t c κs = let e = links-room _ _ _ _ _ (c .before .before .before .before .before .before .before .pre .1) _ _ _ refl (c .before .links-of .ensures .0) (c .before .links-of .ensures .1) (now (c .before .before .before .before .before .before .before .args .floats)) refl in (e .0, (e .1 .0, (e .1 .1 .0, omega (arith, e .1 .1 .1))))
 
--- src/lib.rt:36:9
 finalize-eq-clear-weights-requires : (t : ℕ) → finalize-eq-lts.Need-clear-weights-requires (
   links-of-reads.Asked,
   links-of-reads.Learnt,
@@ -115,6 +124,8 @@ finalize-eq-clear-weights-requires : (t : ℕ) → finalize-eq-lts.Need-clear-we
   next-edge-reads.Learnt,
   clear-weights-reads.Asked,
   clear-weights-reads.Learnt,
+  lifted-at-reads.Asked,
+  lifted-at-reads.Learnt,
   save-reads.Asked,
   save-reads.Learnt,
   send-edges-reads.Asked,
@@ -122,9 +133,8 @@ finalize-eq-clear-weights-requires : (t : ℕ) → finalize-eq-lts.Need-clear-we
   finalize-eq-neighbors-below t,
   finalize-eq-neighbors.Post,
 ) (finalize-eq-at t) finalize-eq.Post
-finalize-eq-clear-weights-requires t c κs = clear-room _ _ _ _ _ (c .before .before .before .before .before .before .before .before .before .before .pre .1 .0) _ _ _ (c .before .before .before .before .before .before .before .before .before .before .pre .1 .1) (c .before .before .before .before .links-of .ensures .0) (c .before .before .before .before .links-of .ensures .1) (now (c .before .before .before .before .before .before .before .before .before .before .args .floats)) refl
+finalize-eq-clear-weights-requires t c κs = clear-room _ _ _ _ _ (c .before .before .before .before .before .before .before .before .before .before .pre .1) _ _ _ refl (c .before .before .before .before .links-of .ensures .0) (c .before .before .before .before .links-of .ensures .1) (now (c .before .before .before .before .before .before .before .before .before .before .args .floats)) refl
 
--- src/lib.rt:37:9
 finalize-eq-same-length : (t : ℕ) → finalize-eq-lts.Need-same-length (
   links-of-reads.Asked,
   links-of-reads.Learnt,
@@ -132,6 +142,8 @@ finalize-eq-same-length : (t : ℕ) → finalize-eq-lts.Need-same-length (
   next-edge-reads.Learnt,
   clear-weights-reads.Asked,
   clear-weights-reads.Learnt,
+  lifted-at-reads.Asked,
+  lifted-at-reads.Learnt,
   save-reads.Asked,
   save-reads.Learnt,
   send-edges-reads.Asked,
@@ -139,9 +151,8 @@ finalize-eq-same-length : (t : ℕ) → finalize-eq-lts.Need-same-length (
   finalize-eq-neighbors-below t,
   finalize-eq-neighbors.Post,
 ) (finalize-eq-at t) finalize-eq.Post
-finalize-eq-same-length t c = quiet-finishes _ _ _ _ _ (c .before .before .before .before .before .before .before .before .before .before .before .before .before .pre .1 .0) _ _ _ (c .before .before .before .before .before .before .before .before .before .before .before .before .before .pre .1 .1) (c .before .before .before .before .before .before .before .links-of .ensures .0) (c .before .before .before .before .before .before .before .links-of .ensures .1) _ _ (c .before .before .before .before .before .next-edge .ensures) (c .before .before .before .before .if1 .taken) (c .before .before .clear-weights .ensures) .kept .floats
+finalize-eq-same-length t c = quiet-finishes _ _ _ _ _ (c .before .before .before .before .before .before .before .before .before .before .before .before .before .pre .1) _ _ _ refl (c .before .before .before .before .before .before .before .links-of .ensures .0) (c .before .before .before .before .before .before .before .links-of .ensures .1) _ _ (c .before .before .before .before .before .next-edge .ensures) (c .before .before .before .before .if1 .taken) (c .before .before .clear-weights .ensures) .kept .floats
 
--- src/lib.rt:37:9
 finalize-eq-returns : (t : ℕ) → finalize-eq-lts.Need-returns (
   links-of-reads.Asked,
   links-of-reads.Learnt,
@@ -149,6 +160,8 @@ finalize-eq-returns : (t : ℕ) → finalize-eq-lts.Need-returns (
   next-edge-reads.Learnt,
   clear-weights-reads.Asked,
   clear-weights-reads.Learnt,
+  lifted-at-reads.Asked,
+  lifted-at-reads.Learnt,
   save-reads.Asked,
   save-reads.Learnt,
   send-edges-reads.Asked,
@@ -156,9 +169,63 @@ finalize-eq-returns : (t : ℕ) → finalize-eq-lts.Need-returns (
   finalize-eq-neighbors-below t,
   finalize-eq-neighbors.Post,
 ) (finalize-eq-at t) finalize-eq.Post
-finalize-eq-returns t c = quiet-finishes _ _ _ _ _ (c .before .before .before .before .before .before .before .before .before .before .before .before .before .pre .1 .0) _ _ _ (c .before .before .before .before .before .before .before .before .before .before .before .before .before .pre .1 .1) (c .before .before .before .before .before .before .before .links-of .ensures .0) (c .before .before .before .before .before .before .before .links-of .ensures .1) _ _ (c .before .before .before .before .before .next-edge .ensures) (c .before .before .before .before .if1 .taken) (c .before .before .clear-weights .ensures)
+finalize-eq-returns t c = quiet-finishes _ _ _ _ _ (c .before .before .before .before .before .before .before .before .before .before .before .before .before .pre .1) _ _ _ refl (c .before .before .before .before .before .before .before .links-of .ensures .0) (c .before .before .before .before .before .before .before .links-of .ensures .1) _ _ (c .before .before .before .before .before .next-edge .ensures) (c .before .before .before .before .if1 .taken) (c .before .before .clear-weights .ensures)
 
--- src/lib.rt:39:5
+finalize-eq-element-copy-out-lifted-at : (t : ℕ) → finalize-eq-lts.Need-element-copy-out-lifted-at (
+  links-of-reads.Asked,
+  links-of-reads.Learnt,
+  next-edge-reads.Asked,
+  next-edge-reads.Learnt,
+  clear-weights-reads.Asked,
+  clear-weights-reads.Learnt,
+  lifted-at-reads.Asked,
+  lifted-at-reads.Learnt,
+  save-reads.Asked,
+  save-reads.Learnt,
+  send-edges-reads.Asked,
+  send-edges-reads.Learnt,
+  finalize-eq-neighbors-below t,
+  finalize-eq-neighbors.Post,
+) (finalize-eq-at t) finalize-eq.Post
+finalize-eq-element-copy-out-lifted-at t c = search needs
+
+finalize-eq-element-copy-out-lifted-at-2 :
+    (t : ℕ) → finalize-eq-lts.Need-element-copy-out-lifted-at-2 (
+      links-of-reads.Asked,
+      links-of-reads.Learnt,
+      next-edge-reads.Asked,
+      next-edge-reads.Learnt,
+      clear-weights-reads.Asked,
+      clear-weights-reads.Learnt,
+      lifted-at-reads.Asked,
+      lifted-at-reads.Learnt,
+      save-reads.Asked,
+      save-reads.Learnt,
+      send-edges-reads.Asked,
+      send-edges-reads.Learnt,
+      finalize-eq-neighbors-below t,
+      finalize-eq-neighbors.Post,
+    ) (finalize-eq-at t) finalize-eq.Post
+finalize-eq-element-copy-out-lifted-at-2 t c = search needs
+
+finalize-eq-lifted-at-requires : (t : ℕ) → finalize-eq-lts.Need-lifted-at-requires (
+  links-of-reads.Asked,
+  links-of-reads.Learnt,
+  next-edge-reads.Asked,
+  next-edge-reads.Learnt,
+  clear-weights-reads.Asked,
+  clear-weights-reads.Learnt,
+  lifted-at-reads.Asked,
+  lifted-at-reads.Learnt,
+  save-reads.Asked,
+  save-reads.Learnt,
+  send-edges-reads.Asked,
+  send-edges-reads.Learnt,
+  finalize-eq-neighbors-below t,
+  finalize-eq-neighbors.Post,
+) (finalize-eq-at t) finalize-eq.Post
+finalize-eq-lifted-at-requires t c κs = search needs
+
 finalize-eq-save-requires : (t : ℕ) → finalize-eq-lts.Need-save-requires (
   links-of-reads.Asked,
   links-of-reads.Learnt,
@@ -166,6 +233,8 @@ finalize-eq-save-requires : (t : ℕ) → finalize-eq-lts.Need-save-requires (
   next-edge-reads.Learnt,
   clear-weights-reads.Asked,
   clear-weights-reads.Learnt,
+  lifted-at-reads.Asked,
+  lifted-at-reads.Learnt,
   save-reads.Asked,
   save-reads.Learnt,
   send-edges-reads.Asked,
@@ -173,9 +242,8 @@ finalize-eq-save-requires : (t : ℕ) → finalize-eq-lts.Need-save-requires (
   finalize-eq-neighbors-below t,
   finalize-eq-neighbors.Post,
 ) (finalize-eq-at t) finalize-eq.Post
-finalize-eq-save-requires t c κs = links-room _ _ _ _ _ (c .before .before .before .before .before .before .before .before .before .before .pre .1 .0) _ _ _ (c .before .before .before .before .before .before .before .before .before .before .pre .1 .1) (c .before .before .before .before .links-of .ensures .0) (c .before .before .before .before .links-of .ensures .1) (now (c .before .before .before .before .before .before .before .before .before .before .args .floats)) refl
+finalize-eq-save-requires t c κs = links-room _ _ _ _ _ (c .before .before .before .before .before .before .before .before .before .before .before .pre .1) _ _ _ (c .before .lifted-at .ensures) (c .before .before .before .before .before .links-of .ensures .0) (c .before .before .before .before .before .links-of .ensures .1) (now (c .before .before .before .before .before .before .before .before .before .before .before .args .floats)) refl
 
--- src/lib.rt:40:5
 finalize-eq-clear-weights-requires-2 : (t : ℕ) → finalize-eq-lts.Need-clear-weights-requires-2 (
   links-of-reads.Asked,
   links-of-reads.Learnt,
@@ -183,6 +251,8 @@ finalize-eq-clear-weights-requires-2 : (t : ℕ) → finalize-eq-lts.Need-clear-
   next-edge-reads.Learnt,
   clear-weights-reads.Asked,
   clear-weights-reads.Learnt,
+  lifted-at-reads.Asked,
+  lifted-at-reads.Learnt,
   save-reads.Asked,
   save-reads.Learnt,
   send-edges-reads.Asked,
@@ -190,9 +260,8 @@ finalize-eq-clear-weights-requires-2 : (t : ℕ) → finalize-eq-lts.Need-clear-
   finalize-eq-neighbors-below t,
   finalize-eq-neighbors.Post,
 ) (finalize-eq-at t) finalize-eq.Post
-finalize-eq-clear-weights-requires-2 t c κs = clear-room _ _ _ _ _ (c .before .before .before .before .before .before .before .before .before .before .before .before .before .before .pre .1 .0) _ _ _ (c .before .before .before .before .before .before .before .before .before .before .before .before .before .before .pre .1 .1) (c .before .before .before .before .before .before .before .before .links-of .ensures .0) (c .before .before .before .before .before .before .before .before .links-of .ensures .1) (c .before .before .before .save .last .1 .1 .1 .1 .1 .0) (saved-size _ _ _ _ _ (c .before .before .before .before .before .before .before .before .before .before .before .before .before .before .pre .1 .0) _ _ _ (c .before .before .before .before .before .before .before .before .before .before .before .before .before .before .pre .1 .1) (c .before .before .before .before .before .before .before .before .links-of .ensures .0) (c .before .before .before .before .before .before .before .before .links-of .ensures .1) _ (c .before .before .before .save .ensures))
+finalize-eq-clear-weights-requires-2 t c κs = clear-room _ _ _ _ _ (c .before .before .before .before .before .before .before .before .before .before .before .before .before .before .before .pre .1) _ _ _ (c .before .before .before .before .before .lifted-at .ensures) (c .before .before .before .before .before .before .before .before .before .links-of .ensures .0) (c .before .before .before .before .before .before .before .before .before .links-of .ensures .1) (c .before .before .before .save .last .1 .1 .1 .1 .1 .0) (saved-size _ _ _ _ _ (c .before .before .before .before .before .before .before .before .before .before .before .before .before .before .before .pre .1) _ _ _ (c .before .before .before .before .before .lifted-at .ensures) (c .before .before .before .before .before .before .before .before .before .links-of .ensures .0) (c .before .before .before .before .before .before .before .before .before .links-of .ensures .1) _ (c .before .before .before .save .ensures))
 
--- src/lib.rt:41:9
 finalize-eq-send-edges-requires : (t : ℕ) → finalize-eq-lts.Need-send-edges-requires (
   links-of-reads.Asked,
   links-of-reads.Learnt,
@@ -200,6 +269,8 @@ finalize-eq-send-edges-requires : (t : ℕ) → finalize-eq-lts.Need-send-edges-
   next-edge-reads.Learnt,
   clear-weights-reads.Asked,
   clear-weights-reads.Learnt,
+  lifted-at-reads.Asked,
+  lifted-at-reads.Learnt,
   save-reads.Asked,
   save-reads.Learnt,
   send-edges-reads.Asked,
@@ -207,9 +278,8 @@ finalize-eq-send-edges-requires : (t : ℕ) → finalize-eq-lts.Need-send-edges-
   finalize-eq-neighbors-below t,
   finalize-eq-neighbors.Post,
 ) (finalize-eq-at t) finalize-eq.Post
-finalize-eq-send-edges-requires t c κs = (lifted-going _ _ _ _ _ (c .before .before .before .before .before .before .before .before .before .before .before .before .before .before .before .before .before .before .before .before .pre .1 .0) _ _ _ (c .before .before .before .before .before .before .before .before .before .before .before .before .before .before .before .before .before .before .before .before .pre .1 .1) (c .before .before .before .before .before .before .before .before .before .before .before .before .before .before .links-of .ensures .0) (c .before .before .before .before .before .before .before .before .before .before .before .before .before .before .links-of .ensures .1) _ (c .before .before .before .before .before .before .before .before .before .before .before .before .next-edge .ensures) (c .before .before .before .before .before .before .before .before .before .before .before .if1 .left) _ _ (c .before .before .before .before .before .before .before .before .before .save .ensures) (c .before .before .before .before .before .clear-weights2 .ensures), c .before .before .before .before .before .before .before .before .before .before .before .before .before .before .before .before .before .before .before .before .pre .1 .1)
+finalize-eq-send-edges-requires t c κs = lifted-going _ _ _ _ _ (c .before .before .before .before .before .before .before .before .before .before .before .before .before .before .before .before .before .before .before .before .before .pre .1) _ _ _ (c .before .before .before .before .before .before .before .before .before .before .before .lifted-at .ensures) (c .before .before .before .before .before .before .before .before .before .before .before .before .before .before .before .links-of .ensures .0) (c .before .before .before .before .before .before .before .before .before .before .before .before .before .before .before .links-of .ensures .1) _ (c .before .before .before .before .before .before .before .before .before .before .before .before .before .next-edge .ensures) (c .before .before .before .before .before .before .before .before .before .before .before .before .if1 .left) _ _ (c .before .before .before .before .before .before .before .before .before .save .ensures) (c .before .before .before .before .before .clear-weights2 .ensures)
 
--- src/lib.rt:59:9
 finalize-eq-same-length-2 : (t : ℕ) → finalize-eq-lts.Need-same-length-2 (
   links-of-reads.Asked,
   links-of-reads.Learnt,
@@ -217,6 +287,8 @@ finalize-eq-same-length-2 : (t : ℕ) → finalize-eq-lts.Need-same-length-2 (
   next-edge-reads.Learnt,
   clear-weights-reads.Asked,
   clear-weights-reads.Learnt,
+  lifted-at-reads.Asked,
+  lifted-at-reads.Learnt,
   save-reads.Asked,
   save-reads.Learnt,
   send-edges-reads.Asked,
@@ -224,9 +296,8 @@ finalize-eq-same-length-2 : (t : ℕ) → finalize-eq-lts.Need-same-length-2 (
   finalize-eq-neighbors-below t,
   finalize-eq-neighbors.Post,
 ) (finalize-eq-at t) finalize-eq.Post
-finalize-eq-same-length-2 t c = sent-finishes _ _ _ _ _ (c .before .before .before .before .before .before .before .before .before .before .before .before .before .before .before .before .before .before .before .before .before .before .before .before .before .before .before .before .pre .1 .0) _ _ _ (c .before .before .before .before .before .before .before .before .before .before .before .before .before .before .before .before .before .before .before .before .before .before .before .before .before .before .before .before .pre .1 .1) (c .before .before .before .before .before .before .before .before .before .before .before .before .before .before .before .before .before .before .before .before .before .before .links-of .ensures .0) (c .before .before .before .before .before .before .before .before .before .before .before .before .before .before .before .before .before .before .before .before .before .before .links-of .ensures .1) _ (c .before .before .before .before .before .before .before .before .before .before .before .before .before .before .before .before .before .before .before .before .next-edge .ensures) (c .before .before .before .before .before .before .before .before .before .before .before .before .before .before .before .before .before .before .before .if1 .left) _ _ (c .before .before .before .before .before .before .before .before .before .before .before .before .before .before .before .before .before .save .ensures) (c .before .before .before .before .before .before .before .before .before .before .before .before .before .clear-weights2 .ensures) _ _ (c .before .before .before .before .before .before .before .send-edges .ensures) (c .if2 .taken) .kept .gas
+finalize-eq-same-length-2 t c = sent-finishes _ _ _ _ _ (c .before .before .before .before .before .before .before .before .before .before .before .before .before .before .before .before .before .before .before .before .before .before .before .before .before .before .before .before .before .pre .1) _ _ _ (c .before .before .before .before .before .before .before .before .before .before .before .before .before .before .before .before .before .before .before .lifted-at .ensures) (c .before .before .before .before .before .before .before .before .before .before .before .before .before .before .before .before .before .before .before .before .before .before .before .links-of .ensures .0) (c .before .before .before .before .before .before .before .before .before .before .before .before .before .before .before .before .before .before .before .before .before .before .before .links-of .ensures .1) _ (c .before .before .before .before .before .before .before .before .before .before .before .before .before .before .before .before .before .before .before .before .before .next-edge .ensures) (c .before .before .before .before .before .before .before .before .before .before .before .before .before .before .before .before .before .before .before .before .if1 .left) _ _ (c .before .before .before .before .before .before .before .before .before .before .before .before .before .before .before .before .before .save .ensures) (c .before .before .before .before .before .before .before .before .before .before .before .before .before .clear-weights2 .ensures) _ _ (c .before .before .before .before .before .before .before .send-edges .ensures) (c .if2 .taken) .kept .gas
 
--- src/lib.rt:59:9
 finalize-eq-same-length-3 : (t : ℕ) → finalize-eq-lts.Need-same-length-3 (
   links-of-reads.Asked,
   links-of-reads.Learnt,
@@ -234,6 +305,8 @@ finalize-eq-same-length-3 : (t : ℕ) → finalize-eq-lts.Need-same-length-3 (
   next-edge-reads.Learnt,
   clear-weights-reads.Asked,
   clear-weights-reads.Learnt,
+  lifted-at-reads.Asked,
+  lifted-at-reads.Learnt,
   save-reads.Asked,
   save-reads.Learnt,
   send-edges-reads.Asked,
@@ -241,9 +314,8 @@ finalize-eq-same-length-3 : (t : ℕ) → finalize-eq-lts.Need-same-length-3 (
   finalize-eq-neighbors-below t,
   finalize-eq-neighbors.Post,
 ) (finalize-eq-at t) finalize-eq.Post
-finalize-eq-same-length-3 t c = sent-finishes _ _ _ _ _ (c .before .before .before .before .before .before .before .before .before .before .before .before .before .before .before .before .before .before .before .before .before .before .before .before .before .before .before .before .pre .1 .0) _ _ _ (c .before .before .before .before .before .before .before .before .before .before .before .before .before .before .before .before .before .before .before .before .before .before .before .before .before .before .before .before .pre .1 .1) (c .before .before .before .before .before .before .before .before .before .before .before .before .before .before .before .before .before .before .before .before .before .before .links-of .ensures .0) (c .before .before .before .before .before .before .before .before .before .before .before .before .before .before .before .before .before .before .before .before .before .before .links-of .ensures .1) _ (c .before .before .before .before .before .before .before .before .before .before .before .before .before .before .before .before .before .before .before .before .next-edge .ensures) (c .before .before .before .before .before .before .before .before .before .before .before .before .before .before .before .before .before .before .before .if1 .left) _ _ (c .before .before .before .before .before .before .before .before .before .before .before .before .before .before .before .before .before .save .ensures) (c .before .before .before .before .before .before .before .before .before .before .before .before .before .clear-weights2 .ensures) _ _ (c .before .before .before .before .before .before .before .send-edges .ensures) (c .if2 .taken) .kept .floats
+finalize-eq-same-length-3 t c = sent-finishes _ _ _ _ _ (c .before .before .before .before .before .before .before .before .before .before .before .before .before .before .before .before .before .before .before .before .before .before .before .before .before .before .before .before .before .pre .1) _ _ _ (c .before .before .before .before .before .before .before .before .before .before .before .before .before .before .before .before .before .before .before .lifted-at .ensures) (c .before .before .before .before .before .before .before .before .before .before .before .before .before .before .before .before .before .before .before .before .before .before .before .links-of .ensures .0) (c .before .before .before .before .before .before .before .before .before .before .before .before .before .before .before .before .before .before .before .before .before .before .before .links-of .ensures .1) _ (c .before .before .before .before .before .before .before .before .before .before .before .before .before .before .before .before .before .before .before .before .before .next-edge .ensures) (c .before .before .before .before .before .before .before .before .before .before .before .before .before .before .before .before .before .before .before .before .if1 .left) _ _ (c .before .before .before .before .before .before .before .before .before .before .before .before .before .before .before .before .before .save .ensures) (c .before .before .before .before .before .before .before .before .before .before .before .before .before .clear-weights2 .ensures) _ _ (c .before .before .before .before .before .before .before .send-edges .ensures) (c .if2 .taken) .kept .floats
 
--- src/lib.rt:59:9
 finalize-eq-same-length-4 : (t : ℕ) → finalize-eq-lts.Need-same-length-4 (
   links-of-reads.Asked,
   links-of-reads.Learnt,
@@ -251,6 +323,8 @@ finalize-eq-same-length-4 : (t : ℕ) → finalize-eq-lts.Need-same-length-4 (
   next-edge-reads.Learnt,
   clear-weights-reads.Asked,
   clear-weights-reads.Learnt,
+  lifted-at-reads.Asked,
+  lifted-at-reads.Learnt,
   save-reads.Asked,
   save-reads.Learnt,
   send-edges-reads.Asked,
@@ -258,9 +332,8 @@ finalize-eq-same-length-4 : (t : ℕ) → finalize-eq-lts.Need-same-length-4 (
   finalize-eq-neighbors-below t,
   finalize-eq-neighbors.Post,
 ) (finalize-eq-at t) finalize-eq.Post
-finalize-eq-same-length-4 t c = sent-finishes _ _ _ _ _ (c .before .before .before .before .before .before .before .before .before .before .before .before .before .before .before .before .before .before .before .before .before .before .before .before .before .before .before .before .pre .1 .0) _ _ _ (c .before .before .before .before .before .before .before .before .before .before .before .before .before .before .before .before .before .before .before .before .before .before .before .before .before .before .before .before .pre .1 .1) (c .before .before .before .before .before .before .before .before .before .before .before .before .before .before .before .before .before .before .before .before .before .before .links-of .ensures .0) (c .before .before .before .before .before .before .before .before .before .before .before .before .before .before .before .before .before .before .before .before .before .before .links-of .ensures .1) _ (c .before .before .before .before .before .before .before .before .before .before .before .before .before .before .before .before .before .before .before .before .next-edge .ensures) (c .before .before .before .before .before .before .before .before .before .before .before .before .before .before .before .before .before .before .before .if1 .left) _ _ (c .before .before .before .before .before .before .before .before .before .before .before .before .before .before .before .before .before .save .ensures) (c .before .before .before .before .before .before .before .before .before .before .before .before .before .clear-weights2 .ensures) _ _ (c .before .before .before .before .before .before .before .send-edges .ensures) (c .if2 .taken) .kept .bytes
+finalize-eq-same-length-4 t c = sent-finishes _ _ _ _ _ (c .before .before .before .before .before .before .before .before .before .before .before .before .before .before .before .before .before .before .before .before .before .before .before .before .before .before .before .before .before .pre .1) _ _ _ (c .before .before .before .before .before .before .before .before .before .before .before .before .before .before .before .before .before .before .before .lifted-at .ensures) (c .before .before .before .before .before .before .before .before .before .before .before .before .before .before .before .before .before .before .before .before .before .before .before .links-of .ensures .0) (c .before .before .before .before .before .before .before .before .before .before .before .before .before .before .before .before .before .before .before .before .before .before .before .links-of .ensures .1) _ (c .before .before .before .before .before .before .before .before .before .before .before .before .before .before .before .before .before .before .before .before .before .next-edge .ensures) (c .before .before .before .before .before .before .before .before .before .before .before .before .before .before .before .before .before .before .before .before .if1 .left) _ _ (c .before .before .before .before .before .before .before .before .before .before .before .before .before .before .before .before .before .save .ensures) (c .before .before .before .before .before .before .before .before .before .before .before .before .before .clear-weights2 .ensures) _ _ (c .before .before .before .before .before .before .before .send-edges .ensures) (c .if2 .taken) .kept .events
 
--- src/lib.rt:59:9
 finalize-eq-returns-2 : (t : ℕ) → finalize-eq-lts.Need-returns-2 (
   links-of-reads.Asked,
   links-of-reads.Learnt,
@@ -268,6 +341,8 @@ finalize-eq-returns-2 : (t : ℕ) → finalize-eq-lts.Need-returns-2 (
   next-edge-reads.Learnt,
   clear-weights-reads.Asked,
   clear-weights-reads.Learnt,
+  lifted-at-reads.Asked,
+  lifted-at-reads.Learnt,
   save-reads.Asked,
   save-reads.Learnt,
   send-edges-reads.Asked,
@@ -275,9 +350,8 @@ finalize-eq-returns-2 : (t : ℕ) → finalize-eq-lts.Need-returns-2 (
   finalize-eq-neighbors-below t,
   finalize-eq-neighbors.Post,
 ) (finalize-eq-at t) finalize-eq.Post
-finalize-eq-returns-2 t c = sent-finishes _ _ _ _ _ (c .before .before .before .before .before .before .before .before .before .before .before .before .before .before .before .before .before .before .before .before .before .before .before .before .before .before .before .before .pre .1 .0) _ _ _ (c .before .before .before .before .before .before .before .before .before .before .before .before .before .before .before .before .before .before .before .before .before .before .before .before .before .before .before .before .pre .1 .1) (c .before .before .before .before .before .before .before .before .before .before .before .before .before .before .before .before .before .before .before .before .before .before .links-of .ensures .0) (c .before .before .before .before .before .before .before .before .before .before .before .before .before .before .before .before .before .before .before .before .before .before .links-of .ensures .1) _ (c .before .before .before .before .before .before .before .before .before .before .before .before .before .before .before .before .before .before .before .before .next-edge .ensures) (c .before .before .before .before .before .before .before .before .before .before .before .before .before .before .before .before .before .before .before .if1 .left) _ _ (c .before .before .before .before .before .before .before .before .before .before .before .before .before .before .before .before .before .save .ensures) (c .before .before .before .before .before .before .before .before .before .before .before .before .before .clear-weights2 .ensures) _ _ (c .before .before .before .before .before .before .before .send-edges .ensures) (c .if2 .taken)
+finalize-eq-returns-2 t c = sent-finishes _ _ _ _ _ (c .before .before .before .before .before .before .before .before .before .before .before .before .before .before .before .before .before .before .before .before .before .before .before .before .before .before .before .before .before .pre .1) _ _ _ (c .before .before .before .before .before .before .before .before .before .before .before .before .before .before .before .before .before .before .before .lifted-at .ensures) (c .before .before .before .before .before .before .before .before .before .before .before .before .before .before .before .before .before .before .before .before .before .before .before .links-of .ensures .0) (c .before .before .before .before .before .before .before .before .before .before .before .before .before .before .before .before .before .before .before .before .before .before .before .links-of .ensures .1) _ (c .before .before .before .before .before .before .before .before .before .before .before .before .before .before .before .before .before .before .before .before .before .next-edge .ensures) (c .before .before .before .before .before .before .before .before .before .before .before .before .before .before .before .before .before .before .before .before .if1 .left) _ _ (c .before .before .before .before .before .before .before .before .before .before .before .before .before .before .before .before .before .save .ensures) (c .before .before .before .before .before .before .before .before .before .before .before .before .before .clear-weights2 .ensures) _ _ (c .before .before .before .before .before .before .before .send-edges .ensures) (c .if2 .taken)
 
--- src/lib.rt:61:9
 finalize-eq-finalize-eq-neighbors-requires :
     (t : ℕ) → finalize-eq-lts.Need-finalize-eq-neighbors-requires (
       links-of-reads.Asked,
@@ -286,6 +360,8 @@ finalize-eq-finalize-eq-neighbors-requires :
       next-edge-reads.Learnt,
       clear-weights-reads.Asked,
       clear-weights-reads.Learnt,
+      lifted-at-reads.Asked,
+      lifted-at-reads.Learnt,
       save-reads.Asked,
       save-reads.Learnt,
       send-edges-reads.Asked,
@@ -293,9 +369,8 @@ finalize-eq-finalize-eq-neighbors-requires :
       finalize-eq-neighbors-below t,
       finalize-eq-neighbors.Post,
     ) (finalize-eq-at t) finalize-eq.Post
-finalize-eq-finalize-eq-neighbors-requires t c κs = (omega (arith, c .before .before .before .before .before .before .before .before .before .before .before .before .before .before .before .before .before .before .before .before .before .before .before .before .before .before .before .before .before .before .before .pre .0, fell _ _ _ _ _ (c .before .before .before .before .before .before .before .before .before .before .before .before .before .before .before .before .before .before .before .before .before .before .before .before .before .before .before .before .before .before .before .pre .1 .0) _ _ _ (c .before .before .before .before .before .before .before .before .before .before .before .before .before .before .before .before .before .before .before .before .before .before .before .before .before .before .before .before .before .before .before .pre .1 .1) (c .before .before .before .before .before .before .before .before .before .before .before .before .before .before .before .before .before .before .before .before .before .before .before .before .before .links-of .ensures .0) (c .before .before .before .before .before .before .before .before .before .before .before .before .before .before .before .before .before .before .before .before .before .before .before .before .before .links-of .ensures .1) _ (c .before .before .before .before .before .before .before .before .before .before .before .before .before .before .before .before .before .before .before .before .before .before .before .next-edge .ensures) (c .before .before .before .before .before .before .before .before .before .before .before .before .before .before .before .before .before .before .before .before .before .before .if1 .left) _ _ (c .before .before .before .before .before .before .before .before .before .before .before .before .before .before .before .before .before .before .before .before .save .ensures) (c .before .before .before .before .before .before .before .before .before .before .before .before .before .before .before .before .clear-weights2 .ensures) _ _ (c .before .before .before .before .before .before .before .before .before .before .send-edges .ensures) (c .before .before .before .if2 .left)), (givers-begun _ _ _ _ _ (c .before .before .before .before .before .before .before .before .before .before .before .before .before .before .before .before .before .before .before .before .before .before .before .before .before .before .before .before .before .before .before .pre .1 .0) _ _ _ (c .before .before .before .before .before .before .before .before .before .before .before .before .before .before .before .before .before .before .before .before .before .before .before .before .before .before .before .before .before .before .before .pre .1 .1) (c .before .before .before .before .before .before .before .before .before .before .before .before .before .before .before .before .before .before .before .before .before .before .before .before .before .links-of .ensures .0) (c .before .before .before .before .before .before .before .before .before .before .before .before .before .before .before .before .before .before .before .before .before .before .before .before .before .links-of .ensures .1) _ (c .before .before .before .before .before .before .before .before .before .before .before .before .before .before .before .before .before .before .before .before .before .before .before .next-edge .ensures) (c .before .before .before .before .before .before .before .before .before .before .before .before .before .before .before .before .before .before .before .before .before .before .if1 .left) _ _ (c .before .before .before .before .before .before .before .before .before .before .before .before .before .before .before .before .before .before .before .before .save .ensures) (c .before .before .before .before .before .before .before .before .before .before .before .before .before .before .before .before .clear-weights2 .ensures) _ _ (c .before .before .before .before .before .before .before .before .before .before .send-edges .ensures) (c .before .before .before .if2 .left), c .before .before .before .before .before .before .before .before .before .before .before .before .before .before .before .before .before .before .before .before .before .before .before .before .before .before .before .before .before .before .before .pre .1 .1))
+finalize-eq-finalize-eq-neighbors-requires t c κs = (omega (arith, c .before .before .before .before .before .before .before .before .before .before .before .before .before .before .before .before .before .before .before .before .before .before .before .before .before .before .before .before .before .before .before .before .pre .0, fell _ _ _ _ _ (c .before .before .before .before .before .before .before .before .before .before .before .before .before .before .before .before .before .before .before .before .before .before .before .before .before .before .before .before .before .before .before .before .pre .1) _ _ _ (c .before .before .before .before .before .before .before .before .before .before .before .before .before .before .before .before .before .before .before .before .before .before .lifted-at .ensures) (c .before .before .before .before .before .before .before .before .before .before .before .before .before .before .before .before .before .before .before .before .before .before .before .before .before .before .links-of .ensures .0) (c .before .before .before .before .before .before .before .before .before .before .before .before .before .before .before .before .before .before .before .before .before .before .before .before .before .before .links-of .ensures .1) _ (c .before .before .before .before .before .before .before .before .before .before .before .before .before .before .before .before .before .before .before .before .before .before .before .before .next-edge .ensures) (c .before .before .before .before .before .before .before .before .before .before .before .before .before .before .before .before .before .before .before .before .before .before .before .if1 .left) _ _ (c .before .before .before .before .before .before .before .before .before .before .before .before .before .before .before .before .before .before .before .before .save .ensures) (c .before .before .before .before .before .before .before .before .before .before .before .before .before .before .before .before .clear-weights2 .ensures) _ _ (c .before .before .before .before .before .before .before .before .before .before .send-edges .ensures) (c .before .before .before .if2 .left)), givers-begun _ _ _ _ _ (c .before .before .before .before .before .before .before .before .before .before .before .before .before .before .before .before .before .before .before .before .before .before .before .before .before .before .before .before .before .before .before .before .pre .1) _ _ _ (c .before .before .before .before .before .before .before .before .before .before .before .before .before .before .before .before .before .before .before .before .before .before .lifted-at .ensures) (c .before .before .before .before .before .before .before .before .before .before .before .before .before .before .before .before .before .before .before .before .before .before .before .before .before .before .links-of .ensures .0) (c .before .before .before .before .before .before .before .before .before .before .before .before .before .before .before .before .before .before .before .before .before .before .before .before .before .before .links-of .ensures .1) _ (c .before .before .before .before .before .before .before .before .before .before .before .before .before .before .before .before .before .before .before .before .before .before .before .before .next-edge .ensures) (c .before .before .before .before .before .before .before .before .before .before .before .before .before .before .before .before .before .before .before .before .before .before .before .if1 .left) _ _ (c .before .before .before .before .before .before .before .before .before .before .before .before .before .before .before .before .before .before .before .before .save .ensures) (c .before .before .before .before .before .before .before .before .before .before .before .before .before .before .before .before .clear-weights2 .ensures) _ _ (c .before .before .before .before .before .before .before .before .before .before .send-edges .ensures) (c .before .before .before .if2 .left))
 
--- src/lib.rt:74:9
 finalize-eq-send-edges-requires-2 : (t : ℕ) → finalize-eq-lts.Need-send-edges-requires-2 (
   links-of-reads.Asked,
   links-of-reads.Learnt,
@@ -303,6 +378,8 @@ finalize-eq-send-edges-requires-2 : (t : ℕ) → finalize-eq-lts.Need-send-edge
   next-edge-reads.Learnt,
   clear-weights-reads.Asked,
   clear-weights-reads.Learnt,
+  lifted-at-reads.Asked,
+  lifted-at-reads.Learnt,
   save-reads.Asked,
   save-reads.Learnt,
   send-edges-reads.Asked,
@@ -310,9 +387,8 @@ finalize-eq-send-edges-requires-2 : (t : ℕ) → finalize-eq-lts.Need-send-edge
   finalize-eq-neighbors-below t,
   finalize-eq-neighbors.Post,
 ) (finalize-eq-at t) finalize-eq.Post
-finalize-eq-send-edges-requires-2 t c κs = (rest-going _ _ _ _ _ (c .before .before .before .before .before .before .before .before .before .before .before .before .before .before .before .before .before .before .before .before .before .before .before .before .before .before .before .before .before .before .before .before .before .before .before .before .before .before .before .before .before .pre .1 .0) _ _ _ (c .before .before .before .before .before .before .before .before .before .before .before .before .before .before .before .before .before .before .before .before .before .before .before .before .before .before .before .before .before .before .before .before .before .before .before .before .before .before .before .before .before .pre .1 .1) (c .before .before .before .before .before .before .before .before .before .before .before .before .before .before .before .before .before .before .before .before .before .before .before .before .before .before .before .before .before .before .before .before .before .before .before .links-of .ensures .0) (c .before .before .before .before .before .before .before .before .before .before .before .before .before .before .before .before .before .before .before .before .before .before .before .before .before .before .before .before .before .before .before .before .before .before .before .links-of .ensures .1) _ (c .before .before .before .before .before .before .before .before .before .before .before .before .before .before .before .before .before .before .before .before .before .before .before .before .before .before .before .before .before .before .before .before .before .next-edge .ensures) (c .before .before .before .before .before .before .before .before .before .before .before .before .before .before .before .before .before .before .before .before .before .before .before .before .before .before .before .before .before .before .before .before .if1 .left) _ _ (c .before .before .before .before .before .before .before .before .before .before .before .before .before .before .before .before .before .before .before .before .before .before .before .before .before .before .before .before .before .before .save .ensures) (c .before .before .before .before .before .before .before .before .before .before .before .before .before .before .before .before .before .before .before .before .before .before .before .before .before .before .clear-weights2 .ensures) _ _ (c .before .before .before .before .before .before .before .before .before .before .before .before .before .before .before .before .before .before .before .before .send-edges .ensures) (c .before .before .before .before .before .before .before .before .before .before .before .before .before .if2 .left) _ (c .before .before .before .before .before .before .before .before .before .finalize-eq-neighbors .ensures), c .before .before .before .before .before .before .before .before .before .before .before .before .before .before .before .before .before .before .before .before .before .before .before .before .before .before .before .before .before .before .before .before .before .before .before .before .before .before .before .before .before .pre .1 .1)
+finalize-eq-send-edges-requires-2 t c κs = rest-going _ _ _ _ _ (c .before .before .before .before .before .before .before .before .before .before .before .before .before .before .before .before .before .before .before .before .before .before .before .before .before .before .before .before .before .before .before .before .before .before .before .before .before .before .before .before .before .before .pre .1) _ _ _ (c .before .before .before .before .before .before .before .before .before .before .before .before .before .before .before .before .before .before .before .before .before .before .before .before .before .before .before .before .before .before .before .before .lifted-at .ensures) (c .before .before .before .before .before .before .before .before .before .before .before .before .before .before .before .before .before .before .before .before .before .before .before .before .before .before .before .before .before .before .before .before .before .before .before .before .links-of .ensures .0) (c .before .before .before .before .before .before .before .before .before .before .before .before .before .before .before .before .before .before .before .before .before .before .before .before .before .before .before .before .before .before .before .before .before .before .before .before .links-of .ensures .1) _ (c .before .before .before .before .before .before .before .before .before .before .before .before .before .before .before .before .before .before .before .before .before .before .before .before .before .before .before .before .before .before .before .before .before .before .next-edge .ensures) (c .before .before .before .before .before .before .before .before .before .before .before .before .before .before .before .before .before .before .before .before .before .before .before .before .before .before .before .before .before .before .before .before .before .if1 .left) _ _ (c .before .before .before .before .before .before .before .before .before .before .before .before .before .before .before .before .before .before .before .before .before .before .before .before .before .before .before .before .before .before .save .ensures) (c .before .before .before .before .before .before .before .before .before .before .before .before .before .before .before .before .before .before .before .before .before .before .before .before .before .before .clear-weights2 .ensures) _ _ (c .before .before .before .before .before .before .before .before .before .before .before .before .before .before .before .before .before .before .before .before .send-edges .ensures) (c .before .before .before .before .before .before .before .before .before .before .before .before .before .if2 .left) _ (c .before .before .before .before .before .before .before .before .before .finalize-eq-neighbors .ensures)
 
--- src/lib.rt:15:1
 finalize-eq-same-length-5 : (t : ℕ) → finalize-eq-lts.Need-same-length-5 (
   links-of-reads.Asked,
   links-of-reads.Learnt,
@@ -320,6 +396,8 @@ finalize-eq-same-length-5 : (t : ℕ) → finalize-eq-lts.Need-same-length-5 (
   next-edge-reads.Learnt,
   clear-weights-reads.Asked,
   clear-weights-reads.Learnt,
+  lifted-at-reads.Asked,
+  lifted-at-reads.Learnt,
   save-reads.Asked,
   save-reads.Learnt,
   send-edges-reads.Asked,
@@ -327,9 +405,8 @@ finalize-eq-same-length-5 : (t : ℕ) → finalize-eq-lts.Need-same-length-5 (
   finalize-eq-neighbors-below t,
   finalize-eq-neighbors.Post,
 ) (finalize-eq-at t) finalize-eq.Post
-finalize-eq-same-length-5 t c = rest-finishes _ _ _ _ _ (c .before .before .before .before .before .before .before .before .before .before .before .before .before .before .before .before .before .before .before .before .before .before .before .before .before .before .before .before .before .before .before .before .before .before .before .before .before .before .before .before .before .before .before .before .before .before .before .before .pre .1 .0) _ _ _ (c .before .before .before .before .before .before .before .before .before .before .before .before .before .before .before .before .before .before .before .before .before .before .before .before .before .before .before .before .before .before .before .before .before .before .before .before .before .before .before .before .before .before .before .before .before .before .before .before .pre .1 .1) (c .before .before .before .before .before .before .before .before .before .before .before .before .before .before .before .before .before .before .before .before .before .before .before .before .before .before .before .before .before .before .before .before .before .before .before .before .before .before .before .before .before .before .links-of .ensures .0) (c .before .before .before .before .before .before .before .before .before .before .before .before .before .before .before .before .before .before .before .before .before .before .before .before .before .before .before .before .before .before .before .before .before .before .before .before .before .before .before .before .before .before .links-of .ensures .1) _ (c .before .before .before .before .before .before .before .before .before .before .before .before .before .before .before .before .before .before .before .before .before .before .before .before .before .before .before .before .before .before .before .before .before .before .before .before .before .before .before .before .next-edge .ensures) (c .before .before .before .before .before .before .before .before .before .before .before .before .before .before .before .before .before .before .before .before .before .before .before .before .before .before .before .before .before .before .before .before .before .before .before .before .before .before .before .if1 .left) _ _ (c .before .before .before .before .before .before .before .before .before .before .before .before .before .before .before .before .before .before .before .before .before .before .before .before .before .before .before .before .before .before .before .before .before .before .before .before .before .save .ensures) (c .before .before .before .before .before .before .before .before .before .before .before .before .before .before .before .before .before .before .before .before .before .before .before .before .before .before .before .before .before .before .before .before .before .clear-weights2 .ensures) _ _ (c .before .before .before .before .before .before .before .before .before .before .before .before .before .before .before .before .before .before .before .before .before .before .before .before .before .before .before .send-edges .ensures) (c .before .before .before .before .before .before .before .before .before .before .before .before .before .before .before .before .before .before .before .before .if2 .left) _ (c .before .before .before .before .before .before .before .before .before .before .before .before .before .before .before .before .finalize-eq-neighbors .ensures) _ _ (c .before .before .before .before .before .before .send-edges2 .ensures) .kept .gas
+finalize-eq-same-length-5 t c = rest-finishes _ _ _ _ _ (c .before .before .before .before .before .before .before .before .before .before .before .before .before .before .before .before .before .before .before .before .before .before .before .before .before .before .before .before .before .before .before .before .before .before .before .before .before .before .before .before .before .before .before .before .before .before .before .before .before .pre .1) _ _ _ (c .before .before .before .before .before .before .before .before .before .before .before .before .before .before .before .before .before .before .before .before .before .before .before .before .before .before .before .before .before .before .before .before .before .before .before .before .before .before .before .lifted-at .ensures) (c .before .before .before .before .before .before .before .before .before .before .before .before .before .before .before .before .before .before .before .before .before .before .before .before .before .before .before .before .before .before .before .before .before .before .before .before .before .before .before .before .before .before .before .links-of .ensures .0) (c .before .before .before .before .before .before .before .before .before .before .before .before .before .before .before .before .before .before .before .before .before .before .before .before .before .before .before .before .before .before .before .before .before .before .before .before .before .before .before .before .before .before .before .links-of .ensures .1) _ (c .before .before .before .before .before .before .before .before .before .before .before .before .before .before .before .before .before .before .before .before .before .before .before .before .before .before .before .before .before .before .before .before .before .before .before .before .before .before .before .before .before .next-edge .ensures) (c .before .before .before .before .before .before .before .before .before .before .before .before .before .before .before .before .before .before .before .before .before .before .before .before .before .before .before .before .before .before .before .before .before .before .before .before .before .before .before .before .if1 .left) _ _ (c .before .before .before .before .before .before .before .before .before .before .before .before .before .before .before .before .before .before .before .before .before .before .before .before .before .before .before .before .before .before .before .before .before .before .before .before .before .save .ensures) (c .before .before .before .before .before .before .before .before .before .before .before .before .before .before .before .before .before .before .before .before .before .before .before .before .before .before .before .before .before .before .before .before .before .clear-weights2 .ensures) _ _ (c .before .before .before .before .before .before .before .before .before .before .before .before .before .before .before .before .before .before .before .before .before .before .before .before .before .before .before .send-edges .ensures) (c .before .before .before .before .before .before .before .before .before .before .before .before .before .before .before .before .before .before .before .before .if2 .left) _ (c .before .before .before .before .before .before .before .before .before .before .before .before .before .before .before .before .finalize-eq-neighbors .ensures) _ _ (c .before .before .before .before .before .before .send-edges2 .ensures) .kept .gas
 
--- src/lib.rt:15:1
 finalize-eq-same-length-6 : (t : ℕ) → finalize-eq-lts.Need-same-length-6 (
   links-of-reads.Asked,
   links-of-reads.Learnt,
@@ -337,6 +414,8 @@ finalize-eq-same-length-6 : (t : ℕ) → finalize-eq-lts.Need-same-length-6 (
   next-edge-reads.Learnt,
   clear-weights-reads.Asked,
   clear-weights-reads.Learnt,
+  lifted-at-reads.Asked,
+  lifted-at-reads.Learnt,
   save-reads.Asked,
   save-reads.Learnt,
   send-edges-reads.Asked,
@@ -344,9 +423,8 @@ finalize-eq-same-length-6 : (t : ℕ) → finalize-eq-lts.Need-same-length-6 (
   finalize-eq-neighbors-below t,
   finalize-eq-neighbors.Post,
 ) (finalize-eq-at t) finalize-eq.Post
-finalize-eq-same-length-6 t c = rest-finishes _ _ _ _ _ (c .before .before .before .before .before .before .before .before .before .before .before .before .before .before .before .before .before .before .before .before .before .before .before .before .before .before .before .before .before .before .before .before .before .before .before .before .before .before .before .before .before .before .before .before .before .before .before .before .pre .1 .0) _ _ _ (c .before .before .before .before .before .before .before .before .before .before .before .before .before .before .before .before .before .before .before .before .before .before .before .before .before .before .before .before .before .before .before .before .before .before .before .before .before .before .before .before .before .before .before .before .before .before .before .before .pre .1 .1) (c .before .before .before .before .before .before .before .before .before .before .before .before .before .before .before .before .before .before .before .before .before .before .before .before .before .before .before .before .before .before .before .before .before .before .before .before .before .before .before .before .before .before .links-of .ensures .0) (c .before .before .before .before .before .before .before .before .before .before .before .before .before .before .before .before .before .before .before .before .before .before .before .before .before .before .before .before .before .before .before .before .before .before .before .before .before .before .before .before .before .before .links-of .ensures .1) _ (c .before .before .before .before .before .before .before .before .before .before .before .before .before .before .before .before .before .before .before .before .before .before .before .before .before .before .before .before .before .before .before .before .before .before .before .before .before .before .before .before .next-edge .ensures) (c .before .before .before .before .before .before .before .before .before .before .before .before .before .before .before .before .before .before .before .before .before .before .before .before .before .before .before .before .before .before .before .before .before .before .before .before .before .before .before .if1 .left) _ _ (c .before .before .before .before .before .before .before .before .before .before .before .before .before .before .before .before .before .before .before .before .before .before .before .before .before .before .before .before .before .before .before .before .before .before .before .before .before .save .ensures) (c .before .before .before .before .before .before .before .before .before .before .before .before .before .before .before .before .before .before .before .before .before .before .before .before .before .before .before .before .before .before .before .before .before .clear-weights2 .ensures) _ _ (c .before .before .before .before .before .before .before .before .before .before .before .before .before .before .before .before .before .before .before .before .before .before .before .before .before .before .before .send-edges .ensures) (c .before .before .before .before .before .before .before .before .before .before .before .before .before .before .before .before .before .before .before .before .if2 .left) _ (c .before .before .before .before .before .before .before .before .before .before .before .before .before .before .before .before .finalize-eq-neighbors .ensures) _ _ (c .before .before .before .before .before .before .send-edges2 .ensures) .kept .floats
+finalize-eq-same-length-6 t c = rest-finishes _ _ _ _ _ (c .before .before .before .before .before .before .before .before .before .before .before .before .before .before .before .before .before .before .before .before .before .before .before .before .before .before .before .before .before .before .before .before .before .before .before .before .before .before .before .before .before .before .before .before .before .before .before .before .before .pre .1) _ _ _ (c .before .before .before .before .before .before .before .before .before .before .before .before .before .before .before .before .before .before .before .before .before .before .before .before .before .before .before .before .before .before .before .before .before .before .before .before .before .before .before .lifted-at .ensures) (c .before .before .before .before .before .before .before .before .before .before .before .before .before .before .before .before .before .before .before .before .before .before .before .before .before .before .before .before .before .before .before .before .before .before .before .before .before .before .before .before .before .before .before .links-of .ensures .0) (c .before .before .before .before .before .before .before .before .before .before .before .before .before .before .before .before .before .before .before .before .before .before .before .before .before .before .before .before .before .before .before .before .before .before .before .before .before .before .before .before .before .before .before .links-of .ensures .1) _ (c .before .before .before .before .before .before .before .before .before .before .before .before .before .before .before .before .before .before .before .before .before .before .before .before .before .before .before .before .before .before .before .before .before .before .before .before .before .before .before .before .before .next-edge .ensures) (c .before .before .before .before .before .before .before .before .before .before .before .before .before .before .before .before .before .before .before .before .before .before .before .before .before .before .before .before .before .before .before .before .before .before .before .before .before .before .before .before .if1 .left) _ _ (c .before .before .before .before .before .before .before .before .before .before .before .before .before .before .before .before .before .before .before .before .before .before .before .before .before .before .before .before .before .before .before .before .before .before .before .before .before .save .ensures) (c .before .before .before .before .before .before .before .before .before .before .before .before .before .before .before .before .before .before .before .before .before .before .before .before .before .before .before .before .before .before .before .before .before .clear-weights2 .ensures) _ _ (c .before .before .before .before .before .before .before .before .before .before .before .before .before .before .before .before .before .before .before .before .before .before .before .before .before .before .before .send-edges .ensures) (c .before .before .before .before .before .before .before .before .before .before .before .before .before .before .before .before .before .before .before .before .if2 .left) _ (c .before .before .before .before .before .before .before .before .before .before .before .before .before .before .before .before .finalize-eq-neighbors .ensures) _ _ (c .before .before .before .before .before .before .send-edges2 .ensures) .kept .floats
 
--- src/lib.rt:15:1
 finalize-eq-same-length-7 : (t : ℕ) → finalize-eq-lts.Need-same-length-7 (
   links-of-reads.Asked,
   links-of-reads.Learnt,
@@ -354,6 +432,8 @@ finalize-eq-same-length-7 : (t : ℕ) → finalize-eq-lts.Need-same-length-7 (
   next-edge-reads.Learnt,
   clear-weights-reads.Asked,
   clear-weights-reads.Learnt,
+  lifted-at-reads.Asked,
+  lifted-at-reads.Learnt,
   save-reads.Asked,
   save-reads.Learnt,
   send-edges-reads.Asked,
@@ -361,9 +441,8 @@ finalize-eq-same-length-7 : (t : ℕ) → finalize-eq-lts.Need-same-length-7 (
   finalize-eq-neighbors-below t,
   finalize-eq-neighbors.Post,
 ) (finalize-eq-at t) finalize-eq.Post
-finalize-eq-same-length-7 t c = rest-finishes _ _ _ _ _ (c .before .before .before .before .before .before .before .before .before .before .before .before .before .before .before .before .before .before .before .before .before .before .before .before .before .before .before .before .before .before .before .before .before .before .before .before .before .before .before .before .before .before .before .before .before .before .before .before .pre .1 .0) _ _ _ (c .before .before .before .before .before .before .before .before .before .before .before .before .before .before .before .before .before .before .before .before .before .before .before .before .before .before .before .before .before .before .before .before .before .before .before .before .before .before .before .before .before .before .before .before .before .before .before .before .pre .1 .1) (c .before .before .before .before .before .before .before .before .before .before .before .before .before .before .before .before .before .before .before .before .before .before .before .before .before .before .before .before .before .before .before .before .before .before .before .before .before .before .before .before .before .before .links-of .ensures .0) (c .before .before .before .before .before .before .before .before .before .before .before .before .before .before .before .before .before .before .before .before .before .before .before .before .before .before .before .before .before .before .before .before .before .before .before .before .before .before .before .before .before .before .links-of .ensures .1) _ (c .before .before .before .before .before .before .before .before .before .before .before .before .before .before .before .before .before .before .before .before .before .before .before .before .before .before .before .before .before .before .before .before .before .before .before .before .before .before .before .before .next-edge .ensures) (c .before .before .before .before .before .before .before .before .before .before .before .before .before .before .before .before .before .before .before .before .before .before .before .before .before .before .before .before .before .before .before .before .before .before .before .before .before .before .before .if1 .left) _ _ (c .before .before .before .before .before .before .before .before .before .before .before .before .before .before .before .before .before .before .before .before .before .before .before .before .before .before .before .before .before .before .before .before .before .before .before .before .before .save .ensures) (c .before .before .before .before .before .before .before .before .before .before .before .before .before .before .before .before .before .before .before .before .before .before .before .before .before .before .before .before .before .before .before .before .before .clear-weights2 .ensures) _ _ (c .before .before .before .before .before .before .before .before .before .before .before .before .before .before .before .before .before .before .before .before .before .before .before .before .before .before .before .send-edges .ensures) (c .before .before .before .before .before .before .before .before .before .before .before .before .before .before .before .before .before .before .before .before .if2 .left) _ (c .before .before .before .before .before .before .before .before .before .before .before .before .before .before .before .before .finalize-eq-neighbors .ensures) _ _ (c .before .before .before .before .before .before .send-edges2 .ensures) .kept .bytes
+finalize-eq-same-length-7 t c = rest-finishes _ _ _ _ _ (c .before .before .before .before .before .before .before .before .before .before .before .before .before .before .before .before .before .before .before .before .before .before .before .before .before .before .before .before .before .before .before .before .before .before .before .before .before .before .before .before .before .before .before .before .before .before .before .before .before .pre .1) _ _ _ (c .before .before .before .before .before .before .before .before .before .before .before .before .before .before .before .before .before .before .before .before .before .before .before .before .before .before .before .before .before .before .before .before .before .before .before .before .before .before .before .lifted-at .ensures) (c .before .before .before .before .before .before .before .before .before .before .before .before .before .before .before .before .before .before .before .before .before .before .before .before .before .before .before .before .before .before .before .before .before .before .before .before .before .before .before .before .before .before .before .links-of .ensures .0) (c .before .before .before .before .before .before .before .before .before .before .before .before .before .before .before .before .before .before .before .before .before .before .before .before .before .before .before .before .before .before .before .before .before .before .before .before .before .before .before .before .before .before .before .links-of .ensures .1) _ (c .before .before .before .before .before .before .before .before .before .before .before .before .before .before .before .before .before .before .before .before .before .before .before .before .before .before .before .before .before .before .before .before .before .before .before .before .before .before .before .before .before .next-edge .ensures) (c .before .before .before .before .before .before .before .before .before .before .before .before .before .before .before .before .before .before .before .before .before .before .before .before .before .before .before .before .before .before .before .before .before .before .before .before .before .before .before .before .if1 .left) _ _ (c .before .before .before .before .before .before .before .before .before .before .before .before .before .before .before .before .before .before .before .before .before .before .before .before .before .before .before .before .before .before .before .before .before .before .before .before .before .save .ensures) (c .before .before .before .before .before .before .before .before .before .before .before .before .before .before .before .before .before .before .before .before .before .before .before .before .before .before .before .before .before .before .before .before .before .clear-weights2 .ensures) _ _ (c .before .before .before .before .before .before .before .before .before .before .before .before .before .before .before .before .before .before .before .before .before .before .before .before .before .before .before .send-edges .ensures) (c .before .before .before .before .before .before .before .before .before .before .before .before .before .before .before .before .before .before .before .before .if2 .left) _ (c .before .before .before .before .before .before .before .before .before .before .before .before .before .before .before .before .finalize-eq-neighbors .ensures) _ _ (c .before .before .before .before .before .before .send-edges2 .ensures) .kept .events
 
--- src/lib.rt:15:1
 finalize-eq-returns-3 : (t : ℕ) → finalize-eq-lts.Need-returns-3 (
   links-of-reads.Asked,
   links-of-reads.Learnt,
@@ -371,6 +450,8 @@ finalize-eq-returns-3 : (t : ℕ) → finalize-eq-lts.Need-returns-3 (
   next-edge-reads.Learnt,
   clear-weights-reads.Asked,
   clear-weights-reads.Learnt,
+  lifted-at-reads.Asked,
+  lifted-at-reads.Learnt,
   save-reads.Asked,
   save-reads.Learnt,
   send-edges-reads.Asked,
@@ -378,21 +459,22 @@ finalize-eq-returns-3 : (t : ℕ) → finalize-eq-lts.Need-returns-3 (
   finalize-eq-neighbors-below t,
   finalize-eq-neighbors.Post,
 ) (finalize-eq-at t) finalize-eq.Post
-finalize-eq-returns-3 t c = rest-finishes _ _ _ _ _ (c .before .before .before .before .before .before .before .before .before .before .before .before .before .before .before .before .before .before .before .before .before .before .before .before .before .before .before .before .before .before .before .before .before .before .before .before .before .before .before .before .before .before .before .before .before .before .before .before .pre .1 .0) _ _ _ (c .before .before .before .before .before .before .before .before .before .before .before .before .before .before .before .before .before .before .before .before .before .before .before .before .before .before .before .before .before .before .before .before .before .before .before .before .before .before .before .before .before .before .before .before .before .before .before .before .pre .1 .1) (c .before .before .before .before .before .before .before .before .before .before .before .before .before .before .before .before .before .before .before .before .before .before .before .before .before .before .before .before .before .before .before .before .before .before .before .before .before .before .before .before .before .before .links-of .ensures .0) (c .before .before .before .before .before .before .before .before .before .before .before .before .before .before .before .before .before .before .before .before .before .before .before .before .before .before .before .before .before .before .before .before .before .before .before .before .before .before .before .before .before .before .links-of .ensures .1) _ (c .before .before .before .before .before .before .before .before .before .before .before .before .before .before .before .before .before .before .before .before .before .before .before .before .before .before .before .before .before .before .before .before .before .before .before .before .before .before .before .before .next-edge .ensures) (c .before .before .before .before .before .before .before .before .before .before .before .before .before .before .before .before .before .before .before .before .before .before .before .before .before .before .before .before .before .before .before .before .before .before .before .before .before .before .before .if1 .left) _ _ (c .before .before .before .before .before .before .before .before .before .before .before .before .before .before .before .before .before .before .before .before .before .before .before .before .before .before .before .before .before .before .before .before .before .before .before .before .before .save .ensures) (c .before .before .before .before .before .before .before .before .before .before .before .before .before .before .before .before .before .before .before .before .before .before .before .before .before .before .before .before .before .before .before .before .before .clear-weights2 .ensures) _ _ (c .before .before .before .before .before .before .before .before .before .before .before .before .before .before .before .before .before .before .before .before .before .before .before .before .before .before .before .send-edges .ensures) (c .before .before .before .before .before .before .before .before .before .before .before .before .before .before .before .before .before .before .before .before .if2 .left) _ (c .before .before .before .before .before .before .before .before .before .before .before .before .before .before .before .before .finalize-eq-neighbors .ensures) _ _ (c .before .before .before .before .before .before .send-edges2 .ensures)
+finalize-eq-returns-3 t c = rest-finishes _ _ _ _ _ (c .before .before .before .before .before .before .before .before .before .before .before .before .before .before .before .before .before .before .before .before .before .before .before .before .before .before .before .before .before .before .before .before .before .before .before .before .before .before .before .before .before .before .before .before .before .before .before .before .before .pre .1) _ _ _ (c .before .before .before .before .before .before .before .before .before .before .before .before .before .before .before .before .before .before .before .before .before .before .before .before .before .before .before .before .before .before .before .before .before .before .before .before .before .before .before .lifted-at .ensures) (c .before .before .before .before .before .before .before .before .before .before .before .before .before .before .before .before .before .before .before .before .before .before .before .before .before .before .before .before .before .before .before .before .before .before .before .before .before .before .before .before .before .before .before .links-of .ensures .0) (c .before .before .before .before .before .before .before .before .before .before .before .before .before .before .before .before .before .before .before .before .before .before .before .before .before .before .before .before .before .before .before .before .before .before .before .before .before .before .before .before .before .before .before .links-of .ensures .1) _ (c .before .before .before .before .before .before .before .before .before .before .before .before .before .before .before .before .before .before .before .before .before .before .before .before .before .before .before .before .before .before .before .before .before .before .before .before .before .before .before .before .before .next-edge .ensures) (c .before .before .before .before .before .before .before .before .before .before .before .before .before .before .before .before .before .before .before .before .before .before .before .before .before .before .before .before .before .before .before .before .before .before .before .before .before .before .before .before .if1 .left) _ _ (c .before .before .before .before .before .before .before .before .before .before .before .before .before .before .before .before .before .before .before .before .before .before .before .before .before .before .before .before .before .before .before .before .before .before .before .before .before .save .ensures) (c .before .before .before .before .before .before .before .before .before .before .before .before .before .before .before .before .before .before .before .before .before .before .before .before .before .before .before .before .before .before .before .before .before .clear-weights2 .ensures) _ _ (c .before .before .before .before .before .before .before .before .before .before .before .before .before .before .before .before .before .before .before .before .before .before .before .before .before .before .before .send-edges .ensures) (c .before .before .before .before .before .before .before .before .before .before .before .before .before .before .before .before .before .before .before .before .if2 .left) _ (c .before .before .before .before .before .before .before .before .before .before .before .before .before .before .before .before .finalize-eq-neighbors .ensures) _ _ (c .before .before .before .before .before .before .send-edges2 .ensures)
 
 abbrev finalize-eq-neighbors-Inv-loop : finalize-eq-neighbors-lts.InvT-loop
-finalize-eq-neighbors-Inv-loop row zone used up gases rows marks words gas₀ floats₀ bytes₀ from to now₀ k₀ neighbours gas floats bytes now k =
-    Giving (boardOf rows marks gases) words zone up from to (areas gas₀ floats₀ bytes₀ used) k (areas gas floats bytes now)
+finalize-eq-neighbors-Inv-loop used rows marks gas₀ words floats₀ events₀ zone gases row from to neighbours up now₀ k₀ gas floats events now k =
+    Giving (boardOf rows marks gases) words zone up from to (areas gas₀ floats₀ events₀ used) k (areas gas floats events now)
 
 abbrev finalize-eq-neighbors-μ-loop : finalize-eq-neighbors-lts.MeasureT-loop
-finalize-eq-neighbors-μ-loop row zone used up gases rows marks words gas₀ floats₀ bytes₀ from to now₀ k₀ neighbours gas floats bytes now k =
+finalize-eq-neighbors-μ-loop used rows marks gas₀ words floats₀ events₀ zone gases row from to neighbours up now₀ k₀ gas floats events now k =
     to - k
 
--- src/lib.rt:111:33
 finalize-eq-neighbors-element-copy-out-links-of :
     (t : ℕ) → finalize-eq-neighbors-lts.Need-element-copy-out-links-of (
       links-of-reads.Asked,
       links-of-reads.Learnt,
+      lifted-at-reads.Asked,
+      lifted-at-reads.Learnt,
       next-edge-reads.Asked,
       next-edge-reads.Learnt,
       finalize-eq-below t,
@@ -404,11 +486,12 @@ finalize-eq-neighbors-element-copy-out-links-of :
     finalize-eq-neighbors-μ-loop
 finalize-eq-neighbors-element-copy-out-links-of t c = search needs
 
--- src/lib.rt:111:9
 finalize-eq-neighbors-links-of-requires :
     (t : ℕ) → finalize-eq-neighbors-lts.Need-links-of-requires (
       links-of-reads.Asked,
       links-of-reads.Learnt,
+      lifted-at-reads.Asked,
+      lifted-at-reads.Learnt,
       next-edge-reads.Asked,
       next-edge-reads.Learnt,
       finalize-eq-below t,
@@ -418,29 +501,14 @@ finalize-eq-neighbors-links-of-requires :
     finalize-eq-neighbors.Post
     finalize-eq-neighbors-Inv-loop
     finalize-eq-neighbors-μ-loop
-finalize-eq-neighbors-links-of-requires t c κs = omega (arith, c .before .before .before .before .before .pre .1 .0 .ready .board .starts, c .before .before .before .before .before .pre .1 .0 .row)
+finalize-eq-neighbors-links-of-requires t c κs = omega (arith, c .before .before .before .before .before .pre .1 .ready .board .starts, c .before .before .before .before .before .pre .1 .row)
 
--- src/lib.rt:115:9
-finalize-eq-neighbors-next-edge-requires :
-    (t : ℕ) → finalize-eq-neighbors-lts.Need-next-edge-requires (
-      links-of-reads.Asked,
-      links-of-reads.Learnt,
-      next-edge-reads.Asked,
-      next-edge-reads.Learnt,
-      finalize-eq-below t,
-      finalize-eq.Post,
-    )
-    (finalize-eq-neighbors-at t)
-    finalize-eq-neighbors.Post
-    finalize-eq-neighbors-Inv-loop
-    finalize-eq-neighbors-μ-loop
-finalize-eq-neighbors-next-edge-requires t c κs = links-room _ _ _ _ _ (c .before .before .before .before .before .before .before .pre .1 .0) _ _ _ (c .before .before .before .before .before .before .before .pre .1 .1) (c .before .links-of .ensures .0) (c .before .links-of .ensures .1) (now (c .before .before .before .before .before .before .before .args .floats)) refl
-
--- src/lib.rt:116:22
 finalize-eq-neighbors-element-copy-out-neighbours :
     (t : ℕ) → finalize-eq-neighbors-lts.Need-element-copy-out-neighbours (
       links-of-reads.Asked,
       links-of-reads.Learnt,
+      lifted-at-reads.Asked,
+      lifted-at-reads.Learnt,
       next-edge-reads.Asked,
       next-edge-reads.Learnt,
       finalize-eq-below t,
@@ -452,41 +520,12 @@ finalize-eq-neighbors-element-copy-out-neighbours :
     finalize-eq-neighbors-μ-loop
 finalize-eq-neighbors-element-copy-out-neighbours t c = search needs
 
--- src/lib.rt:117:5
-finalize-eq-neighbors-loop-holds : (t : ℕ) → finalize-eq-neighbors-lts.Need-loop-holds (
-  links-of-reads.Asked,
-  links-of-reads.Learnt,
-  next-edge-reads.Asked,
-  next-edge-reads.Learnt,
-  finalize-eq-below t,
-  finalize-eq.Post,
-)
-    (finalize-eq-neighbors-at t)
-    finalize-eq-neighbors.Post
-    finalize-eq-neighbors-Inv-loop
-    finalize-eq-neighbors-μ-loop
-finalize-eq-neighbors-loop-holds t c = loop-start _ _ _ _ _ (c .before .before .before .before .before .before .before .before .before .pre .1 .0) _ _ _ (c .before .before .before .before .before .before .before .before .before .pre .1 .1) (c .before .before .before .links-of .ensures .0) (c .before .before .before .links-of .ensures .1) _ (c .before .next-edge .ensures)
-
--- src/lib.rt:119:13
-finalize-eq-neighbors-mul-finalize-eq : (t : ℕ) → finalize-eq-neighbors-lts.Need-mul-finalize-eq (
-  links-of-reads.Asked,
-  links-of-reads.Learnt,
-  next-edge-reads.Asked,
-  next-edge-reads.Learnt,
-  finalize-eq-below t,
-  finalize-eq.Post,
-)
-    (finalize-eq-neighbors-at t)
-    finalize-eq-neighbors.Post
-    finalize-eq-neighbors-Inv-loop
-    finalize-eq-neighbors-μ-loop
-finalize-eq-neighbors-mul-finalize-eq t c = let e = link-below _ _ _ _ _ (c .before .before .before .before .before .before .before .before .before .before .before .pre .1 .0) _ _ _ (c .before .before .before .before .before .before .before .before .before .before .before .pre .1 .1) (c .before .before .before .before .before .links-of .ensures .0) (c .before .before .before .before .before .links-of .ensures .1) _ _ (c .before .loop .inv) (c .loop-test .taken) in omega (arith, e .0, e .1)
-
--- src/lib.rt:119:13
-finalize-eq-neighbors-shared-slice-read-finalize-eq :
-    (t : ℕ) → finalize-eq-neighbors-lts.Need-shared-slice-read-finalize-eq (
+finalize-eq-neighbors-element-copy-out-lifted-at :
+    (t : ℕ) → finalize-eq-neighbors-lts.Need-element-copy-out-lifted-at (
       links-of-reads.Asked,
       links-of-reads.Learnt,
+      lifted-at-reads.Asked,
+      lifted-at-reads.Learnt,
       next-edge-reads.Asked,
       next-edge-reads.Learnt,
       finalize-eq-below t,
@@ -496,12 +535,47 @@ finalize-eq-neighbors-shared-slice-read-finalize-eq :
     finalize-eq-neighbors.Post
     finalize-eq-neighbors-Inv-loop
     finalize-eq-neighbors-μ-loop
-finalize-eq-neighbors-shared-slice-read-finalize-eq t c = link-below _ _ _ _ _ (c .before .before .before .before .before .before .before .before .before .before .before .before .pre .1 .0) _ _ _ (c .before .before .before .before .before .before .before .before .before .before .before .before .pre .1 .1) (c .before .before .before .before .before .before .links-of .ensures .0) (c .before .before .before .before .before .before .links-of .ensures .1) _ _ (c .before .before .loop .inv) (c .before .loop-test .taken) .0
+finalize-eq-neighbors-element-copy-out-lifted-at t c = search needs
 
--- src/lib.rt:119:13
-finalize-eq-neighbors-cast-finalize-eq : (t : ℕ) → finalize-eq-neighbors-lts.Need-cast-finalize-eq (
+finalize-eq-neighbors-lifted-at-requires :
+    (t : ℕ) → finalize-eq-neighbors-lts.Need-lifted-at-requires (
+      links-of-reads.Asked,
+      links-of-reads.Learnt,
+      lifted-at-reads.Asked,
+      lifted-at-reads.Learnt,
+      next-edge-reads.Asked,
+      next-edge-reads.Learnt,
+      finalize-eq-below t,
+      finalize-eq.Post,
+    )
+    (finalize-eq-neighbors-at t)
+    finalize-eq-neighbors.Post
+    finalize-eq-neighbors-Inv-loop
+    finalize-eq-neighbors-μ-loop
+finalize-eq-neighbors-lifted-at-requires t c κs = search needs
+
+finalize-eq-neighbors-next-edge-requires :
+    (t : ℕ) → finalize-eq-neighbors-lts.Need-next-edge-requires (
+      links-of-reads.Asked,
+      links-of-reads.Learnt,
+      lifted-at-reads.Asked,
+      lifted-at-reads.Learnt,
+      next-edge-reads.Asked,
+      next-edge-reads.Learnt,
+      finalize-eq-below t,
+      finalize-eq.Post,
+    )
+    (finalize-eq-neighbors-at t)
+    finalize-eq-neighbors.Post
+    finalize-eq-neighbors-Inv-loop
+    finalize-eq-neighbors-μ-loop
+finalize-eq-neighbors-next-edge-requires t c κs = links-room _ _ _ _ _ (c .before .before .before .before .before .before .before .before .before .pre .1) _ _ _ (c .before .lifted-at .ensures) (c .before .before .before .links-of .ensures .0) (c .before .before .before .links-of .ensures .1) (now (c .before .before .before .before .before .before .before .before .before .args .floats)) refl
+
+finalize-eq-neighbors-loop-holds : (t : ℕ) → finalize-eq-neighbors-lts.Need-loop-holds (
   links-of-reads.Asked,
   links-of-reads.Learnt,
+  lifted-at-reads.Asked,
+  lifted-at-reads.Learnt,
   next-edge-reads.Asked,
   next-edge-reads.Learnt,
   finalize-eq-below t,
@@ -511,13 +585,63 @@ finalize-eq-neighbors-cast-finalize-eq : (t : ℕ) → finalize-eq-neighbors-lts
     finalize-eq-neighbors.Post
     finalize-eq-neighbors-Inv-loop
     finalize-eq-neighbors-μ-loop
-finalize-eq-neighbors-cast-finalize-eq t c = omega (arith, c .shared-slice-known2 .given (c .before .before .loop .k))
+finalize-eq-neighbors-loop-holds t c = loop-start _ _ _ _ _ (c .before .before .before .before .before .before .before .before .before .before .pre .1) _ _ _ (c .before .before .lifted-at .ensures) (c .before .before .before .before .links-of .ensures .0) (c .before .before .before .before .links-of .ensures .1) _ (c .next-edge .ensures)
 
--- src/lib.rt:118:9
+finalize-eq-neighbors-mul-t32 : (t : ℕ) → finalize-eq-neighbors-lts.Need-mul-t32 (
+  links-of-reads.Asked,
+  links-of-reads.Learnt,
+  lifted-at-reads.Asked,
+  lifted-at-reads.Learnt,
+  next-edge-reads.Asked,
+  next-edge-reads.Learnt,
+  finalize-eq-below t,
+  finalize-eq.Post,
+)
+    (finalize-eq-neighbors-at t)
+    finalize-eq-neighbors.Post
+    finalize-eq-neighbors-Inv-loop
+    finalize-eq-neighbors-μ-loop
+finalize-eq-neighbors-mul-t32 t c = let e = link-below _ _ _ _ _ (c .before .before .before .before .before .before .before .before .before .before .before .before .pre .1) _ _ _ (c .before .before .before .before .lifted-at .ensures) (c .before .before .before .before .before .before .links-of .ensures .0) (c .before .before .before .before .before .before .links-of .ensures .1) _ _ (c .before .loop .inv) (c .loop-test .taken) in omega (arith, e .0, e .1)
+
+finalize-eq-neighbors-shared-slice-read-t34 :
+    (t : ℕ) → finalize-eq-neighbors-lts.Need-shared-slice-read-t34 (
+      links-of-reads.Asked,
+      links-of-reads.Learnt,
+      lifted-at-reads.Asked,
+      lifted-at-reads.Learnt,
+      next-edge-reads.Asked,
+      next-edge-reads.Learnt,
+      finalize-eq-below t,
+      finalize-eq.Post,
+    )
+    (finalize-eq-neighbors-at t)
+    finalize-eq-neighbors.Post
+    finalize-eq-neighbors-Inv-loop
+    finalize-eq-neighbors-μ-loop
+finalize-eq-neighbors-shared-slice-read-t34 t c = link-below _ _ _ _ _ (c .before .before .before .before .before .before .before .before .before .before .before .before .before .pre .1) _ _ _ (c .before .before .before .before .before .lifted-at .ensures) (c .before .before .before .before .before .before .before .links-of .ensures .0) (c .before .before .before .before .before .before .before .links-of .ensures .1) _ _ (c .before .before .loop .inv) (c .before .loop-test .taken) .0
+
+finalize-eq-neighbors-cast-t35 : (t : ℕ) → finalize-eq-neighbors-lts.Need-cast-t35 (
+  links-of-reads.Asked,
+  links-of-reads.Learnt,
+  lifted-at-reads.Asked,
+  lifted-at-reads.Learnt,
+  next-edge-reads.Asked,
+  next-edge-reads.Learnt,
+  finalize-eq-below t,
+  finalize-eq.Post,
+)
+    (finalize-eq-neighbors-at t)
+    finalize-eq-neighbors.Post
+    finalize-eq-neighbors-Inv-loop
+    finalize-eq-neighbors-μ-loop
+finalize-eq-neighbors-cast-t35 t c = omega (arith, c .shared-slice-known2 .given (c .before .before .loop .k))
+
 finalize-eq-neighbors-finalize-eq-requires :
     (t : ℕ) → finalize-eq-neighbors-lts.Need-finalize-eq-requires (
       links-of-reads.Asked,
       links-of-reads.Learnt,
+      lifted-at-reads.Asked,
+      lifted-at-reads.Learnt,
       next-edge-reads.Asked,
       next-edge-reads.Learnt,
       finalize-eq-below t,
@@ -527,12 +651,13 @@ finalize-eq-neighbors-finalize-eq-requires :
     finalize-eq-neighbors.Post
     finalize-eq-neighbors-Inv-loop
     finalize-eq-neighbors-μ-loop
-finalize-eq-neighbors-finalize-eq-requires t c κs = (omega (arith, c .before .before .before .before .before .before .before .before .before .before .before .before .before .before .before .pre .0, c .before .before .before .before .before .loop .inv .made .fewer), (giver-begun _ _ _ _ _ (c .before .before .before .before .before .before .before .before .before .before .before .before .before .before .before .pre .1 .0) _ _ _ (c .before .before .before .before .before .before .before .before .before .before .before .before .before .before .before .pre .1 .1) (c .before .before .before .before .before .before .before .before .before .links-of .ensures .0) (c .before .before .before .before .before .before .before .before .before .links-of .ensures .1) _ _ (c .before .before .before .before .before .loop .inv) (c .before .before .before .before .loop-test .taken), c .before .before .before .before .before .before .before .before .before .before .before .before .before .before .before .pre .1 .1))
+finalize-eq-neighbors-finalize-eq-requires t c κs = (omega (arith, c .before .before .before .before .before .before .before .before .before .before .before .before .before .before .before .before .pre .0, c .before .before .before .before .before .loop .inv .made .fewer), giver-begun _ _ _ _ _ (c .before .before .before .before .before .before .before .before .before .before .before .before .before .before .before .before .pre .1) _ _ _ (c .before .before .before .before .before .before .before .before .lifted-at .ensures) (c .before .before .before .before .before .before .before .before .before .before .links-of .ensures .0) (c .before .before .before .before .before .before .before .before .before .before .links-of .ensures .1) _ _ (c .before .before .before .before .before .loop .inv) (c .before .before .before .before .loop-test .taken))
 
--- src/lib.rt:131:36
 finalize-eq-neighbors-add-next-edge : (t : ℕ) → finalize-eq-neighbors-lts.Need-add-next-edge (
   links-of-reads.Asked,
   links-of-reads.Learnt,
+  lifted-at-reads.Asked,
+  lifted-at-reads.Learnt,
   next-edge-reads.Asked,
   next-edge-reads.Learnt,
   finalize-eq-below t,
@@ -542,13 +667,14 @@ finalize-eq-neighbors-add-next-edge : (t : ℕ) → finalize-eq-neighbors-lts.Ne
     finalize-eq-neighbors.Post
     finalize-eq-neighbors-Inv-loop
     finalize-eq-neighbors-μ-loop
-finalize-eq-neighbors-add-next-edge t c = let e = link-below _ _ _ _ _ (c .before .before .before .before .before .before .before .before .before .before .before .before .before .before .before .before .before .before .before .before .before .before .pre .1 .0) _ _ _ (c .before .before .before .before .before .before .before .before .before .before .before .before .before .before .before .before .before .before .before .before .before .before .pre .1 .1) (c .before .before .before .before .before .before .before .before .before .before .before .before .before .before .before .before .links-of .ensures .0) (c .before .before .before .before .before .before .before .before .before .before .before .before .before .before .before .before .links-of .ensures .1) _ _ (c .before .before .before .before .before .before .before .before .before .before .before .before .loop .inv) (c .before .before .before .before .before .before .before .before .before .before .before .loop-test .taken) in omega (arith, e .0, e .1)
+finalize-eq-neighbors-add-next-edge t c = let e = link-below _ _ _ _ _ (c .before .before .before .before .before .before .before .before .before .before .before .before .before .before .before .before .before .before .before .before .before .before .before .pre .1) _ _ _ (c .before .before .before .before .before .before .before .before .before .before .before .before .before .before .before .lifted-at .ensures) (c .before .before .before .before .before .before .before .before .before .before .before .before .before .before .before .before .before .links-of .ensures .0) (c .before .before .before .before .before .before .before .before .before .before .before .before .before .before .before .before .before .links-of .ensures .1) _ _ (c .before .before .before .before .before .before .before .before .before .before .before .before .loop .inv) (c .before .before .before .before .before .before .before .before .before .before .before .loop-test .taken) in omega (arith, e .0, e .1)
 
--- src/lib.rt:131:9
 finalize-eq-neighbors-next-edge-requires-2 :
     (t : ℕ) → finalize-eq-neighbors-lts.Need-next-edge-requires-2 (
       links-of-reads.Asked,
       links-of-reads.Learnt,
+      lifted-at-reads.Asked,
+      lifted-at-reads.Learnt,
       next-edge-reads.Asked,
       next-edge-reads.Learnt,
       finalize-eq-below t,
@@ -558,12 +684,13 @@ finalize-eq-neighbors-next-edge-requires-2 :
     finalize-eq-neighbors.Post
     finalize-eq-neighbors-Inv-loop
     finalize-eq-neighbors-μ-loop
-finalize-eq-neighbors-next-edge-requires-2 t c κs = edge-room _ _ _ _ _ (c .before .before .before .before .before .before .before .before .before .before .before .before .before .before .before .before .before .before .before .before .before .before .before .pre .1 .0) _ _ _ (c .before .before .before .before .before .before .before .before .before .before .before .before .before .before .before .before .before .before .before .before .before .before .before .pre .1 .1) (c .before .before .before .before .before .before .before .before .before .before .before .before .before .before .before .before .before .links-of .ensures .0) (c .before .before .before .before .before .before .before .before .before .before .before .before .before .before .before .before .before .links-of .ensures .1) _ _ (c .before .before .before .before .before .before .before .before .before .before .before .before .before .loop .inv) (c .before .before .before .before .before .before .before .before .before .before .before .before .loop-test .taken) (c .before .before .before .before .before .before .before .finalize-eq .last .1 .1 .1 .1 .1 .1 .1 .1 .1 .0) (c .before .before .before .before .before .before .before .finalize-eq .ensures .kept .floats)
+finalize-eq-neighbors-next-edge-requires-2 t c κs = edge-room _ _ _ _ _ (c .before .before .before .before .before .before .before .before .before .before .before .before .before .before .before .before .before .before .before .before .before .before .before .before .pre .1) _ _ _ (c .before .before .before .before .before .before .before .before .before .before .before .before .before .before .before .before .lifted-at .ensures) (c .before .before .before .before .before .before .before .before .before .before .before .before .before .before .before .before .before .before .links-of .ensures .0) (c .before .before .before .before .before .before .before .before .before .before .before .before .before .before .before .before .before .before .links-of .ensures .1) _ _ (c .before .before .before .before .before .before .before .before .before .before .before .before .before .loop .inv) (c .before .before .before .before .before .before .before .before .before .before .before .before .loop-test .taken) (c .before .before .before .before .before .before .before .finalize-eq .last .1 .1 .1 .1 .1 .1 .0) (c .before .before .before .before .before .before .before .finalize-eq .ensures .kept .floats)
 
--- src/lib.rt:117:5
 finalize-eq-neighbors-loop-less : (t : ℕ) → finalize-eq-neighbors-lts.Need-loop-less (
   links-of-reads.Asked,
   links-of-reads.Learnt,
+  lifted-at-reads.Asked,
+  lifted-at-reads.Learnt,
   next-edge-reads.Asked,
   next-edge-reads.Learnt,
   finalize-eq-below t,
@@ -575,10 +702,11 @@ finalize-eq-neighbors-loop-less : (t : ℕ) → finalize-eq-neighbors-lts.Need-l
     finalize-eq-neighbors-μ-loop
 finalize-eq-neighbors-loop-less t c = omega (arith, c .next-edge2 .ensures .low, c .before .before .before .before .before .before .before .before .before .before .before .before .before .loop-test .taken)
 
--- src/lib.rt:117:5
 finalize-eq-neighbors-loop-again : (t : ℕ) → finalize-eq-neighbors-lts.Need-loop-again (
   links-of-reads.Asked,
   links-of-reads.Learnt,
+  lifted-at-reads.Asked,
+  lifted-at-reads.Learnt,
   next-edge-reads.Asked,
   next-edge-reads.Learnt,
   finalize-eq-below t,
@@ -588,12 +716,13 @@ finalize-eq-neighbors-loop-again : (t : ℕ) → finalize-eq-neighbors-lts.Need-
     finalize-eq-neighbors.Post
     finalize-eq-neighbors-Inv-loop
     finalize-eq-neighbors-μ-loop
-finalize-eq-neighbors-loop-again t c = loop-next _ _ _ _ _ (c .before .before .before .before .before .before .before .before .before .before .before .before .before .before .before .before .before .before .before .before .before .before .before .before .pre .1 .0) _ _ _ (c .before .before .before .before .before .before .before .before .before .before .before .before .before .before .before .before .before .before .before .before .before .before .before .before .pre .1 .1) (c .before .before .before .before .before .before .before .before .before .before .before .before .before .before .before .before .before .before .links-of .ensures .0) (c .before .before .before .before .before .before .before .before .before .before .before .before .before .before .before .before .before .before .links-of .ensures .1) _ _ (c .before .before .before .before .before .before .before .before .before .before .before .before .before .before .loop .inv) (c .before .before .before .before .before .before .before .before .before .before .before .before .before .loop-test .taken) _ _ (c .before .before .before .before .before .before .before .before .finalize-eq .ensures) (c .next-edge2 .ensures)
+finalize-eq-neighbors-loop-again t c = loop-next _ _ _ _ _ (c .before .before .before .before .before .before .before .before .before .before .before .before .before .before .before .before .before .before .before .before .before .before .before .before .before .pre .1) _ _ _ (c .before .before .before .before .before .before .before .before .before .before .before .before .before .before .before .before .before .lifted-at .ensures) (c .before .before .before .before .before .before .before .before .before .before .before .before .before .before .before .before .before .before .before .links-of .ensures .0) (c .before .before .before .before .before .before .before .before .before .before .before .before .before .before .before .before .before .before .before .links-of .ensures .1) _ _ (c .before .before .before .before .before .before .before .before .before .before .before .before .before .before .loop .inv) (c .before .before .before .before .before .before .before .before .before .before .before .before .before .loop-test .taken) _ _ (c .before .before .before .before .before .before .before .before .finalize-eq .ensures) (c .next-edge2 .ensures)
 
--- src/lib.rt:94:1
 finalize-eq-neighbors-same-length : (t : ℕ) → finalize-eq-neighbors-lts.Need-same-length (
   links-of-reads.Asked,
   links-of-reads.Learnt,
+  lifted-at-reads.Asked,
+  lifted-at-reads.Learnt,
   next-edge-reads.Asked,
   next-edge-reads.Learnt,
   finalize-eq-below t,
@@ -605,10 +734,11 @@ finalize-eq-neighbors-same-length : (t : ℕ) → finalize-eq-neighbors-lts.Need
     finalize-eq-neighbors-μ-loop
 finalize-eq-neighbors-same-length t c = c .before .loop .inv .made .kept .gas
 
--- src/lib.rt:94:1
 finalize-eq-neighbors-same-length-2 : (t : ℕ) → finalize-eq-neighbors-lts.Need-same-length-2 (
   links-of-reads.Asked,
   links-of-reads.Learnt,
+  lifted-at-reads.Asked,
+  lifted-at-reads.Learnt,
   next-edge-reads.Asked,
   next-edge-reads.Learnt,
   finalize-eq-below t,
@@ -620,10 +750,11 @@ finalize-eq-neighbors-same-length-2 : (t : ℕ) → finalize-eq-neighbors-lts.Ne
     finalize-eq-neighbors-μ-loop
 finalize-eq-neighbors-same-length-2 t c = c .before .loop .inv .made .kept .floats
 
--- src/lib.rt:94:1
 finalize-eq-neighbors-same-length-3 : (t : ℕ) → finalize-eq-neighbors-lts.Need-same-length-3 (
   links-of-reads.Asked,
   links-of-reads.Learnt,
+  lifted-at-reads.Asked,
+  lifted-at-reads.Learnt,
   next-edge-reads.Asked,
   next-edge-reads.Learnt,
   finalize-eq-below t,
@@ -633,12 +764,13 @@ finalize-eq-neighbors-same-length-3 : (t : ℕ) → finalize-eq-neighbors-lts.Ne
     finalize-eq-neighbors.Post
     finalize-eq-neighbors-Inv-loop
     finalize-eq-neighbors-μ-loop
-finalize-eq-neighbors-same-length-3 t c = c .before .loop .inv .made .kept .bytes
+finalize-eq-neighbors-same-length-3 t c = c .before .loop .inv .made .kept .events
 
--- src/lib.rt:94:1
 finalize-eq-neighbors-returns : (t : ℕ) → finalize-eq-neighbors-lts.Need-returns (
   links-of-reads.Asked,
   links-of-reads.Learnt,
+  lifted-at-reads.Asked,
+  lifted-at-reads.Learnt,
   next-edge-reads.Asked,
   next-edge-reads.Learnt,
   finalize-eq-below t,
@@ -648,7 +780,7 @@ finalize-eq-neighbors-returns : (t : ℕ) → finalize-eq-neighbors-lts.Need-ret
     finalize-eq-neighbors.Post
     finalize-eq-neighbors-Inv-loop
     finalize-eq-neighbors-μ-loop
-finalize-eq-neighbors-returns t c = givers-finished _ _ _ _ _ (c .before .before .before .before .before .before .before .before .before .before .before .pre .1 .0) _ _ _ (c .before .before .before .before .before .before .before .before .before .before .before .pre .1 .1) (c .before .before .before .before .before .links-of .ensures .0) (c .before .before .before .before .before .links-of .ensures .1) _ _ (c .before .loop .inv) (c .loop-test .left)
+finalize-eq-neighbors-returns t c = givers-finished _ _ _ _ _ (c .before .before .before .before .before .before .before .before .before .before .before .before .pre .1) _ _ _ (c .before .before .before .before .lifted-at .ensures) (c .before .before .before .before .before .before .links-of .ensures .0) (c .before .before .before .before .before .before .links-of .ensures .1) _ _ (c .before .loop .inv) (c .loop-test .left)
 
 pub +finalize-eq+finalize-eq-neighbors-spec : {M : Type 1} → statement M
 +finalize-eq+finalize-eq-neighbors-spec =
@@ -659,6 +791,8 @@ pub +finalize-eq+finalize-eq-neighbors-spec : {M : Type 1} → statement M
       next-edge-reads.Learnt,
       clear-weights-reads.Asked,
       clear-weights-reads.Learnt,
+      lifted-at-reads.Asked,
+      lifted-at-reads.Learnt,
       save-reads.Asked,
       save-reads.Learnt,
       send-edges-reads.Asked,
@@ -674,6 +808,9 @@ pub +finalize-eq+finalize-eq-neighbors-spec : {M : Type 1} → statement M
     (finalize-eq-clear-weights-requires t)
     (finalize-eq-same-length t)
     (finalize-eq-returns t)
+    (finalize-eq-element-copy-out-lifted-at t)
+    (finalize-eq-element-copy-out-lifted-at-2 t)
+    (finalize-eq-lifted-at-requires t)
     (finalize-eq-save-requires t)
     (finalize-eq-clear-weights-requires-2 t)
     (finalize-eq-send-edges-requires t)
@@ -690,6 +827,8 @@ pub +finalize-eq+finalize-eq-neighbors-spec : {M : Type 1} → statement M
     λ t. finalize-eq-neighbors-lts.spec (
       links-of-reads.Asked,
       links-of-reads.Learnt,
+      lifted-at-reads.Asked,
+      lifted-at-reads.Learnt,
       next-edge-reads.Asked,
       next-edge-reads.Learnt,
       finalize-eq-below t,
@@ -701,12 +840,14 @@ pub +finalize-eq+finalize-eq-neighbors-spec : {M : Type 1} → statement M
     finalize-eq-neighbors-μ-loop
     (finalize-eq-neighbors-element-copy-out-links-of t)
     (finalize-eq-neighbors-links-of-requires t)
-    (finalize-eq-neighbors-next-edge-requires t)
     (finalize-eq-neighbors-element-copy-out-neighbours t)
+    (finalize-eq-neighbors-element-copy-out-lifted-at t)
+    (finalize-eq-neighbors-lifted-at-requires t)
+    (finalize-eq-neighbors-next-edge-requires t)
     (finalize-eq-neighbors-loop-holds t)
-    (finalize-eq-neighbors-mul-finalize-eq t)
-    (finalize-eq-neighbors-shared-slice-read-finalize-eq t)
-    (finalize-eq-neighbors-cast-finalize-eq t)
+    (finalize-eq-neighbors-mul-t32 t)
+    (finalize-eq-neighbors-shared-slice-read-t34 t)
+    (finalize-eq-neighbors-cast-t35 t)
     (finalize-eq-neighbors-finalize-eq-requires t)
     (finalize-eq-neighbors-add-next-edge t)
     (finalize-eq-neighbors-next-edge-requires-2 t)
