@@ -26,7 +26,7 @@ use Rattle.plan_state.proofs.Links.{reverse-within}
 use Rattle.finalize_eq.specs.Lifted.{above, pending, Held, sendHeld, giversHeld}
 use Rattle.finalize_eq.proofs.Weights.{alter-less}
 use Rattle.finish_send.specs.Areas.{Areas, ownerIn, reverseIn, liftedAt, weightIn, liftedIn, Shows, Ready, Kept}
-use Rattle.finish_send.specs.Sending.{Counted, marks, Next, SendFits, Sends, pairAs, toSend, Going, Progress, SentTo}
+use Rattle.finish_send.specs.Sending.{Counted, isMarked, Next, SendFits, Sends, pairAs, toSend, Going, Progress, SentTo}
 use Rattle.finish_send.proofs.Ranges.{run-parts, run-last, run-none, run-idle}
 use Rattle.finish_send.proofs.Shown.{owner-at, reverse-at, lifted-at, kept-none, kept-then, sent-kept, sent-lifted, sent-weight, sent-used, sent-shows}
 
@@ -55,9 +55,9 @@ module _ (b : Board) (words : List ℕ) (z k to : ℕ) (h : to ≤ linkCount b) 
   pub to-send-alike : (f f′ : List Float) → ((j : ℕ) → k ≤ j → j < to → owned b (ownerIn (linkCount b) words) z j ≡ true → getD (liftedIn b f′) j nan ≡ getD (liftedIn b f) j nan)
       → toSend b words f′ z k to ≡ toSend b words f z k to
   unfolding toSend
-  to-send-alike f f′ e = count-same (marks words f′ z (liftedAt b) true) (marks words f z (liftedAt b) true) k (to - k) (λ j l u. each j l (omega arith))
+  to-send-alike f f′ e = count-same (isMarked words f′ z (liftedAt b) true) (isMarked words f z (liftedAt b) true) k (to - k) (λ j l u. each j l (omega arith))
     where
-      each : (j : ℕ) → k ≤ j → j < to → marks words f′ z (liftedAt b) true j ≡ marks words f z (liftedAt b) true j
+      each : (j : ℕ) → k ≤ j → j < to → isMarked words f′ z (liftedAt b) true j ≡ isMarked words f z (liftedAt b) true j
       each j l u = go (eqb (getD words j 0) (z + 1)) refl
         where
           go : (t : Bool) → eqb (getD words j 0) (z + 1) ≡ t → t && above (getD f′ (liftedAt b + j) nan) ≡ t && above (getD f (liftedAt b + j) nan)
@@ -68,13 +68,13 @@ module _ (b : Board) (words : List ℕ) (z k to : ℕ) (h : to ≤ linkCount b) 
   to-send-same : (f f′ : List Float) → liftedIn b f′ ≡ liftedIn b f → toSend b words f′ z k to ≡ toSend b words f z k to
   to-send-same f f′ e = to-send-alike f f′ (λ j l u o. ap (λ (x : List Float). getD x j nan) e)
 
-  to-send-skip : (f : List Float) (m : ℕ) → Next (marks words f z (liftedAt b) true) k to m → toSend b words f z k to ≡ toSend b words f z m to
+  to-send-skip : (f : List Float) (m : ℕ) → Next (isMarked words f z (liftedAt b) true) k to m → toSend b words f z k to ≡ toSend b words f z m to
   unfolding toSend
-  to-send-skip f m n = count-skip (marks words f z (liftedAt b) true) k (m - k) m to (omega (arith, n .low)) (n .high) (n .none)
+  to-send-skip f m n = count-skip (isMarked words f z (liftedAt b) true) k (m - k) m to (omega (arith, n .low)) (n .high) (n .none)
 
-  pub to-send-here : (f : List Float) → k < to → marks words f z (liftedAt b) true k ≡ true → toSend b words f z k to ≡ 1 + toSend b words f z (k + 1) to
+  pub to-send-here : (f : List Float) → k < to → isMarked words f z (liftedAt b) true k ≡ true → toSend b words f z k to ≡ 1 + toSend b words f z (k + 1) to
   unfolding toSend
-  to-send-here f l t = count-here (marks words f z (liftedAt b) true) k to l ∙ ap (λ (x : Bool). one x + count (marks words f z (liftedAt b) true) (upFrom (k + 1) (to - (k + 1)))) t
+  to-send-here f l t = count-here (isMarked words f z (liftedAt b) true) k to l ∙ ap (λ (x : Bool). one x + count (isMarked words f z (liftedAt b) true) (upFrom (k + 1) (to - (k + 1)))) t
 
 -- ---- one link
 
@@ -92,7 +92,7 @@ module _ (b : Board) (words : List ℕ) (stop : Bool) (z r : ℕ) where
   owner = ownerIn (linkCount b) words
 
   abbrev P : List Float → ℕ → Bool
-  P f = marks words f z (liftedAt b) true
+  P f = isMarked words f z (liftedAt b) true
 
   -- the definition's test is the code's
   pub test-is : (a : Areas) (h : Held) (k : ℕ) → Shows b a h → k < linkCount b → owned b owner z k && above (getD (h .lifted) k nan) ≡ P (a .floats) k
@@ -177,7 +177,7 @@ sent-size {b = b} {k = k} {z = z} {words = words} {a = a} s = ap length (s .weig
 -- at the loop's head
 pub record At (b : Board) (words : List ℕ) (stop : Bool) (z r up from to : ℕ) (a : Areas) (k : ℕ) (a′ : Areas) : Type 0 where
   pub made : Progress b words stop z r from to k a a′
-  pub here : k < to → marks words (a′ .floats) z up true k ≡ true
+  pub here : k < to → isMarked words (a′ .floats) z up true k ≡ true
 
 module _ (b : Board) (words : List ℕ) (stop : Bool) (z r up from to : ℕ) (a : Areas) (u : up ≡ liftedAt b) (g : Going b words z r from to a) where
   within : to ≤ linkCount b
@@ -203,13 +203,13 @@ module _ (b : Board) (words : List ℕ) (stop : Bool) (z r up from to : ℕ) (a 
     held = holds-of (a′ .gas) (mixtureCount b) (b .gases) (mixOf b r) (q .gas ∙ g .ready .board .fits) (g .ready .board .mixed r);
   }
 
-  found : (i k : ℕ) (a′ : Areas) → Progress b words stop z r from to i a a′ → Next (marks words (a′ .floats) z up true) i to k → Here k a′
+  found : (i k : ℕ) (a′ : Areas) → Progress b words stop z r from to i a a′ → Next (isMarked words (a′ .floats) z up true) i to k → Here k a′
   found i k a′ m n = record {
-    made = made-skip b words stop z r from to a within i k a′ m (subst (λ (x : ℕ). Next (marks words (a′ .floats) z x true) i to k) u n);
+    made = made-skip b words stop z r from to a within i k a′ m (subst (λ (x : ℕ). Next (isMarked words (a′ .floats) z x true) i to k) u n);
     here = n .here;
   }
 
-  pub loop-start : (k : ℕ) → Next (marks words (a .floats) z up true) from to k → Here k a
+  pub loop-start : (k : ℕ) → Next (isMarked words (a .floats) z up true) from to k → Here k a
   loop-start k n = found from k a (made-none b words stop z r from to a (g .order)) n
 
   pub send-fits : (k : ℕ) (a′ : Areas) → Here k a′ → k < to
@@ -218,7 +218,7 @@ module _ (b : Board) (words : List ℕ) (stop : Bool) (z r up from to : ℕ) (a 
       let p = m .made in
       let rd = ready-kept (g .ready) (p .kept) in
       let e : to ≤ linkCount b = within in
-      let here = subst (λ (x : ℕ). marks words (a′ .floats) z x true k ≡ true) u (m .here l) in
+      let here = subst (λ (x : ℕ). isMarked words (a′ .floats) z x true k ≡ true) u (m .here l) in
       let n = to-send-here b words z k to within (a′ .floats) l here in
       record {
         zone = g .zone;
@@ -244,10 +244,10 @@ module _ (b : Board) (words : List ℕ) (stop : Bool) (z r up from to : ℕ) (a 
   pub loop-next : (k j : ℕ) (a′ a″ : Areas) (short : Bool) → Here k a′ → k < to → short ≡ false
       → short ≡ stop && lt (total b (a′ .gas) r) (getD (a′ .floats) (up + k) nan)
       → Sends b r k z (liftedAt b) words a′ a″
-      → Next (marks words (a″ .floats) z up true) (k + 1) to j → Here j a″
+      → Next (isMarked words (a″ .floats) z up true) (k + 1) to j → Here j a″
   loop-next k j a′ a″ short m l q is s n =
       found (k + 1) j a″
-      (made-send b words stop z r from to a within k a′ a″ (m .made) (g .ready) (g .row) (in-row k (m .made .low) l) l (subst (λ (x : ℕ). marks words (a′ .floats) z x true k ≡ true) u (m .here l))
+      (made-send b words stop z r from to a within k a′ a″ (m .made) (g .ready) (g .row) (in-row k (m .made .low) l) l (subst (λ (x : ℕ). isMarked words (a′ .floats) z x true k ≡ true) u (m .here l))
       (subst (λ (x : ℕ). stop && lt (total b (a′ .gas) r) (getD (a′ .floats) (x + k) nan) ≡ false) u (sym is ∙ q))
       s) n
 
@@ -259,7 +259,7 @@ module _ (b : Board) (words : List ℕ) (stop : Bool) (z r up from to : ℕ) (a 
       record {
         made = m .made;
         whole = λ e. absurd (differ (sym (s .0) ∙ e));
-        short = λ h. (subst (λ (x : ℕ). marks words (a′ .floats) z x true k ≡ true) u (m .here l), subst (λ (x : ℕ). lt (total b (a′ .gas) r) (getD (a′ .floats) (x + k) nan) ≡ true) u (s .1));
+        short = λ h. (subst (λ (x : ℕ). isMarked words (a′ .floats) z x true k ≡ true) u (m .here l), subst (λ (x : ℕ). lt (total b (a′ .gas) r) (getD (a′ .floats) (x + k) nan) ≡ true) u (s .1));
       }
 
   pub all-sent : (k : ℕ) (a′ : Areas) → Here k a′ → to ≤ k → SentTo b words stop z r from to to a a′

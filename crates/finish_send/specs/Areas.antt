@@ -3,6 +3,7 @@ use mathlib.Core.Path.{_≡_}
 use mathlib.Core.List.{List, [], _∷_}
 use Prim.Native.Nat.{ℕ, _+_, _≤_}
 use lib.ListN.{length, take, drop}
+use denote.Ref.{RefT}
 use lib.Ieee.{Float}
 use Rattle.basics.specs.Regions.{region}
 use Rattle.board_rules.specs.Board.{Board, turfCount, linkCount}
@@ -27,6 +28,10 @@ pub record Areas : Type 0 where
 
 abbrev pub areas : List Float → List Float → List ℕ → ℕ → Areas
 areas gas floats events used = record { gas = gas; floats = floats; events = events; used = used }
+
+-- the same of references to them, as contracts have it
+abbrev pub areasAt : RefT (List Float) → RefT (List Float) → RefT (List ℕ) → ℕ → Areas
+areasAt gas floats events used = areas (gas .now) (floats .now) (events .now) used
 
 -- words: by link, the zone that owns it and its reverse
 abbrev pub ownerIn : ℕ → List ℕ → List ℕ

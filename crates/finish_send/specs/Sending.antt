@@ -18,6 +18,8 @@ use Rattle.event_rules.specs.declared.Event.the-variants.{Pressure}
 use Rattle.process_zone.specs.Edges.{alter, owned}
 use Rattle.plan_state.specs.Steps.{backLink}
 use Rattle.finalize_eq.specs.Lifted.{Held, sendHeld, giversHeld, above, pending}
+use Rattle.finish_send.specs.declared.Turf.{Turf}
+use Rattle.finish_send.specs.declared.Span.{Span}
 use Rattle.finish_send.specs.Areas.{Areas, Shows, Ready, Kept, ownerIn, reverseIn, weightIn, liftedIn, liftedAt}
 
 -- above 0, or below it
@@ -25,8 +27,8 @@ abbrev pub sideOf : Bool → Float → Bool
 sideOf up x = if up then lt 0f x else lt x 0f
 
 -- zone z owns the link j, whose float from `base` on is above 0, or below it
-abbrev pub marks : List ℕ → List Float → ℕ → ℕ → Bool → ℕ → Bool
-marks words floats z base up j = eqb (getD words j 0) (z + 1) && sideOf up (getD floats (base + j) nan)
+abbrev pub isMarked : List ℕ → List Float → ℕ → ℕ → Bool → ℕ → Bool
+isMarked words floats z base up j = eqb (getD words j 0) (z + 1) && sideOf up (getD floats (base + j) nan)
 
 -- r is the first place from k on that passes, and `to` where none does
 pub record Next (p : ℕ → Bool) (k to r : ℕ) : Type 0 where
@@ -95,7 +97,7 @@ module _ (b : Board) (owner : List ℕ) (z : ℕ) where
 
 -- how many links from k up to `to` have something to send
 unfoldable pub toSend : Board → List ℕ → List Float → ℕ → ℕ → ℕ → ℕ
-toSend b words floats z k to = count (marks words floats z (liftedAt b) true) (upFrom k (to - k))
+toSend b words floats z k to = count (isMarked words floats z (liftedAt b) true) (upFrom k (to - k))
 
 -- the turf r, its links from `from` up to `to`
 pub record Going (b : Board) (words : List ℕ) (z r from to : ℕ) (a : Areas) : Type 0 where
@@ -121,4 +123,8 @@ pub record Progress (b : Board) (words : List ℕ) (stop : Bool) (z r from to at
 pub record SentTo (b : Board) (words : List ℕ) (stop : Bool) (z r from to at : ℕ) (a a′ : Areas) : Type 0 where
   pub made : Progress b words stop z r from to at a a′
   pub whole : stop ≡ false → at ≡ to
-  pub short : at < to → (marks words (a′ .floats) z (liftedAt b) true at ≡ true) × (lt (total b (a′ .gas) r) (getD (a′ .floats) (liftedAt b + at) nan) ≡ true)
+  pub short : at < to → (isMarked words (a′ .floats) z (liftedAt b) true at ≡ true) × (lt (total b (a′ .gas) r) (getD (a′ .floats) (liftedAt b + at) nan) ≡ true)
+
+-- the same of the turf and the links in hand
+abbrev pub SentOver : Board → List ℕ → Turf → Span → Areas → ℕ → Areas → Type 0
+SentOver b words t l a at a′ = SentTo b words (l .stop) (t .zone) (t .row) (l .from) (l .to) at a a′

@@ -19,8 +19,8 @@ ghost use Rattle.basics.specs.Lists.{Found};
 ghost use Rattle.mixture_rules.specs.Mixture.{total};
 ghost use Rattle.process_zone.specs.Edges.{alter};
 ghost use Rattle.turfs.specs.Tables.{boardAt};
-ghost use Rattle.finish_send.specs.Areas.{areas, liftedAt};
-ghost use Rattle.finish_send.specs.Sending.{sideOf, marks, Next, saveAt, zeroAt, shared, Counted, MoveFits, SendFits, Sends, Going, SentTo};
+ghost use Rattle.finish_send.specs.Areas.{areasAt, liftedAt};
+ghost use Rattle.finish_send.specs.Sending.{sideOf, isMarked, Next, saveAt, zeroAt, shared, Counted, MoveFits, SendFits, Sends, Going, SentOver};
 
 // The turf in hand: its row, its zone, and the board's number of gases.
 pub struct Turf {
@@ -52,7 +52,7 @@ fn side(above: bool, x: f32) -> bool
 // Zone `zone` owns the link k, whose float from `base` on is above 0, or below it.
 fn marked(k: usize, zone: u32, base: usize, above: bool, words: &[u32], floats: &[f32]) -> bool
     requires { ⌜ (zone < 4096) × ((k < length (now words)) × (base + k < length (now floats))) ⌝ }
-    ensures { λ r. ⌜ r ≡ marks (now (words .entry)) (now (floats .entry)) zone base above k ⌝ }
+    ensures { λ r. ⌜ r ≡ isMarked (now (words .entry)) (now (floats .entry)) zone base above k ⌝ }
 {
     if words[k] != zone + 1 {
         return false;
@@ -71,7 +71,7 @@ pub fn next_edge(
     floats: &[f32],
 ) -> usize
     requires { ⌜ (zone < 4096) × ((k ≤ to) × ((to ≤ length (now words)) × (base + to ≤ length (now floats)))) ⌝ }
-    ensures { λ r. ⌜ Next (marks (now (words .entry)) (now (floats .entry)) zone base above) k to r ⌝ }
+    ensures { λ r. ⌜ Next (isMarked (now (words .entry)) (now (floats .entry)) zone base above) k to r ⌝ }
 {
     let mut i = k;
     while i < to {
@@ -166,8 +166,8 @@ fn send(
     floats: &mut [f32],
     events: &mut [u8],
 ) -> usize
-    requires { let b = boardAt rows marks (turf .gases) in ⌜ SendFits b (turf .row) k (turf .zone) (liftedAt b) (now words) (areas (now gas) (now floats) (now events) used) ⌝ }
-    ensures { λ r. let b = boardAt (rows .entry) (marks .entry) (turf .gases) in ⌜ Sends b (turf .row) k (turf .zone) (liftedAt b) (now (words .entry)) (areas (now (gas .entry)) (now (floats .entry)) (now (events .entry)) used) (areas (now (gas .exit)) (now (floats .exit)) (now (events .exit)) r) ⌝ }
+    requires { let b = boardAt rows marks (turf .gases) in ⌜ SendFits b (turf .row) k (turf .zone) (liftedAt b) (now words) (areasAt gas floats events used) ⌝ }
+    ensures { λ r. let b = boardAt (rows .entry) (marks .entry) (turf .gases) in ⌜ Sends b (turf .row) k (turf .zone) (liftedAt b) (now (words .entry)) (areasAt (gas .entry) (floats .entry) (events .entry) used) (areasAt (gas .exit) (floats .exit) (events .exit) r) ⌝ }
 {
     let ids = rows[IDS];
     let neighbours = rows[NEIGHBOURS];
@@ -211,8 +211,8 @@ pub fn send_edges(
     floats: &mut [f32],
     events: &mut [u8],
 ) -> Sent
-    requires { ⌜ Going (boardAt rows marks (turf .gases)) (now words) (turf .zone) (turf .row) (links .from) (links .to) (areas (now gas) (now floats) (now events) used) ⌝ }
-    ensures { λ r. let b = boardAt (rows .entry) (marks .entry) (turf .gases) in ⌜ SentTo b (now (words .entry)) (links .stop) (turf .zone) (turf .row) (links .from) (links .to) (r .at) (areas (now (gas .entry)) (now (floats .entry)) (now (events .entry)) used) (areas (now (gas .exit)) (now (floats .exit)) (now (events .exit)) (r .used)) ⌝ }
+    requires { ⌜ Going (boardAt rows marks (turf .gases)) (now words) (turf .zone) (turf .row) (links .from) (links .to) (areasAt gas floats events used) ⌝ }
+    ensures { λ r. let b = boardAt (rows .entry) (marks .entry) (turf .gases) in ⌜ SentOver b (now (words .entry)) turf links (areasAt (gas .entry) (floats .entry) (events .entry) used) (r .at) (areasAt (gas .exit) (floats .exit) (events .exit) (r .used)) ⌝ }
 {
     let zone = turf.zone;
     let to = links.to;

@@ -9,11 +9,9 @@ use turfs::Rows;
 use turfs::STARTS;
 ghost use mathlib.Core.Path.{_≡_};
 ghost use Prim.Native.Nat.{_<_};
-ghost use Rattle.board_rules.specs.Board.{linkCount};
-ghost use Rattle.finalize_eq.specs.Lifted.{finishHeld, giversOf};
 ghost use Rattle.turfs.specs.Tables.{boardAt};
-ghost use Rattle.finish_send.specs.Areas.{areas, ownerIn};
-ghost use Rattle.finish_turf.specs.Finishing.{Begun, Finishes};
+ghost use Rattle.finish_send.specs.Areas.{areasAt};
+ghost use Rattle.finish_turf.specs.Finishing.{Begun, Finishes, turfDone, giversDone};
 
 // Carries out a turf's plan: its weights are lifted, and what is above 0 is sent; once the turf hasn't enough, its givers are finished first.
 pub fn finalize_eq(
@@ -26,8 +24,8 @@ pub fn finalize_eq(
     floats: &mut [f32],
     events: &mut [u8],
 ) -> usize
-    requires { ⌜ Begun (boardAt rows marks (turf .gases)) (now words) (turf .zone) (turf .row) (areas (now gas) (now floats) (now events) used) ⌝ }
-    ensures { λ r. let b = boardAt (rows .entry) (marks .entry) (turf .gases) in ⌜ Finishes b (λ n. finishHeld b (ownerIn (linkCount b) (now (words .entry))) (turf .zone) n (turf .row)) (areas (now (gas .entry)) (now (floats .entry)) (now (events .entry)) used) (areas (now (gas .exit)) (now (floats .exit)) (now (events .exit)) r) ⌝ }
+    requires { ⌜ Begun (boardAt rows marks (turf .gases)) (now words) (turf .zone) (turf .row) (areasAt gas floats events used) ⌝ }
+    ensures { λ r. let b = boardAt (rows .entry) (marks .entry) (turf .gases) in ⌜ Finishes b (turfDone b (now (words .entry)) turf) (areasAt (gas .entry) (floats .entry) (events .entry) used) (areasAt (gas .exit) (floats .exit) (events .exit) r) ⌝ }
 {
     let zone = turf.zone;
     let links = turfs::links_of(rows[STARTS], turf.row);
@@ -71,8 +69,8 @@ fn finalize_eq_neighbors(
     floats: &mut [f32],
     events: &mut [u8],
 ) -> usize
-    requires { ⌜ Begun (boardAt rows marks (turf .gases)) (now words) (turf .zone) (turf .row) (areas (now gas) (now floats) (now events) used) ⌝ }
-    ensures { λ r. let b = boardAt (rows .entry) (marks .entry) (turf .gases) in ⌜ Finishes b (λ n. giversOf b (ownerIn (linkCount b) (now (words .entry))) (turf .zone) n (turf .row)) (areas (now (gas .entry)) (now (floats .entry)) (now (events .entry)) used) (areas (now (gas .exit)) (now (floats .exit)) (now (events .exit)) r) ⌝ }
+    requires { ⌜ Begun (boardAt rows marks (turf .gases)) (now words) (turf .zone) (turf .row) (areasAt gas floats events used) ⌝ }
+    ensures { λ r. let b = boardAt (rows .entry) (marks .entry) (turf .gases) in ⌜ Finishes b (giversDone b (now (words .entry)) turf) (areasAt (gas .entry) (floats .entry) (events .entry) used) (areasAt (gas .exit) (floats .exit) (events .exit) r) ⌝ }
 {
     let zone = turf.zone;
     let gases = turf.gases;
