@@ -1,5 +1,6 @@
 // The turns: which node of which zone is finished next. Of n turfs and e links the words hold, past the arrays of filling and planning, by zone the number of
 // nodes that had their turn, the unfinished zones ascending, where each zone's nodes start, and the nodes of all zones.
+use finish_send::Turf;
 use turfs::IDS;
 use turfs::Marks;
 use turfs::NEIGHBOURS;
@@ -9,9 +10,15 @@ ghost use Prim.Native.Nat.{_+_, _-_, _%_, _≤_, _<_};
 ghost use lib.ListN.{length, getD};
 ghost use Rattle.board_rules.specs.Board.{turfCount};
 ghost use Rattle.turfs.specs.Tables.{boardAt};
-ghost use Rattle.finish_send.specs.Areas.{areas, liftedAt};
+ghost use Rattle.finish_send.specs.Areas.{areasAt};
 ghost use Rattle.finish_turns.specs.Zones.{Laid, TakenOut, StartsZone, Started};
-ghost use Rattle.finish_turns.specs.Turning.{Fit, Open, Nexts, Live, Turns, AllLaid, ByTurns, Zoned, Planned, FinishesAll};
+ghost use Rattle.finish_turns.specs.Turning.{Fit, Open, Nexts, Live, TurnOf, AllLaid, ByTurns, Zoned, Planned, FinishesAll};
+
+// What the turns share: where they stand among the words, and the number of gases.
+pub struct Turning {
+    pub cursor: usize,
+    pub gases: usize,
+}
 
 // What a turn leaves: unfinished zones, bytes written.
 pub struct Left {
@@ -71,80 +78,56 @@ fn start(zones: usize, cursor: usize, n: usize, words: &mut [u32]) -> usize
 // Finishes the zone's next node.
 fn finish_next(
     zone: usize,
-    cursor: usize,
+    at: Turning,
     used: usize,
-    up: usize,
-    gases: usize,
     rows: &Rows,
     marks: &Marks,
-    words: &mut [u32],
     gas: &mut [f32],
+    words: &mut [u32],
     floats: &mut [f32],
-    bytes: &mut [u8],
+    events: &mut [u8],
 ) -> usize
-    requires { let b = boardAt rows marks gases in ⌜ Fit b cursor (now words) (areas (now gas) (now floats) (now bytes) used) × Open (turfCount b) cursor (now words) zone ⌝ }
-    requires { ⌜ up ≡ liftedAt (boardAt rows marks gases) ⌝ }
-    ensures { λ r. ⌜ Nexts (boardAt (rows .entry) (marks .entry) gases) cursor zone (now (words .entry)) (now (words .exit)) (areas (now (gas .entry)) (now (floats .entry)) (now (bytes .entry)) used) (areas (now (gas .exit)) (now (floats .exit)) (now (bytes .exit)) r) ⌝ }
+    requires { ⌜ Fit (boardAt rows marks (at .gases)) (at .cursor) (now words) (areasAt gas floats events used) ⌝ }
+    requires { ⌜ Open (turfCount (boardAt rows marks (at .gases))) (at .cursor) (now words) zone ⌝ }
+    ensures { λ r. ⌜ Nexts (boardAt (rows .entry) (marks .entry) (at .gases)) (at .cursor) zone (now (words .entry)) (now (words .exit)) (areasAt (gas .entry) (floats .entry) (events .entry) used) (areasAt (gas .exit) (floats .exit) (events .exit) r) ⌝ }
 {
-    let ids = rows[IDS];
-    let n = ids.len();
+    let cursor = at.cursor;
+    let n = rows[IDS].len();
     let first = cursor + n + n;
     let from = words[first + zone] as usize;
-    let at = words[cursor + zone];
-    let row = words[first + n + 1 + from + at as usize] as usize;
-    let now = finish_turf::finalize_eq(
-        row,
-        zone as u32,
-        used,
-        up,
-        gases,
-        rows,
-        marks,
-        words,
-        gas,
-        floats,
-        bytes,
-    );
-    words[cursor + zone] = at + 1;
+    let had = words[cursor + zone];
+    let turf = Turf {
+        row: words[first + n + 1 + from + had as usize] as usize,
+        zone: zone as u32,
+        gases: at.gases,
+    };
+    let now = finish_turf::finalize_eq(turf, used, rows, marks, gas, words, floats, events);
+    words[cursor + zone] = had + 1;
     now
 }
 
-// One turn: among the `count` unfinished zones, number c mod their count.
+// One turn: among the unfinished zones, number c mod their count.
 fn turn(
     c: u32,
-    count: usize,
-    cursor: usize,
-    used: usize,
-    up: usize,
-    gases: usize,
+    left: Left,
+    at: Turning,
     rows: &Rows,
     marks: &Marks,
-    words: &mut [u32],
     gas: &mut [f32],
+    words: &mut [u32],
     floats: &mut [f32],
-    bytes: &mut [u8],
+    events: &mut [u8],
 ) -> Left
-    requires { let b = boardAt rows marks gases in ⌜ Fit b cursor (now words) (areas (now gas) (now floats) (now bytes) used) × Live (turfCount b) cursor count (now words) ⌝ }
-    requires { ⌜ up ≡ liftedAt (boardAt rows marks gases) ⌝ }
-    ensures { λ r. let b = boardAt (rows .entry) (marks .entry) gases in ⌜ Turns b cursor (c % count) (getD (now (words .entry)) (cursor + turfCount b + c % count) 0) count (r .live) (now (words .entry)) (now (words .exit)) (areas (now (gas .entry)) (now (floats .entry)) (now (bytes .entry)) used) (areas (now (gas .exit)) (now (floats .exit)) (now (bytes .exit)) (r .used)) ⌝ }
+    requires { ⌜ Fit (boardAt rows marks (at .gases)) (at .cursor) (now words) (areasAt gas floats events (left .used)) ⌝ }
+    requires { ⌜ Live (turfCount (boardAt rows marks (at .gases))) (at .cursor) (left .live) (now words) ⌝ }
+    ensures { λ r. let b = boardAt (rows .entry) (marks .entry) (at .gases) in ⌜ TurnOf b (at .cursor) c (left .live) (r .live) (now (words .entry)) (now (words .exit)) (areasAt (gas .entry) (floats .entry) (events .entry) (left .used)) (areasAt (gas .exit) (floats .exit) (events .exit) (r .used)) ⌝ }
 {
-    let ids = rows[IDS];
-    let n = ids.len();
+    let cursor = at.cursor;
+    let count = left.live;
+    let n = rows[IDS].len();
     let p = c as usize % count;
     let zone = words[cursor + n + p] as usize;
-    let now = finish_next(
-        zone,
-        cursor,
-        used,
-        up,
-        gases,
-        rows,
-        marks,
-        words,
-        gas,
-        floats,
-        bytes,
-    );
+    let now = finish_next(zone, at, left.used, rows, marks, gas, words, floats, events);
     let had = words[cursor + zone] as usize;
     if had < size_of(zone, cursor + n + n, words) {
         return Left {
@@ -163,44 +146,28 @@ fn turn(
 fn by_turns(
     zones: usize,
     turns: &[u32],
-    cursor: usize,
+    at: Turning,
     used: usize,
-    up: usize,
-    gases: usize,
     rows: &Rows,
     marks: &Marks,
-    words: &mut [u32],
     gas: &mut [f32],
+    words: &mut [u32],
     floats: &mut [f32],
-    bytes: &mut [u8],
+    events: &mut [u8],
 ) -> usize
-    requires { let b = boardAt rows marks gases in ⌜ Fit b cursor (now words) (areas (now gas) (now floats) (now bytes) used) × AllLaid (turfCount b) cursor zones (now words) ⌝ }
-    requires { ⌜ up ≡ liftedAt (boardAt rows marks gases) ⌝ }
-    ensures { λ r. ⌜ ByTurns (boardAt (rows .entry) (marks .entry) gases) cursor zones (now (turns .entry)) (now (words .entry)) (now (words .exit)) (areas (now (gas .entry)) (now (floats .entry)) (now (bytes .entry)) used) (areas (now (gas .exit)) (now (floats .exit)) (now (bytes .exit)) r) ⌝ }
+    requires { ⌜ Fit (boardAt rows marks (at .gases)) (at .cursor) (now words) (areasAt gas floats events used) ⌝ }
+    requires { ⌜ AllLaid (turfCount (boardAt rows marks (at .gases))) (at .cursor) zones (now words) ⌝ }
+    ensures { λ r. let b = boardAt (rows .entry) (marks .entry) (at .gases) in ⌜ ByTurns b (at .cursor) zones (now (turns .entry)) (now (words .entry)) (now (words .exit)) (areasAt (gas .entry) (floats .entry) (events .entry) used) (areasAt (gas .exit) (floats .exit) (events .exit) r) ⌝ }
 {
-    let ids = rows[IDS];
-    let n = ids.len();
-    let mut live = start(zones, cursor, n, words);
+    let mut live = start(zones, at.cursor, rows[IDS].len(), words);
     let mut now = used;
     let mut i = 0;
     while i < turns.len() {
         if live == 0 {
             return now;
         }
-        let t = turn(
-            turns[i],
-            live,
-            cursor,
-            now,
-            up,
-            gases,
-            rows,
-            marks,
-            words,
-            gas,
-            floats,
-            bytes,
-        );
+        let left = Left { live, used: now };
+        let t = turn(turns[i], left, at, rows, marks, gas, words, floats, events);
         live = t.live;
         now = t.used;
         i += 1;
@@ -211,40 +178,26 @@ fn by_turns(
 // The nodes that a zone has left.
 fn finish_zone(
     zone: usize,
-    cursor: usize,
+    at: Turning,
     used: usize,
-    up: usize,
-    gases: usize,
     rows: &Rows,
     marks: &Marks,
-    words: &mut [u32],
     gas: &mut [f32],
+    words: &mut [u32],
     floats: &mut [f32],
-    bytes: &mut [u8],
+    events: &mut [u8],
 ) -> usize
-    requires { let b = boardAt rows marks gases in ⌜ Fit b cursor (now words) (areas (now gas) (now floats) (now bytes) used) × Laid (turfCount b) cursor (now words) zone ⌝ }
-    requires { ⌜ up ≡ liftedAt (boardAt rows marks gases) ⌝ }
-    ensures { λ r. ⌜ Zoned (boardAt (rows .entry) (marks .entry) gases) cursor zone (now (words .entry)) (now (words .exit)) (areas (now (gas .entry)) (now (floats .entry)) (now (bytes .entry)) used) (areas (now (gas .exit)) (now (floats .exit)) (now (bytes .exit)) r) ⌝ }
+    requires { ⌜ Fit (boardAt rows marks (at .gases)) (at .cursor) (now words) (areasAt gas floats events used) ⌝ }
+    requires { ⌜ Laid (turfCount (boardAt rows marks (at .gases))) (at .cursor) (now words) zone ⌝ }
+    ensures { λ r. ⌜ Zoned (boardAt (rows .entry) (marks .entry) (at .gases)) (at .cursor) zone (now (words .entry)) (now (words .exit)) (areasAt (gas .entry) (floats .entry) (events .entry) used) (areasAt (gas .exit) (floats .exit) (events .exit) r) ⌝ }
 {
-    let ids = rows[IDS];
-    let n = ids.len();
+    let cursor = at.cursor;
+    let n = rows[IDS].len();
     let size = size_of(zone, cursor + n + n, words);
     let mut i = words[cursor + zone] as usize;
     let mut now = used;
     while i < size {
-        now = finish_next(
-            zone,
-            cursor,
-            now,
-            up,
-            gases,
-            rows,
-            marks,
-            words,
-            gas,
-            floats,
-            bytes,
-        );
+        now = finish_next(zone, at, now, rows, marks, gas, words, floats, events);
         i += 1;
     }
     now
@@ -255,52 +208,34 @@ pub fn finish_all(
     zones: usize,
     turns: &[u32],
     used: usize,
-    gases: usize,
     rows: &Rows,
     marks: &Marks,
-    words: &mut [u32],
+    gases: usize,
     gas: &mut [f32],
+    words: &mut [u32],
     floats: &mut [f32],
-    bytes: &mut [u8],
+    events: &mut [u8],
 ) -> usize
-    requires { ⌜ Planned (boardAt rows marks gases) zones (now words) (areas (now gas) (now floats) (now bytes) used) ⌝ }
-    ensures { λ r. ⌜ FinishesAll (boardAt (rows .entry) (marks .entry) gases) zones (now (turns .entry)) (now (words .entry)) (now (words .exit)) (areas (now (gas .entry)) (now (floats .entry)) (now (bytes .entry)) used) (areas (now (gas .exit)) (now (floats .exit)) (now (bytes .exit)) r) ⌝ }
+    requires { ⌜ Planned (boardAt rows marks gases) zones (now words) (areasAt gas floats events used) ⌝ }
+    ensures { λ r. ⌜ FinishesAll (boardAt (rows .entry) (marks .entry) gases) zones (now (turns .entry)) (now (words .entry)) (now (words .exit)) (areasAt (gas .entry) (floats .entry) (events .entry) used) (areasAt (gas .exit) (floats .exit) (events .exit) r) ⌝ }
 {
-    let ids = rows[IDS];
-    let n = ids.len();
-    let neighbours = rows[NEIGHBOURS];
-    let e = neighbours.len();
-    let up = e + n + n;
-    let cursor = e + e + 7 * n;
+    let cursor = scratch::cursor_at(rows[IDS].len(), rows[NEIGHBOURS].len());
+    let at = Turning { cursor, gases };
     let mut now = by_turns(
         zones,
         turns,
-        cursor,
+        at,
         used,
-        up,
-        gases,
         rows,
         marks,
-        words,
         gas,
+        words,
         floats,
-        bytes,
+        events,
     );
     let mut z = 0;
     while z < zones {
-        now = finish_zone(
-            z,
-            cursor,
-            now,
-            up,
-            gases,
-            rows,
-            marks,
-            words,
-            gas,
-            floats,
-            bytes,
-        );
+        now = finish_zone(z, at, now, rows, marks, gas, words, floats, events);
         z += 1;
     }
     now
