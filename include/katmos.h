@@ -4,7 +4,9 @@
  * then hold what they held before. A call ends, keeps to the areas that it is lent, and keeps nothing between calls, so several threads
  * may call at once, each with areas of its own. equalize's recursion is as deep as the board: lend it a thread with 2 MiB of stack.
  *
- * A pointer and the number of its elements go together. A table without elements may have any pointer that isn't null.
+ * The calls come twice. `katmos_equalize_on`, `katmos_depressurize_on` and `katmos_planet_walk_on` take structs that a host fills once, by name, and
+ * answer a struct; begin there. They are these lines and nothing else: they hand what they are given to `katmos_equalize`, `katmos_depressurize` and
+ * `katmos_planet_walk`, the library's own functions, for languages that read no C header. bindings/c/breach.c is a whole program.
  *
  * N turfs are rows 0..N-1: ids (strictly ascending), flags (bit 0 or 1: enabled), a planetary byte (not 0: planetary), the row of its mixture.
  * E links: N+1 starts, then for each link the neighbour's row and flags (bit 1: a firelock). M mixtures: an immutable byte (not 0: immutable)
@@ -68,7 +70,83 @@ enum {
 #define KATMOS_WORDS(n, e, m) (16u * (size_t)(n) + 4u * (size_t)(e) + 2u * (size_t)(m) + 16u)
 #define KATMOS_FLOATS(n, e) (4u * (size_t)(n) + 2u * (size_t)(e))
 
-/* Evens out the gas of the rooms around the hot ones. Zones are finished by `turns`: each entry picks one of the unfinished zones; with no turns
+/* What every call is lent: the tables, each with the number of its elements, and the amounts. Only the amounts are written to, by equalize and
+ * depressurize. A pointer isn't null, but for neighbours and link_flags where there are no links. Set a struct to zero or initialize it by name, so that a
+ * field that is added later is 0: that will mean what it meant before. */
+struct katmos_tables {
+    const uint32_t *ids;
+    size_t ids_len;
+    const uint8_t *flags;
+    size_t flags_len;
+    const uint8_t *planetary;
+    size_t planetary_len;
+    const uint32_t *mixtures;
+    size_t mixtures_len;
+    const uint32_t *starts;
+    size_t starts_len;
+    const uint32_t *neighbours;
+    size_t neighbours_len;
+    const uint8_t *link_flags;
+    size_t link_flags_len;
+    const uint8_t *immutable;
+    size_t immutable_len;
+    uint32_t gases;
+    float *amounts;
+    size_t amounts_len;
+};
+
+/* The areas that every call is lent: events, and scratch. They may be longer than the room that the call needs. */
+struct katmos_areas {
+    uint8_t *events;
+    size_t events_len;
+    uint32_t *words;
+    size_t words_len;
+    float *floats;
+    size_t floats_len;
+};
+
+/* What equalize is asked. hot and turns may be null where there are none. */
+struct katmos_ask {
+    const uint32_t *hot; /* ids to begin at, strictly ascending; one that no turf has is passed over */
+    size_t hot_len;
+    const uint32_t *turns; /* which of the unfinished zones finishes its next turf; none: zone after zone */
+    size_t turns_len;
+    float threshold;    /* a hot turf whose neighbours are all nearer than this is passed over */
+    uint32_t limit;     /* a zone with a planetary turf ends after so many turfs */
+    uint32_t allowance; /* how many clock tests may be made */
+};
+
+/* What the two walks are asked. */
+struct katmos_walk {
+    uint32_t id;    /* the turf to begin at */
+    uint32_t limit; /* a turf whose place among those that are met exceeds this leads no further */
+};
+
+/* The answers. Where the number isn't KATMOS_DONE all else is 0. `bytes` is how long the events are that were written. */
+struct katmos_equalized {
+    uint32_t number;
+    uint32_t cancelled;
+    uint32_t processed;
+    uint32_t tests;
+    uint32_t zones;
+    uint32_t apart;
+    uint32_t bytes;
+};
+
+struct katmos_depressurized {
+    uint32_t number;
+    uint32_t outcome;
+    uint32_t bytes;
+};
+
+struct katmos_planet_walked {
+    uint32_t number;
+    uint32_t bytes;
+};
+
+/* The library's own functions. A pointer and the number of its elements go together. A table without elements may have any pointer that isn't null.
+ *
+ * Evens out the gas of the rooms around the hot ones. Zones are finished by `turns`: each entry picks one of the unfinished zones; with no turns
  * zone after zone. `allowance` is how many clock tests may be made.
  * answer: number, cancelled, processed, tests, zones, apart, bytes of events written. */
 uint32_t katmos_equalize(
@@ -109,6 +187,61 @@ uint32_t katmos_read_event(const uint8_t *events, size_t events_len, uint32_t of
 uint32_t katmos_write_event(
     uint32_t kind, uint32_t f0, uint32_t f1, uint32_t f2, uint32_t f3,
     uint8_t *events, size_t events_len, uint32_t offset, uint32_t answer[2]);
+
+/* The tables and the areas as the library's functions take them. */
+#define KATMOS_TABLES_OF(t) \
+    (t)->ids, (t)->ids_len, (t)->flags, (t)->flags_len, (t)->planetary, (t)->planetary_len, (t)->mixtures, (t)->mixtures_len, \
+    (t)->starts, (t)->starts_len, (t)->neighbours_len ? (t)->neighbours : (t)->ids, (t)->neighbours_len, \
+    (t)->link_flags_len ? (t)->link_flags : (t)->flags, (t)->link_flags_len, (t)->immutable, (t)->immutable_len, \
+    (t)->gases, (t)->amounts, (t)->amounts_len
+#define KATMOS_AREAS_OF(a) (a)->events, (a)->events_len, (a)->words, (a)->words_len, (a)->floats, (a)->floats_len
+
+/* Evens out the gas of the rooms around the hot ones. */
+static inline struct katmos_equalized katmos_equalize_on(
+    const struct katmos_tables *tables, const struct katmos_ask *ask, const struct katmos_areas *areas)
+{
+    struct katmos_equalized made;
+    uint32_t answer[7];
+    katmos_equalize(
+        KATMOS_TABLES_OF(tables), ask->hot_len ? ask->hot : tables->ids, ask->hot_len, ask->turns_len ? ask->turns : tables->ids, ask->turns_len,
+        ask->threshold, ask->limit, ask->allowance, KATMOS_AREAS_OF(areas), answer);
+    made.number = answer[0];
+    made.cancelled = answer[1];
+    made.processed = answer[2];
+    made.tests = answer[3];
+    made.zones = answer[4];
+    made.apart = answer[5];
+    made.bytes = answer[6];
+    return made;
+}
+
+/* Empties the rooms around a turf towards space. */
+static inline struct katmos_depressurized katmos_depressurize_on(
+    const struct katmos_tables *tables, const struct katmos_walk *walk, const struct katmos_areas *areas)
+{
+    struct katmos_depressurized made;
+    uint32_t answer[3];
+    katmos_depressurize(KATMOS_TABLES_OF(tables), walk->id, walk->limit, KATMOS_AREAS_OF(areas), answer);
+    made.number = answer[0];
+    made.outcome = answer[1];
+    made.bytes = answer[2];
+    return made;
+}
+
+/* Looks for firelocks from a turf towards a planet. */
+static inline struct katmos_planet_walked katmos_planet_walk_on(
+    const struct katmos_tables *tables, const struct katmos_walk *walk, const struct katmos_areas *areas)
+{
+    struct katmos_planet_walked made;
+    uint32_t answer[2];
+    katmos_planet_walk(KATMOS_TABLES_OF(tables), walk->id, walk->limit, KATMOS_AREAS_OF(areas), answer);
+    made.number = answer[0];
+    made.bytes = answer[1];
+    return made;
+}
+
+#undef KATMOS_TABLES_OF
+#undef KATMOS_AREAS_OF
 
 #ifdef __cplusplus
 }

@@ -17,26 +17,17 @@
 //! ```
 #![deny(unsafe_code)]
 
+mod ask;
 mod board;
 mod calls;
 mod events;
+pub mod most;
 #[allow(unsafe_code)]
 mod raw;
 mod refusal;
 
+pub use ask::Ask;
 pub use board::{Board, Link, Mixture, Room, Tables, Turf, ENABLED, FIRELOCK};
-pub use calls::{Ask, Depressurized, Equalized, Outcome};
+pub use calls::{Depressurized, Equalized, Outcome};
 pub use events::{Event, Events, Reader};
 pub use refusal::{LinkFault, Refusal, Span};
-
-/// At most so many turfs, mixtures, links, gases, hot ids and turns.
-pub mod most {
-    pub const TURFS: usize = 4_096;
-    pub const MIXTURES: usize = 4_096;
-    pub const LINKS: usize = 24_576;
-    pub const GASES: usize = 64;
-    pub const HOT: usize = 4_096;
-    pub const TURNS: usize = 65_536;
-    /// The largest amount of a gas.
-    pub const AMOUNT: f32 = 1_099_511_627_776.0;
-}

@@ -1,7 +1,7 @@
 //! Refusals. The library gives the number; what is wrong is then looked up in the tables, rule by rule in the library's order.
 
+use crate::ask::Ask;
 use crate::board::Tables;
-use crate::calls::Ask;
 use crate::most;
 use std::fmt;
 

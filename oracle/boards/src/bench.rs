@@ -1,9 +1,9 @@
 //! The boards that speed is measured on.
 
-use crate::families::{chain, grid};
+use crate::case::{Call, Case, Equalize};
 use crate::paper::board;
 use crate::random::Random;
-use crate::{Call, Case, Equalize};
+use crate::shapes::{chain, grid};
 
 fn case(links: &[Vec<u32>], amounts: Vec<f32>, hot: Vec<u32>) -> Case {
     let made = board(&links.iter().map(Vec::as_slice).collect::<Vec<_>>(), &amounts);

@@ -1,9 +1,9 @@
 //! The ways in which a case can be ill-formed, each with the refusal that is due where it is the only one.
 
+use crate::case::{Board, Call, Case, Equalize};
 use crate::limits::few;
 use crate::random::Random;
 use crate::refusal::failed;
-use crate::{Board, Call, Case, Equalize};
 
 /// A way to break a rule, at a row and a link.
 pub struct Fault {

@@ -1,7 +1,7 @@
 //! The areas that a call of the proved library is lent, with canaries around each.
 
-use crate::outcome::bits;
-use crate::{Board, Case, Outcome};
+use crate::case::{Board, Case};
+use crate::outcome::{Outcome, bits};
 
 /// An area with canaries before and behind it.
 pub struct Guarded<T> {
@@ -101,7 +101,7 @@ impl Lent {
 macro_rules! calls {
     ($($(#[$feature:meta])* fn $name:ident($($word:ident: $kind:ty),*);)*) => {
         unsafe extern "C" {
-            $($(#[$feature])* fn $name(
+            $($(#[$feature])* pub(crate) fn $name(
                 ids: *const u32, ids_len: usize, flags: *const u8, flags_len: usize, planetary: *const u8, planetary_len: usize,
                 mixtures: *const u32, mixtures_len: usize, starts: *const u32, starts_len: usize, neighbours: *const u32, neighbours_len: usize,
                 link_flags: *const u8, link_flags_len: usize, immutable: *const u8, immutable_len: usize, gases: u32,

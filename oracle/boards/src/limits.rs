@@ -1,10 +1,10 @@
 //! Boards at each limit of document 01 and one beyond, on small boards and on those where all else is at its limit too.
 
-use crate::families::amount;
+use crate::case::{Call, Case, Equalize, Room, Walk};
 use crate::paper::board;
 use crate::random::Random;
 use crate::refusal::refusal;
-use crate::{Call, Case, Equalize, Room, Walk};
+use crate::shapes::amount;
 use std::collections::BTreeSet;
 
 /// Turfs, links, mixtures, gases, hot ids, turns.

@@ -1,9 +1,9 @@
 //! Document 01's modules 3 to 10 as plain loops over the tables, written from the document and not from the text: the third voice where the
 //! text and the port are compared, and the judge of lists of turns.
 
+use crate::case::{Board, Call, Case, Equalize, Walk};
 use crate::events::Event;
 use crate::outcome::{Edge, Filling, Played, Rows, Zone, turn_order};
-use crate::{Board, Call, Case, Equalize, Walk};
 
 /// A board in play: the tables, and the gas as it stands.
 struct Play<'a> {

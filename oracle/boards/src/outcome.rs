@@ -1,7 +1,7 @@
 //! What a call answers and leaves, put together from what was played.
 
-use crate::events::encode;
-use crate::{Board, Call, Case, Event, Walk};
+use crate::case::{Board, Call, Case, Walk};
+use crate::events::{Event, encode};
 
 /// An edge of a zone with its weight.
 #[derive(Clone, Copy, Debug)]

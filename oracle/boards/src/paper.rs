@@ -1,7 +1,8 @@
 //! Document 01's boards and results, P1 to P12 and the six-node boards, as the document gives them.
 
-use crate::events::encode;
-use crate::{Board, Call, Case, Equalize, Event, Outcome, Walk};
+use crate::case::{Board, Call, Case, Equalize, Walk};
+use crate::events::{Event, encode};
+use crate::outcome::Outcome;
 
 /// A board of the paper: its name, the call, and what the paper says of it.
 pub struct Row {

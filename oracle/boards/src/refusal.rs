@@ -1,6 +1,6 @@
 //! The refusals 1 to 7 of the calls, from document 01's table, in its order.
 
-use crate::{Board, Call, Case};
+use crate::case::{Board, Call, Case};
 
 const MOST: f32 = 1_099_511_627_776.0; // 2^40
 

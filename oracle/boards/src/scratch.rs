@@ -1,8 +1,8 @@
 //! How equalize's scratch is laid out while it works, and whether what filling and planning leave in it is what the text's came to.
 
+use crate::case::{Board, Case};
 use crate::events::encode;
 use crate::outcome::{Outcome, Played, bits};
-use crate::{Board, Case};
 use std::ops::Range;
 
 /// Arrays of words, by number: those that filling writes.

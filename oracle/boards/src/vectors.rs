@@ -18,8 +18,8 @@
 //!
 //! The program `replay` reads it, into arrays of a fixed size: `fits` says which cases they hold.
 
-use crate::outcome::bits;
-use crate::{Board, Call, Case, Equalize, Outcome, Room, Walk};
+use crate::case::{Board, Call, Case, Equalize, Room, Walk};
+use crate::outcome::{Outcome, bits};
 use std::fmt::Write;
 
 /// What takes a case's numbers and lists: lines of text, or a packet.

@@ -1,6 +1,6 @@
 //! How long the proved parts take, on the boards that speed is measured on.
 
-use crate::{asked, fill, stages_fill, stages_plan};
+use crate::parts::{asked, fill, stages_fill, stages_plan};
 use boards::clock::own;
 use boards::guarded::Lent;
 use boards::{Call, Case, call};

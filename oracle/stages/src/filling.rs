@@ -1,6 +1,6 @@
 //! What the proved filling leaves, beside the text's.
 
-use crate::{alter, fill, on_boards};
+use crate::parts::{alter, fill, on_boards};
 use boards::Case;
 use boards::refusal::refusal;
 use boards::scratch::{filling_differs, fixed, refused};

@@ -1,6 +1,6 @@
 //! What the proved planning leaves, beside the text's.
 
-use crate::{alter, fill, on_boards, plan};
+use crate::parts::{alter, fill, on_boards, plan};
 use boards::refusal::refusal;
 use boards::scratch::{filling_differs, planned_fixed, planning_differs, refused};
 use boards::{Call, Case, Played};
