@@ -60,8 +60,3 @@ module _ (b : Board) (z : ℕ) where
       pub fill-keeps : (r : ℕ) (found owner : List ℕ) (events : List Event) (tests : ℕ) → Q (startReach r found owner events) → Q (fill b gas limit allowance z r found owner events tests .reach)
       unfolding fill
       fill-keeps r found owner events tests q = times-keeps (λ s. Q (s .reach)) (popNext b gas limit allowance z) pop-keeps (turfCount b) (startFill r found owner events tests) q
-
--- the mark of a turf's mixture, read off the tables
-pub marked-immutable : (mixtures marks : List ℕ) (row : ℕ) {r : Bool} → ((b : Board) → b .mixtures ≡ mixtures → b .immutable ≡ marks → r ≡ immutable b row) → r ≡ not (eqb (getD marks (getD mixtures row 0) 0) 0)
-unfolding immutable
-marked-immutable mixtures marks row h = h (record { ids = []; flags = []; planetary = []; mixtures = mixtures; starts = []; neighbours = []; linkFlags = []; immutable = marks; gases = 0 }) refl refl

@@ -17,13 +17,13 @@ clear-part-requires : tie.Need-clear-part-requires
 clear-part-requires c κs = search needs
 
 zones-apart-requires : tie.Need-zones-apart-requires
-zones-apart-requires c κs = ((laid-kept (c .before .before .before .before .before .before .before .before .pre .0 .0) (but-cleared (c .before .before .before .before .before .before .before .before .args .at) (length (now (c .before .before .before .before .before .before .before .before .args .immutable))) (now (c .before .before .before .before .before .before .before .before .args .words)) (c .before .before .before .before .before .before .before .before .pre .0 .1 .0) (c .before .before .before .clear-part .ensures) .0), (omega (arith, c .before .before .before .before .before .before .before .before .pre .0 .1 .0, (but-cleared (c .before .before .before .before .before .before .before .before .args .at) (length (now (c .before .before .before .before .before .before .before .before .args .immutable))) (now (c .before .before .before .before .before .before .before .before .args .words)) (c .before .before .before .before .before .before .before .before .pre .0 .1 .0) (c .before .before .before .clear-part .ensures) .0 .len)), c .before .before .before .before .before .before .before .before .pre .0 .1 .1)), (c .before .before .before .before .before .before .before .before .pre .1, (but-cleared (c .before .before .before .before .before .before .before .before .args .at) (length (now (c .before .before .before .before .before .before .before .before .args .immutable))) (now (c .before .before .before .before .before .before .before .before .args .words)) (c .before .before .before .before .before .before .before .before .pre .0 .1 .0) (c .before .before .before .clear-part .ensures) .1)))
+zones-apart-requires c κs = ((laid-kept (@pre .0 .0) (but-cleared (@args .at) (length (now (@args .immutable))) (now (@args .words)) (@pre .0 .1 .0) (@clear-part .ensures) .0), (omega (arith, @pre .0 .1 .0, (but-cleared (@args .at) (length (now (@args .immutable))) (now (@args .words)) (@pre .0 .1 .0) (@clear-part .ensures) .0 .len)), @pre .0 .1 .1)), (@pre .1, (but-cleared (@args .at) (length (now (@args .immutable))) (now (@args .words)) (@pre .0 .1 .0) (@clear-part .ensures) .1)))
 
 same-length : tie.Need-same-length
 same-length c = search needs
 
 returns : tie.Need-returns
-returns c = tells-after (c .before .before .before .before .before .before .before .before .before .before .before .pre .0 .0) (but-cleared (c .before .before .before .before .before .before .before .before .before .before .before .args .at) (length (now (c .before .before .before .before .before .before .before .before .before .before .before .args .immutable))) (now (c .before .before .before .before .before .before .before .before .before .before .before .args .words)) (c .before .before .before .before .before .before .before .before .before .before .before .pre .0 .1 .0) (c .before .before .before .before .before .before .clear-part .ensures) .0) refl (c .before .before .zones-apart .ensures)
+returns c = tells-after (@pre .0 .0) (but-cleared (@args .at) (length (now (@args .immutable))) (now (@args .words)) (@pre .0 .1 .0) (@clear-part .ensures) .0) refl (@zones-apart .ensures)
 
 pub apart-spec : {M : Type 1} → statement M
 apart-spec = tie.close (tie.spec clear-part-requires zones-apart-requires same-length returns)

@@ -24,7 +24,7 @@ shared-slice-read-if1 c = search needs
 
 -- src/lib.rt:27:9
 returns : tie.Need-returns
-returns c = marked-fixed _ _ _ _ (c .if1 .taken)
+returns c = marked-fixed _ _ _ _ (@if1 .taken)
 
 -- src/lib.rt:29:22
 add-mark : tie.Need-add-mark
@@ -44,7 +44,7 @@ add-result c = search needs
 
 -- src/lib.rt:31:9
 returns-2 : tie.Need-returns-2
-returns-2 c = marked-old _ _ _ _ (c .before .before .if1 .left) (c .if2 .taken)
+returns-2 c = marked-old _ _ _ _ (@if1 .left) (@if2 .taken)
 
 -- src/lib.rt:33:23
 add-words : tie.Need-add-words
@@ -68,7 +68,7 @@ same-length c = search needs
 
 -- src/lib.rt:14:1
 returns-3 : tie.Need-returns-3
-returns-3 c = marked-new _ _ _ _ (c .before .before .if1 .left) (c .if2 .left)
+returns-3 c = marked-new _ _ _ _ (@if1 .left) (@if2 .left)
 
 pub node-apart-spec : {M : Type 1} → statement M
 node-apart-spec =

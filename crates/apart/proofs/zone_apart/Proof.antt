@@ -31,19 +31,19 @@ loop-holds c = (((omega arith, λ h. h), but-none), λ zs. going-start _ zs _ _ 
 
 -- src/lib.rt:53:24
 mul-node-apart : tie.Need-mul-node-apart Inv-loop μ-loop
-mul-node-apart c = omega (arith, c .before .before .before .before .before .pre .0, c .loop-test .taken, c .before .before .before .before .before .fits .to, c .before .before .before .before .before .good)
+mul-node-apart c = omega (arith, @pre .0, @loop-test .taken, @fits .to, @good)
 
 -- src/lib.rt:53:24
 slice-read-node-apart : tie.Need-slice-read-node-apart Inv-loop μ-loop
-slice-read-node-apart c = omega (arith, c .before .before .before .before .before .before .pre .0, c .before .loop-test .taken, c .before .before .loop .inv .0 .1 .len)
+slice-read-node-apart c = omega (arith, @pre .0, @loop-test .taken, @loop .inv .0 .1 .len)
 
 -- src/lib.rt:53:24
 cast-node-apart : tie.Need-cast-node-apart Inv-loop μ-loop
-cast-node-apart c = omega (arith, c .slice-known2 .given (c .before .before .loop .i))
+cast-node-apart c = omega (arith, @slice-known2 .given (@loop .i))
 
 -- src/lib.rt:53:13
 node-apart-requires : tie.Need-node-apart-requires Inv-loop μ-loop
-node-apart-requires c κs = (row-now (c .before .before .before .loop .inv .0 .1) (c .before .before .before .before .before .before .before .pre .0 .0) (c .before .before .before .before .before .before .before .pre .1 .0) (c .before .before .before .loop .inv .0 .0 .0) (c .before .before .loop-test .taken), ((c .before .before .before .before .before .before .before .pre .1 .1 _ (row-now (c .before .before .before .loop .inv .0 .1) (c .before .before .before .before .before .before .before .pre .0 .0) (c .before .before .before .before .before .before .before .pre .1 .0) (c .before .before .before .loop .inv .0 .0 .0) (c .before .before .loop-test .taken))), (omega (arith, c .before .before .before .before .before .before .before .pre .0, c .before .before .before .loop .inv .0 .1 .len), (c .before .before .before .before .before .before .before .pre .0 .1 .1 .0, c .before .before .before .before .before .before .before .pre .0 .1 .1 .1))))
+node-apart-requires c κs = (row-now (@loop .inv .0 .1) (@pre .0 .0) (@pre .1 .0) (@loop .inv .0 .0 .0) (@loop-test .taken), ((@pre .1 .1 _ (row-now (@loop .inv .0 .1) (@pre .0 .0) (@pre .1 .0) (@loop .inv .0 .0 .0) (@loop-test .taken))), (omega (arith, @pre .0, @loop .inv .0 .1 .len), (@pre .0 .1 .1 .0, @pre .0 .1 .1 .1))))
 
 -- src/lib.rt:54:13
 same-length : tie.Need-same-length Inv-loop μ-loop
@@ -51,19 +51,19 @@ same-length c = search needs
 
 -- src/lib.rt:54:13
 returns : tie.Need-returns Inv-loop μ-loop
-returns c = (marked-but (omega arith) (omega (arith, (c .before .before .before .before .before .before .before .before .before .before .before .pre .1 .1 _ (row-now (c .before .before .before .before .before .before .before .loop .inv .0 .1) (c .before .before .before .before .before .before .before .before .before .before .before .pre .0 .0) (c .before .before .before .before .before .before .before .before .before .before .before .pre .1 .0) (c .before .before .before .before .before .before .before .loop .inv .0 .0 .0) (c .before .before .before .before .before .before .loop-test .taken))))) (c .before .before .before .before .before .before .before .loop .inv .0 .1) (c .before .before .before .node-apart .ensures), λ zs. going-fails _ zs _ _ _ _ _ (c .before .before .before .before .before .before .before .loop .inv .0 .0 .0) _ _ _ (c .before .before .before .before .before .before .before .loop .inv .1 zs) (c .before .before .before .before .before .before .before .loop .inv .0 .1) (c .before .before .before .before .before .before .before .before .before .before .before .pre .0 .0) (c .before .before .before .before .before .before .before .before .before .before .before .pre .0 .1 .0) (c .before .before .before .before .before .before .before .before .before .before .before .pre .1 .1 _ (row-now (c .before .before .before .before .before .before .before .loop .inv .0 .1) (c .before .before .before .before .before .before .before .before .before .before .before .pre .0 .0) (c .before .before .before .before .before .before .before .before .before .before .before .pre .1 .0) (c .before .before .before .before .before .before .before .loop .inv .0 .0 .0) (c .before .before .before .before .before .before .loop-test .taken))) _ (c .before .before .before .node-apart .ensures) (c .before .before .before .before .before .before .loop-test .taken) (not-true _ (c .if1 .taken)))
+returns c = (marked-but (omega arith) (omega (arith, (@pre .1 .1 _ (row-now (@loop .inv .0 .1) (@pre .0 .0) (@pre .1 .0) (@loop .inv .0 .0 .0) (@loop-test .taken))))) (@loop .inv .0 .1) (@node-apart .ensures), λ zs. going-fails _ zs _ _ _ _ _ (@loop .inv .0 .0 .0) _ _ _ (@loop .inv .1 zs) (@loop .inv .0 .1) (@pre .0 .0) (@pre .0 .1 .0) (@pre .1 .1 _ (row-now (@loop .inv .0 .1) (@pre .0 .0) (@pre .1 .0) (@loop .inv .0 .0 .0) (@loop-test .taken))) _ (@node-apart .ensures) (@loop-test .taken) (not-true _ (@if1 .taken)))
 
 -- src/lib.rt:56:9
 add-i : tie.Need-add-i Inv-loop μ-loop
-add-i c = omega (arith, c .before .before .before .before .before .before .loop-test .taken, c .before .before .before .before .before .before .before .before .before .before .before .fits .to)
+add-i c = omega (arith, @loop-test .taken, @fits .to)
 
 -- src/lib.rt:52:5
 loop-less : tie.Need-loop-less Inv-loop μ-loop
-loop-less c = omega (arith, c .before .before .before .before .before .before .loop-test .taken)
+loop-less c = omega (arith, @loop-test .taken)
 
 -- src/lib.rt:52:5
 loop-again : tie.Need-loop-again Inv-loop μ-loop
-loop-again c = (((omega (arith, c .before .before .before .before .before .before .before .loop .inv .0 .0 .0), λ h. omega (arith, c .before .before .before .before .before .before .loop-test .taken)), marked-but (omega arith) (omega (arith, (c .before .before .before .before .before .before .before .before .before .before .before .pre .1 .1 _ (row-now (c .before .before .before .before .before .before .before .loop .inv .0 .1) (c .before .before .before .before .before .before .before .before .before .before .before .pre .0 .0) (c .before .before .before .before .before .before .before .before .before .before .before .pre .1 .0) (c .before .before .before .before .before .before .before .loop .inv .0 .0 .0) (c .before .before .before .before .before .before .loop-test .taken))))) (c .before .before .before .before .before .before .before .loop .inv .0 .1) (c .before .before .before .node-apart .ensures)), λ zs. going-next _ zs _ _ _ _ _ (c .before .before .before .before .before .before .before .loop .inv .0 .0 .0) _ _ _ (c .before .before .before .before .before .before .before .loop .inv .1 zs) (c .before .before .before .before .before .before .before .loop .inv .0 .1) (c .before .before .before .before .before .before .before .before .before .before .before .pre .0 .0) (c .before .before .before .before .before .before .before .before .before .before .before .pre .0 .1 .0) (c .before .before .before .before .before .before .before .before .before .before .before .pre .1 .1 _ (row-now (c .before .before .before .before .before .before .before .loop .inv .0 .1) (c .before .before .before .before .before .before .before .before .before .before .before .pre .0 .0) (c .before .before .before .before .before .before .before .before .before .before .before .pre .1 .0) (c .before .before .before .before .before .before .before .loop .inv .0 .0 .0) (c .before .before .before .before .before .before .loop-test .taken))) _ (c .before .before .before .node-apart .ensures) (c .before .before .before .before .before .before .loop-test .taken) (not-false _ (c .if1 .left)))
+loop-again c = (((omega (arith, @loop .inv .0 .0 .0), λ h. omega (arith, @loop-test .taken)), marked-but (omega arith) (omega (arith, (@pre .1 .1 _ (row-now (@loop .inv .0 .1) (@pre .0 .0) (@pre .1 .0) (@loop .inv .0 .0 .0) (@loop-test .taken))))) (@loop .inv .0 .1) (@node-apart .ensures)), λ zs. going-next _ zs _ _ _ _ _ (@loop .inv .0 .0 .0) _ _ _ (@loop .inv .1 zs) (@loop .inv .0 .1) (@pre .0 .0) (@pre .0 .1 .0) (@pre .1 .1 _ (row-now (@loop .inv .0 .1) (@pre .0 .0) (@pre .1 .0) (@loop .inv .0 .0 .0) (@loop-test .taken))) _ (@node-apart .ensures) (@loop-test .taken) (not-false _ (@if1 .left)))
 
 -- src/lib.rt:38:1
 same-length-2 : tie.Need-same-length-2 Inv-loop μ-loop
@@ -71,7 +71,7 @@ same-length-2 c = search needs
 
 -- src/lib.rt:38:1
 returns-2 : tie.Need-returns-2 Inv-loop μ-loop
-returns-2 c = (c .before .loop .inv .0 .1, λ zs. going-end _ zs _ _ _ _ _ _ _ (c .before .loop .inv .1 zs) (c .loop-test .left) (c .before .loop .inv .0 .0 .0) (c .before .loop .inv .0 .0 .1))
+returns-2 c = (@loop .inv .0 .1, λ zs. going-end _ zs _ _ _ _ _ _ _ (@loop .inv .1 zs) (@loop-test .left) (@loop .inv .0 .0 .0) (@loop .inv .0 .0 .1))
 
 pub zone-apart-spec : {M : Type 1} → statement M
 zone-apart-spec =

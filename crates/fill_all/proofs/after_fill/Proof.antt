@@ -25,7 +25,7 @@ same-length-2 c = search needs
 
 -- src/lib.rt:188:9
 returns : tie.Need-returns
-returns c = record { keeps = λ i. c .before .before .before .before .keep-zone .ensures; drops = λ i. absurd (differ (sym i ∙ not-true _ (c .before .before .before .before .before .before .before .if1 .taken))) }
+returns c = record { keeps = λ i. @keep-zone .ensures; drops = λ i. absurd (differ (sym i ∙ not-true _ (@if1 .taken))) }
 
 -- src/lib.rt:190:5
 ignore-requires : tie.Need-ignore-requires
@@ -41,7 +41,7 @@ same-length-3 c = search needs
 
 -- src/lib.rt:172:1
 returns-2 : tie.Need-returns-2
-returns-2 c = record { keeps = λ i. absurd (differ (sym (not-false _ (c .before .before .before .before .before .if1 .left)) ∙ i)); drops = λ i. record { answer = rw (c .is-over .ensures); words = c .before .before .before .ignore .ensures; long = c .before .before .before .ignore .kept .1 .1 .1 .1 .0; floats = refl } }
+returns-2 c = record { keeps = λ i. absurd (differ (sym (not-false _ (@if1 .left)) ∙ i)); drops = λ i. record { answer = rw (@is-over .ensures); words = @ignore .ensures; long = @ignore .kept .1 .1 .1 .1 .0; floats = refl } }
 
 pub after-fill-spec : {M : Type 1} → statement M
 after-fill-spec =

@@ -38,19 +38,19 @@ shared-slice-read-total c = search needs
 
 -- src/lib.rt:71:58
 cast-total : tie.Need-cast-total Inv-loop μ-loop
-cast-total c = omega (arith, c .shared-slice-known4 .given (c .before .before .loop .i))
+cast-total c = omega (arith, @shared-slice-known4 .given (@loop .i))
 
 -- src/lib.rt:71:13
 total-requires : tie.Need-total-requires Inv-loop μ-loop
-total-requires c κs = c .before .before .before .before .before .before .pre .1 _ (c .before .loop-test .taken)
+total-requires c κs = @pre .1 _ (@loop-test .taken)
 
 -- src/lib.rt:72:13
 nearer-requires : tie.Need-nearer-requires Inv-loop μ-loop
-nearer-requires c κs = c .before .before .before .before .before .before .before .pre .0
+nearer-requires c κs = @pre .0
 
 -- src/lib.rt:73:13
 returns : tie.Need-returns Inv-loop μ-loop
-returns c = λ b m g. sym (sym (c .before .before .before .before .before .loop .inv .1 b m g) ∙ every-fails _ (c .before .before .before .before .before .before .before .before .before .args .rows .now) 0 _ (c .before .before .before .before .loop-test .taken) (ap (λ (x : Float). lt (abs (x -f c .before .before .before .before .before .before .before .before .before .args .mine)) (c .before .before .before .before .before .before .before .before .before .args .threshold)) (sym (c .before .before .total .ensures b m g)) ∙ sym (c .before .nearer .ensures) ∙ not-true _ (c .if1 .taken)))
+returns c = λ b m g. sym (sym (@loop .inv .1 b m g) ∙ every-fails _ (@args .rows .now) 0 _ (@loop-test .taken) (ap (λ (x : Float). lt (abs (x -f @args .mine)) (@args .threshold)) (sym (@total .ensures b m g)) ∙ sym (@nearer .ensures) ∙ not-true _ (@if1 .taken)))
 
 -- src/lib.rt:75:9
 add-i : tie.Need-add-i Inv-loop μ-loop
@@ -62,11 +62,11 @@ loop-less c = search needs
 
 -- src/lib.rt:70:5
 loop-again : tie.Need-loop-again Inv-loop μ-loop
-loop-again c = (omega (arith, c .before .before .before .before .loop-test .taken), λ b m g. sym (every-next _ (c .before .before .before .before .before .before .before .before .before .args .rows .now) 0 _ (c .before .before .before .before .loop-test .taken) (ap (λ (x : Float). lt (abs (x -f c .before .before .before .before .before .before .before .before .before .args .mine)) (c .before .before .before .before .before .before .before .before .before .args .threshold)) (sym (c .before .before .total .ensures b m g)) ∙ sym (c .before .nearer .ensures) ∙ not-false _ (c .if1 .left))) ∙ c .before .before .before .before .before .loop .inv .1 b m g)
+loop-again c = (omega (arith, @loop-test .taken), λ b m g. sym (every-next _ (@args .rows .now) 0 _ (@loop-test .taken) (ap (λ (x : Float). lt (abs (x -f @args .mine)) (@args .threshold)) (sym (@total .ensures b m g)) ∙ sym (@nearer .ensures) ∙ not-false _ (@if1 .left))) ∙ @loop .inv .1 b m g)
 
 -- src/lib.rt:57:1
 returns-2 : tie.Need-returns-2 Inv-loop μ-loop
-returns-2 c = λ b m g. sym (sym (c .before .loop .inv .1 b m g) ∙ every-end _ (c .before .before .before .before .before .args .rows .now) 0 _ (c .loop-test .left))
+returns-2 c = λ b m g. sym (sym (@loop .inv .1 b m g) ∙ every-end _ (@args .rows .now) 0 _ (@loop-test .left))
 
 pub all-near-spec : {M : Type 1} → statement M
 all-near-spec =

@@ -58,11 +58,11 @@ slice-write-words c = search needs
 
 -- src/lib.rt:313:1
 same-length : tie.Need-same-length
-same-length c = cleared-length _ _ _ _ _ _ _ (c .before .before .before .before .before .found-at .result + c .before .before .before .before .before .before .before .before .before .before .before .args .n - c .before .before .before .before .before .found-at .result) (c .before .before .before .before .before .before .before .before .before .before .before .pre .1) (c .before .before .before .before .before .found-at .ensures) (omega arith) (c .before .before .before .before .before .before .before .before .clear .ensures) (c .before .before .before .clear2 .ensures)
+same-length c = cleared-length _ _ _ _ _ _ _ (@found-at .result + @args .n - @found-at .result) (@pre .1) (@found-at .ensures) (omega arith) (@clear .ensures) (@clear2 .ensures)
 
 -- src/lib.rt:313:1
 returns : tie.Need-returns
-returns c = (refl, cleared _ _ _ _ _ _ _ (c .before .before .before .before .before .found-at .result + c .before .before .before .before .before .before .before .before .before .before .before .args .n - c .before .before .before .before .before .found-at .result) (c .before .before .before .before .before .before .before .before .before .before .before .pre .1) (c .before .before .before .before .before .found-at .ensures) (c .starts-at .ensures) (omega arith) (c .before .before .before .before .before .before .before .before .clear .ensures) (c .before .before .before .clear2 .ensures))
+returns c = (refl, cleared _ _ _ _ _ _ _ (@found-at .result + @args .n - @found-at .result) (@pre .1) (@found-at .ensures) (@starts-at .ensures) (omega arith) (@clear .ensures) (@clear2 .ensures))
 
 pub begin-spec : {M : Type 1} → statement M
 begin-spec =

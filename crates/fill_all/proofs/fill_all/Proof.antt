@@ -14,7 +14,7 @@ begin-requires c κs = search needs
 
 -- src/lib.rt:414:5
 fill-hot-requires : tie.Need-fill-hot-requires
-fill-hot-requires c κs = (c .before .before .before .before .before .before .before .before .before .before .before .before .before .before .before .before .before .before .before .before .pre .0, (begun-stored (c .before .before .before .before .before .before .before .before .before .before .before .before .before .before .before .before .before .before .before .before .pre .0 .0) (c .before .before .before .before .before .before .before .before .before .before .before .before .before .before .before .before .before .before .before .before .args .words .now) _ (c .before .before .before .before .before .before .before .before .before .before .before .before .before .before .before .before .before .before .before .before .args .floats .now) (c .before .before .before .before .before .before .before .before .before .before .before .before .before .before .before .before .before .before .before .before .args .area .now) (c .before .before .before .before .before .before .before .before .before .before .before .before .before .before .before .before .before .before .before .before .pre .1 .0) (c .before .before .before .before .before .before .before .before .before .before .before .before .before .before .before .before .before .before .before .before .pre .1 .1 .0) (c .before .before .before .before .before .before .before .before .before .before .before .before .before .before .before .before .before .before .before .before .pre .1 .1 .1) (c .before .before .before .before .before .begin .kept .1 .1 .0) (c .before .before .before .before .before .begin .ensures .1) _ (c .before .before .before .before .before .begin .ensures .0), begun (c .before .before .before .before .before .before .before .before .before .before .before .before .before .before .before .before .before .before .before .before .pre .0 .0) (c .before .before .before .before .before .before .before .before .before .before .before .before .before .before .before .before .before .before .before .before .args .words .now) _ (c .before .before .before .before .before .before .before .before .before .before .before .before .before .before .before .before .before .before .before .before .args .floats .now) (c .before .before .before .before .before .before .before .before .before .before .before .before .before .before .before .before .before .before .before .before .args .area .now) (c .before .before .before .before .before .before .before .before .before .before .before .before .before .before .before .before .before .before .before .before .pre .1 .0) (c .before .before .before .before .before .before .before .before .before .before .before .before .before .before .before .before .before .before .before .before .pre .1 .1 .0) (c .before .before .before .before .before .before .before .before .before .before .before .before .before .before .before .before .before .before .before .before .pre .1 .1 .1) (c .before .before .before .before .before .begin .kept .1 .1 .0) (c .before .before .before .before .before .begin .ensures .1) _ (c .before .before .before .before .before .begin .ensures .0)))
+fill-hot-requires c κs = (@pre .0, (begun-stored (@pre .0 .0) (@args .words .now) _ (@args .floats .now) (@args .area .now) (@pre .1 .0) (@pre .1 .1 .0) (@pre .1 .1 .1) (@begin .kept .1 .1 .0) (@begin .ensures .1) _ (@begin .ensures .0), begun (@pre .0 .0) (@args .words .now) _ (@args .floats .now) (@args .area .now) (@pre .1 .0) (@pre .1 .1 .0) (@pre .1 .1 .1) (@begin .kept .1 .1 .0) (@begin .ensures .1) _ (@begin .ensures .0)))
 
 -- src/lib.rt:390:1
 same-length : tie.Need-same-length
@@ -30,7 +30,7 @@ same-length-3 c = search needs
 
 -- src/lib.rt:390:1
 returns : tie.Need-returns
-returns c = all-filled (c .before .before .before .before .before .before .before .before .before .before .before .before .before .before .before .before .before .before .before .before .before .before .before .before .before .before .before .pre .0 .0) (c .before .before .before .before .before .before .before .before .before .before .before .before .before .before .before .before .before .before .before .before .before .before .before .before .before .before .before .args .words .now) _ (c .before .before .before .before .before .before .before .before .before .before .before .before .before .before .before .before .before .before .before .before .before .before .before .before .before .before .before .args .floats .now) (c .before .before .before .before .before .before .before .before .before .before .before .before .before .before .before .before .before .before .before .before .before .before .before .before .before .before .before .args .area .now) (c .before .before .before .before .before .before .before .before .before .before .before .before .before .before .before .before .before .before .before .before .before .before .before .before .before .before .before .pre .1 .0) (c .before .before .before .before .before .before .before .before .before .before .before .before .before .before .before .before .before .before .before .before .before .before .before .before .before .before .before .pre .1 .1 .0) (c .before .before .before .before .before .before .before .before .before .before .before .before .before .before .before .before .before .before .before .before .before .before .before .before .before .before .before .pre .1 .1 .1) (c .before .before .before .before .before .before .before .before .before .before .before .before .begin .kept .1 .1 .0) (c .before .before .before .before .before .before .before .before .before .before .before .before .begin .ensures .1) _ (c .before .before .before .before .before .before .before .before .before .before .before .before .begin .ensures .0) _ _ _ _ _ (c .before .before .before .before .before .before .fill-hot .ensures)
+returns c = all-filled (@pre .0 .0) (@args .words .now) _ (@args .floats .now) (@args .area .now) (@pre .1 .0) (@pre .1 .1 .0) (@pre .1 .1 .1) (@begin .kept .1 .1 .0) (@begin .ensures .1) _ (@begin .ensures .0) _ _ _ _ _ (@fill-hot .ensures)
 
 pub fill-all-spec : {M : Type 1} → statement M
 fill-all-spec =

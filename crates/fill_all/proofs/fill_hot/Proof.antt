@@ -27,23 +27,23 @@ abbrev μ-loop : tie.MeasureT-loop
 
 -- src/lib.rt:360:5
 loop-holds : tie.Need-loop-holds Inv-loop μ-loop
-loop-holds c = (loop-start (c .before .before .before .before .before .before .before .before .before .before .before .before .before .pre .0 .0) _ _ _ _ _ (c .before .before .before .before .before .before .before .before .before .before .before .before .before .pre .1 .0) (c .before .before .before .before .before .before .before .before .before .before .before .before .before .pre .1 .1), (refl, refl))
+loop-holds c = (loop-start (@pre .0 .0) _ _ _ _ _ (@pre .1 .0) (@pre .1 .1), (refl, refl))
 
 -- src/lib.rt:362:13
 same-length : tie.Need-same-length Inv-loop μ-loop
-same-length c = c .before .before .loop .inv .1 .0
+same-length c = @loop .inv .1 .0
 
 -- src/lib.rt:362:13
 same-length-2 : tie.Need-same-length-2 Inv-loop μ-loop
-same-length-2 c = c .before .before .loop .inv .1 .1
+same-length-2 c = @loop .inv .1 .1
 
 -- src/lib.rt:362:13
 same-length-3 : tie.Need-same-length-3 Inv-loop μ-loop
-same-length-3 c = wrote-length (c .before .before .loop .inv .0 .does .wrote)
+same-length-3 c = wrote-length (@loop .inv .0 .does .wrote)
 
 -- src/lib.rt:362:13
 returns : tie.Need-returns Inv-loop μ-loop
-returns c = loop-over (c .before .before .before .before .before .before .before .before .before .before .before .before .before .before .before .before .pre .0 .0) _ _ _ _ _ (c .before .before .before .before .before .before .before .before .before .before .before .before .before .before .before .before .pre .1 .0) (c .before .before .before .before .before .before .before .before .before .before .before .before .before .before .before .before .pre .1 .1) (c .before .before .loop .i) (c .before .before .loop .inv .0) (c .if1 .taken)
+returns c = loop-over (@pre .0 .0) _ _ _ _ _ (@pre .1 .0) (@pre .1 .1) (@loop .i) (@loop .inv .0) (@if1 .taken)
 
 -- src/lib.rt:365:13
 mul-hot-id : tie.Need-mul-hot-id Inv-loop μ-loop
@@ -55,11 +55,11 @@ shared-slice-read-hot-id c = search needs
 
 -- src/lib.rt:364:9
 hot-id-requires : tie.Need-hot-id-requires Inv-loop μ-loop
-hot-id-requires c κs = (c .before .before .before .before .before .before .before .before .before .before .before .before .before .before .before .before .before .before .before .before .pre .0, ((c .before .before .before .before .before .before .loop .inv .0 .stored, loop-open (c .before .before .before .before .before .before .before .before .before .before .before .before .before .before .before .before .before .before .before .before .pre .0 .0) _ _ _ _ _ (c .before .before .before .before .before .before .before .before .before .before .before .before .before .before .before .before .before .before .before .before .pre .1 .0) (c .before .before .before .before .before .before .before .before .before .before .before .before .before .before .before .before .before .before .before .before .pre .1 .1) (c .before .before .before .before .before .before .loop .i) (c .before .before .before .before .before .before .loop .inv .0) (c .before .before .before .before .if1 .left)), c .before .before .before .before .if1 .left))
+hot-id-requires c κs = (@pre .0, ((@loop .inv .0 .stored, loop-open (@pre .0 .0) _ _ _ _ _ (@pre .1 .0) (@pre .1 .1) (@loop .i) (@loop .inv .0) (@if1 .left)), @if1 .left))
 
 -- src/lib.rt:384:9
 add-i : tie.Need-add-i Inv-loop μ-loop
-add-i c = omega (arith, c .before .before .before .before .before .before .before .before .before .before .before .before .loop-test .taken, c .before .before .before .before .before .before .before .before .before .before .before .before .before .before .before .before .before .before .before .before .before .before .before .before .before .before .before .good)
+add-i c = omega (arith, @loop-test .taken, @good)
 
 -- src/lib.rt:360:5
 loop-less : tie.Need-loop-less Inv-loop μ-loop
@@ -67,23 +67,23 @@ loop-less c = search needs
 
 -- src/lib.rt:360:5
 loop-again : tie.Need-loop-again Inv-loop μ-loop
-loop-again c = (loop-next (c .before .before .before .before .before .before .before .before .before .before .before .before .before .before .before .before .before .before .before .before .before .before .before .before .before .before .before .pre .0 .0) _ _ _ _ _ (c .before .before .before .before .before .before .before .before .before .before .before .before .before .before .before .before .before .before .before .before .before .before .before .before .before .before .before .pre .1 .0) (c .before .before .before .before .before .before .before .before .before .before .before .before .before .before .before .before .before .before .before .before .before .before .before .before .before .before .before .pre .1 .1) (c .before .before .before .before .before .before .before .before .before .before .before .before .before .loop .i) (c .before .before .before .before .before .before .before .before .before .before .before .before .before .loop .inv .0) (c .before .before .before .before .before .before .before .before .before .before .before .before .loop-test .taken) (c .before .before .before .before .before .before .hot-id .ensures (c .before .before .before .before .before .before .before .before .before .before .before .before .before .before .before .before .before .before .before .before .before .before .before .before .before .before .before .args .hot .now)), (c .before .before .before .before .before .before .hot-id .kept .1 .1 .1 .1 .1 .1 .1 .1 .1 .1 .1 .1 .1 .1 .1 .0 ∙ c .before .before .before .before .before .before .before .before .before .before .before .before .before .loop .inv .1 .0, c .before .before .before .before .before .before .hot-id .kept .1 .1 .1 .1 .1 .1 .1 .1 .1 .1 .1 .1 .1 .1 .1 .1 .0 ∙ c .before .before .before .before .before .before .before .before .before .before .before .before .before .loop .inv .1 .1))
+loop-again c = (loop-next (@pre .0 .0) _ _ _ _ _ (@pre .1 .0) (@pre .1 .1) (@loop .i) (@loop .inv .0) (@loop-test .taken) (@hot-id .ensures (@args .hot .now)), (@hot-id .kept .1 .1 .1 .1 .1 .1 .1 .1 .1 .1 .1 .1 .1 .1 .1 .0 ∙ @loop .inv .1 .0, @hot-id .kept .1 .1 .1 .1 .1 .1 .1 .1 .1 .1 .1 .1 .1 .1 .1 .1 .0 ∙ @loop .inv .1 .1))
 
 -- src/lib.rt:334:1
 same-length-4 : tie.Need-same-length-4 Inv-loop μ-loop
-same-length-4 c = c .before .loop .inv .1 .0
+same-length-4 c = @loop .inv .1 .0
 
 -- src/lib.rt:334:1
 same-length-5 : tie.Need-same-length-5 Inv-loop μ-loop
-same-length-5 c = c .before .loop .inv .1 .1
+same-length-5 c = @loop .inv .1 .1
 
 -- src/lib.rt:334:1
 same-length-6 : tie.Need-same-length-6 Inv-loop μ-loop
-same-length-6 c = wrote-length (c .before .loop .inv .0 .does .wrote)
+same-length-6 c = wrote-length (@loop .inv .0 .does .wrote)
 
 -- src/lib.rt:334:1
 returns-2 : tie.Need-returns-2 Inv-loop μ-loop
-returns-2 c = loop-end (c .before .before .before .before .before .before .before .before .before .before .before .before .before .before .before .pre .0 .0) _ _ _ _ _ (c .before .before .before .before .before .before .before .before .before .before .before .before .before .before .before .pre .1 .0) (c .before .before .before .before .before .before .before .before .before .before .before .before .before .before .before .pre .1 .1) (c .before .loop .i) (c .before .loop .inv .0) (c .loop-test .left)
+returns-2 c = loop-end (@pre .0 .0) _ _ _ _ _ (@pre .1 .0) (@pre .1 .1) (@loop .i) (@loop .inv .0) (@loop-test .left)
 
 pub fill-hot-spec : {M : Type 1} → statement M
 fill-hot-spec =

@@ -42,7 +42,7 @@ same-length c = search needs
 
 -- src/lib.rt:109:1
 returns : tie.Need-returns
-returns c = row-back (c .before .before .before .before .before .before .before .args .starts .now) _ _ (c .before .before .before .before .before .before .before .args .row) _ _ (c .before .before .before .before .links-of .ensures .0) (c .before .before .before .before .links-of .ensures .1) (c .before .before .before .before .before .before .before .pre .1 .0) (c .before .before .before .before .before .before .before .pre .1 .1) (c .before .before .clear .ensures)
+returns c = row-back (@args .starts .now) _ _ (@args .row) _ _ (@links-of .ensures .0) (@links-of .ensures .1) (@pre .1 .0) (@pre .1 .1) (@clear .ensures)
 
 pub give-back-spec : {M : Type 1} → statement M
 give-back-spec =

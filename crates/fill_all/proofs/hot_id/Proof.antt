@@ -13,7 +13,7 @@ use Rattle.turfs.proofs.find.Reads as find-reads
 
 -- src/lib.rt:289:25
 find-requires : tie.Need-find-requires
-find-requires c κs = is-true _ (c .before .before .before .before .before .before .before .before .before .before .before .before .pre .0 .0 .ascends)
+find-requires c κs = is-true _ (@pre .0 .0 .ascends)
 
 -- src/lib.rt:289:18
 enum-known-row : tie.Need-enum-known-row
@@ -25,11 +25,11 @@ enum-told c = search needs
 
 -- src/lib.rt:290:9
 returns : tie.Need-returns
-returns c = λ hot. fills-unknown _ _ (ask hot (c .before .before .before .before .before .before .before .before .before .before .before .before .before .before .before .args .threshold) (c .before .before .before .before .before .before .before .before .before .before .before .before .before .before .before .args .limit) (c .before .before .before .before .before .before .before .before .before .before .before .before .before .before .before .args .allowance)) _ (c .before .before .before .before .before .before .before .before .before .before .before .before .before .before .before .pre .1 .0 .0) (c .before .before .before .before .before .before .before .before .before .before .before .before .before .before .before .pre .1 .0 .1) (sym (c .before .before .find .ensures _ refl) ∙ c .enum-told .given .1)
+returns c = λ hot. fills-unknown _ _ (ask hot (@args .threshold) (@args .limit) (@args .allowance)) _ (@pre .1 .0 .0) (@pre .1 .0 .1) (sym (@find .ensures _ refl) ∙ @enum-told .given .1)
 
 -- src/lib.rt:292:5
 hot-row-requires : tie.Need-hot-row-requires
-hot-row-requires c κs = (c .before .before .before .before .before .before .before .before .before .before .before .before .before .before .before .before .before .before .before .pre .0, (c .before .before .before .before .before .before .before .before .before .before .before .before .before .before .before .before .before .before .before .pre .1 .0, (row-in (c .before .before .before .before .before .before .before .before .before .before .before .before .before .before .before .before .before .before .before .pre .0 .0) _ _ (sym (c .before .before .before .before .before .before .find .ensures _ refl)) _ (c .before .before .before .before .row .given .1), c .before .before .before .before .before .before .before .before .before .before .before .before .before .before .before .before .before .before .before .pre .1 .1)))
+hot-row-requires c κs = (@pre .0, (@pre .1 .0, (row-in (@pre .0 .0) _ _ (sym (@find .ensures _ refl)) _ (@row .given .1), @pre .1 .1)))
 
 -- src/lib.rt:264:1
 same-length : tie.Need-same-length
@@ -45,7 +45,7 @@ same-length-3 c = search needs
 
 -- src/lib.rt:264:1
 returns-2 : tie.Need-returns-2
-returns-2 c = λ hot. fills-id _ _ (ask hot (c .before .before .before .before .before .before .before .before .before .before .before .before .before .before .before .before .before .before .before .before .before .before .before .before .before .before .args .threshold) (c .before .before .before .before .before .before .before .before .before .before .before .before .before .before .before .before .before .before .before .before .before .before .before .before .before .before .args .limit) (c .before .before .before .before .before .before .before .before .before .before .before .before .before .before .before .before .before .before .before .before .before .before .before .before .before .before .args .allowance)) _ _ (c .before .before .before .before .before .before .before .before .before .before .before .before .before .before .before .before .before .before .before .before .before .before .before .before .before .before .pre .1 .1) (sym (c .before .before .before .before .before .before .before .before .before .before .before .before .before .find .ensures _ refl) ∙ c .before .before .before .before .before .before .before .before .before .before .before .row .given .1) (c .before .before .before .before .before .before .hot-row .ensures hot)
+returns-2 c = λ hot. fills-id _ _ (ask hot (@args .threshold) (@args .limit) (@args .allowance)) _ _ (@pre .1 .1) (sym (@find .ensures _ refl) ∙ @row .given .1) (@hot-row .ensures hot)
 
 pub hot-id-spec : {M : Type 1} → statement M
 hot-id-spec =

@@ -36,7 +36,7 @@ slice-read-if1 c = search needs
 
 -- src/lib.rt:231:9
 returns : tie.Need-returns
-returns c = λ hot. row-none (ask hot (c .before .before .before .before .before .before .before .before .before .before .before .before .before .before .before .args .threshold) (c .before .before .before .before .before .before .before .before .before .before .before .before .before .before .before .args .limit) (c .before .before .before .before .before .before .before .before .before .before .before .before .before .before .before .args .allowance)) (c .before .before .before .before .before .before .before .before .before .before .before .before .before .before .before .pre .1 .0 .0) (c .before .before .before .before .before .before .before .before .before .before .before .before .before .before .before .pre .1 .0 .1) _ (c .before .before .before .before .before .before .before .before .before .before .before .before .before .before .before .pre .1 .1 .0) _ (c .before .before .found-at .ensures) _ (is-found _ _ (ask hot (c .before .before .before .before .before .before .before .before .before .before .before .before .before .before .before .args .threshold) (c .before .before .before .before .before .before .before .before .before .before .before .before .before .before .before .args .limit) (c .before .before .before .before .before .before .before .before .before .before .before .before .before .before .before .args .allowance)) _ _ (λ i. c .if1 .taken (mark-is (ask hot (c .before .before .before .before .before .before .before .before .before .before .before .before .before .before .before .args .threshold) (c .before .before .before .before .before .before .before .before .before .before .before .before .before .before .before .args .limit) (c .before .before .before .before .before .before .before .before .before .before .before .before .before .before .before .args .allowance)) (c .before .before .before .before .before .before .before .before .before .before .before .before .before .before .before .pre .1 .0 .0) (c .before .before .before .before .before .before .before .before .before .before .before .before .before .before .before .pre .1 .0 .1) _ (c .before .before .before .before .before .before .before .before .before .before .before .before .before .before .before .pre .1 .1 .0) _ (c .before .before .found-at .ensures) ∙ i)))
+returns c = λ hot. row-none (ask hot (@args .threshold) (@args .limit) (@args .allowance)) (@pre .1 .0 .0) (@pre .1 .0 .1) _ (@pre .1 .1 .0) _ (@found-at .ensures) _ (is-found _ _ (ask hot (@args .threshold) (@args .limit) (@args .allowance)) _ _ (λ i. @if1 .taken (mark-is (ask hot (@args .threshold) (@args .limit) (@args .allowance)) (@pre .1 .0 .0) (@pre .1 .0 .1) _ (@pre .1 .1 .0) _ (@found-at .ensures) ∙ i)))
 
 -- src/lib.rt:233:25
 shared-slice-read-t29 : tie.Need-shared-slice-read-t29
@@ -48,15 +48,15 @@ enabled-requires c κs = search needs
 
 -- src/lib.rt:234:9
 returns-2 : tie.Need-returns-2
-returns-2 c = λ hot. row-none (ask hot (c .before .before .before .before .before .before .before .before .before .before .before .before .before .before .before .before .before .before .args .threshold) (c .before .before .before .before .before .before .before .before .before .before .before .before .before .before .before .before .before .before .args .limit) (c .before .before .before .before .before .before .before .before .before .before .before .before .before .before .before .before .before .before .args .allowance)) (c .before .before .before .before .before .before .before .before .before .before .before .before .before .before .before .before .before .before .pre .1 .0 .0) (c .before .before .before .before .before .before .before .before .before .before .before .before .before .before .before .before .before .before .pre .1 .0 .1) _ (c .before .before .before .before .before .before .before .before .before .before .before .before .before .before .before .before .before .before .pre .1 .1 .0) _ (c .before .before .before .before .before .found-at .ensures) _ (is-off _ _ (ask hot (c .before .before .before .before .before .before .before .before .before .before .before .before .before .before .before .before .before .before .args .threshold) (c .before .before .before .before .before .before .before .before .before .before .before .before .before .before .before .before .before .before .args .limit) (c .before .before .before .before .before .before .before .before .before .before .before .before .before .before .before .before .before .before .args .allowance)) _ _ (sym (mark-is (ask hot (c .before .before .before .before .before .before .before .before .before .before .before .before .before .before .before .before .before .before .args .threshold) (c .before .before .before .before .before .before .before .before .before .before .before .before .before .before .before .before .before .before .args .limit) (c .before .before .before .before .before .before .before .before .before .before .before .before .before .before .before .before .before .before .args .allowance)) (c .before .before .before .before .before .before .before .before .before .before .before .before .before .before .before .before .before .before .pre .1 .0 .0) (c .before .before .before .before .before .before .before .before .before .before .before .before .before .before .before .before .before .before .pre .1 .0 .1) _ (c .before .before .before .before .before .before .before .before .before .before .before .before .before .before .before .before .before .before .pre .1 .1 .0) _ (c .before .before .before .before .before .found-at .ensures)) ∙ c .before .before .before .if1 .left) (sym (c .before .enabled .ensures) ∙ not-true _ (c .if2 .taken)))
+returns-2 c = λ hot. row-none (ask hot (@args .threshold) (@args .limit) (@args .allowance)) (@pre .1 .0 .0) (@pre .1 .0 .1) _ (@pre .1 .1 .0) _ (@found-at .ensures) _ (is-off _ _ (ask hot (@args .threshold) (@args .limit) (@args .allowance)) _ _ (sym (mark-is (ask hot (@args .threshold) (@args .limit) (@args .allowance)) (@pre .1 .0 .0) (@pre .1 .0 .1) _ (@pre .1 .1 .0) _ (@found-at .ensures)) ∙ @if1 .left) (sym (@enabled .ensures) ∙ not-true _ (@if2 .taken)))
 
 -- src/lib.rt:236:8
 unshareable-requires : tie.Need-unshareable-requires
-unshareable-requires c κs = share-asks (c .before .before .before .before .before .before .before .before .before .before .before .before .before .before .before .before .before .before .pre .0 .0) (c .before .before .before .before .before .before .before .before .before .before .before .before .before .before .before .before .before .before .args .gas .now) refl _ (c .before .before .before .before .before .before .before .before .before .before .before .before .before .before .before .before .before .before .pre .0 .1) _ (c .before .before .before .before .before .before .before .before .before .before .before .before .before .before .before .before .before .before .pre .1 .1 .0)
+unshareable-requires c κs = share-asks (@pre .0 .0) (@args .gas .now) refl _ (@pre .0 .1) _ (@pre .1 .1 .0)
 
 -- src/lib.rt:237:9
 returns-3 : tie.Need-returns-3
-returns-3 c = λ hot. row-none (ask hot (c .before .before .before .before .before .before .before .before .before .before .before .before .before .before .before .before .before .before .before .before .args .threshold) (c .before .before .before .before .before .before .before .before .before .before .before .before .before .before .before .before .before .before .before .before .args .limit) (c .before .before .before .before .before .before .before .before .before .before .before .before .before .before .before .before .before .before .before .before .args .allowance)) (c .before .before .before .before .before .before .before .before .before .before .before .before .before .before .before .before .before .before .before .before .pre .1 .0 .0) (c .before .before .before .before .before .before .before .before .before .before .before .before .before .before .before .before .before .before .before .before .pre .1 .0 .1) _ (c .before .before .before .before .before .before .before .before .before .before .before .before .before .before .before .before .before .before .before .before .pre .1 .1 .0) _ (c .before .before .before .before .before .before .before .found-at .ensures) _ (is-rest _ _ (ask hot (c .before .before .before .before .before .before .before .before .before .before .before .before .before .before .before .before .before .before .before .before .args .threshold) (c .before .before .before .before .before .before .before .before .before .before .before .before .before .before .before .before .before .before .before .before .args .limit) (c .before .before .before .before .before .before .before .before .before .before .before .before .before .before .before .before .before .before .before .before .args .allowance)) _ _ (sym (mark-is (ask hot (c .before .before .before .before .before .before .before .before .before .before .before .before .before .before .before .before .before .before .before .before .args .threshold) (c .before .before .before .before .before .before .before .before .before .before .before .before .before .before .before .before .before .before .before .before .args .limit) (c .before .before .before .before .before .before .before .before .before .before .before .before .before .before .before .before .before .before .before .before .args .allowance)) (c .before .before .before .before .before .before .before .before .before .before .before .before .before .before .before .before .before .before .before .before .pre .1 .0 .0) (c .before .before .before .before .before .before .before .before .before .before .before .before .before .before .before .before .before .before .before .before .pre .1 .0 .1) _ (c .before .before .before .before .before .before .before .before .before .before .before .before .before .before .before .before .before .before .before .before .pre .1 .1 .0) _ (c .before .before .before .before .before .before .before .found-at .ensures)) ∙ c .before .before .before .before .before .if1 .left) (sym (c .before .before .before .enabled .ensures) ∙ not-false _ (c .before .before .if2 .left)) true (sym (c .if3 .taken) ∙ (c .before .unshareable .ensures _ refl refl refl refl (ask hot (c .before .before .before .before .before .before .before .before .before .before .before .before .before .before .before .before .before .before .before .before .args .threshold) (c .before .before .before .before .before .before .before .before .before .before .before .before .before .before .before .before .before .before .before .before .args .limit) (c .before .before .before .before .before .before .before .before .before .before .before .before .before .before .before .before .before .before .before .before .args .allowance)) refl)))
+returns-3 c = λ hot. row-none (ask hot (@args .threshold) (@args .limit) (@args .allowance)) (@pre .1 .0 .0) (@pre .1 .0 .1) _ (@pre .1 .1 .0) _ (@found-at .ensures) _ (is-rest _ _ (ask hot (@args .threshold) (@args .limit) (@args .allowance)) _ _ (sym (mark-is (ask hot (@args .threshold) (@args .limit) (@args .allowance)) (@pre .1 .0 .0) (@pre .1 .0 .1) _ (@pre .1 .1 .0) _ (@found-at .ensures)) ∙ @if1 .left) (sym (@enabled .ensures) ∙ not-false _ (@if2 .left)) true (sym (@if3 .taken) ∙ (@unshareable .ensures _ refl refl refl refl (ask hot (@args .threshold) (@args .limit) (@args .allowance)) refl)))
 
 -- src/lib.rt:240:9
 cast-flood-fill : tie.Need-cast-flood-fill
@@ -64,15 +64,15 @@ cast-flood-fill c = search needs
 
 -- src/lib.rt:241:9
 cast-flood-fill-2 : tie.Need-cast-flood-fill-2
-cast-flood-fill-2 c = omega (arith, zone-fits (c .before .before .before .before .before .before .before .before .before .before .before .before .before .before .before .before .before .before .before .before .before .pre .0 .0) (c .before .before .before .before .before .before .before .before .before .before .before .before .before .before .before .before .before .before .before .before .before .args .gas .now) (ask [] (c .before .before .before .before .before .before .before .before .before .before .before .before .before .before .before .before .before .before .before .before .before .args .threshold) (c .before .before .before .before .before .before .before .before .before .before .before .before .before .before .before .before .before .before .before .before .before .args .limit) (c .before .before .before .before .before .before .before .before .before .before .before .before .before .before .before .before .before .before .before .before .before .args .allowance)) _ (c .before .before .before .before .before .before .before .before .before .before .before .before .before .before .before .before .before .before .before .before .before .pre .1 .0 .0) (c .before .before .before .before .before .before .before .before .before .before .before .before .before .before .before .before .before .before .before .before .before .pre .1 .0 .1) (c .before .before .before .before .before .before .before .before .before .before .before .before .before .before .before .before .before .before .before .before .before .pre .1 .1 .0) (sym (mark-is (ask [] (c .before .before .before .before .before .before .before .before .before .before .before .before .before .before .before .before .before .before .before .before .before .args .threshold) (c .before .before .before .before .before .before .before .before .before .before .before .before .before .before .before .before .before .before .before .before .before .args .limit) (c .before .before .before .before .before .before .before .before .before .before .before .before .before .before .before .before .before .before .before .before .before .args .allowance)) (c .before .before .before .before .before .before .before .before .before .before .before .before .before .before .before .before .before .before .before .before .before .pre .1 .0 .0) (c .before .before .before .before .before .before .before .before .before .before .before .before .before .before .before .before .before .before .before .before .before .pre .1 .0 .1) _ (c .before .before .before .before .before .before .before .before .before .before .before .before .before .before .before .before .before .before .before .before .before .pre .1 .1 .0) _ (c .before .before .before .before .before .before .before .before .found-at .ensures)) ∙ c .before .before .before .before .before .before .if1 .left))
+cast-flood-fill-2 c = omega (arith, zone-fits (@pre .0 .0) (@args .gas .now) (ask [] (@args .threshold) (@args .limit) (@args .allowance)) _ (@pre .1 .0 .0) (@pre .1 .0 .1) (@pre .1 .1 .0) (sym (mark-is (ask [] (@args .threshold) (@args .limit) (@args .allowance)) (@pre .1 .0 .0) (@pre .1 .0 .1) _ (@pre .1 .1 .0) _ (@found-at .ensures)) ∙ @if1 .left))
 
 -- src/lib.rt:239:9
 flood-fill-requires : tie.Need-flood-fill-requires
-flood-fill-requires c κs = ((c .before .before .before .before .before .before .before .before .before .before .before .before .before .before .before .before .before .before .before .before .before .before .before .pre .0 .0), fill-ready (c .before .before .before .before .before .before .before .before .before .before .before .before .before .before .before .before .before .before .before .before .before .before .before .pre .0 .0) (c .before .before .before .before .before .before .before .before .before .before .before .before .before .before .before .before .before .before .before .before .before .before .before .args .gas .now) (ask [] (c .before .before .before .before .before .before .before .before .before .before .before .before .before .before .before .before .before .before .before .before .before .before .before .args .threshold) (c .before .before .before .before .before .before .before .before .before .before .before .before .before .before .before .before .before .before .before .before .before .before .before .args .limit) (c .before .before .before .before .before .before .before .before .before .before .before .before .before .before .before .before .before .before .before .before .before .before .before .args .allowance)) _ (c .before .before .before .before .before .before .before .before .before .before .before .before .before .before .before .before .before .before .before .before .before .before .before .pre .1 .0 .0) (c .before .before .before .before .before .before .before .before .before .before .before .before .before .before .before .before .before .before .before .before .before .before .before .pre .1 .0 .1) (c .before .before .before .before .before .before .before .before .before .before .before .before .before .before .before .before .before .before .before .before .before .before .before .pre .1 .1 .0) (sym (mark-is (ask [] (c .before .before .before .before .before .before .before .before .before .before .before .before .before .before .before .before .before .before .before .before .before .before .before .args .threshold) (c .before .before .before .before .before .before .before .before .before .before .before .before .before .before .before .before .before .before .before .before .before .before .before .args .limit) (c .before .before .before .before .before .before .before .before .before .before .before .before .before .before .before .before .before .before .before .before .before .before .before .args .allowance)) (c .before .before .before .before .before .before .before .before .before .before .before .before .before .before .before .before .before .before .before .before .before .before .before .pre .1 .0 .0) (c .before .before .before .before .before .before .before .before .before .before .before .before .before .before .before .before .before .before .before .before .before .before .before .pre .1 .0 .1) _ (c .before .before .before .before .before .before .before .before .before .before .before .before .before .before .before .before .before .before .before .before .before .before .before .pre .1 .1 .0) _ (c .before .before .before .before .before .before .before .before .before .before .found-at .ensures)) ∙ c .before .before .before .before .before .before .before .before .if1 .left))
+flood-fill-requires c κs = ((@pre .0 .0), fill-ready (@pre .0 .0) (@args .gas .now) (ask [] (@args .threshold) (@args .limit) (@args .allowance)) _ (@pre .1 .0 .0) (@pre .1 .0 .1) (@pre .1 .1 .0) (sym (mark-is (ask [] (@args .threshold) (@args .limit) (@args .allowance)) (@pre .1 .0 .0) (@pre .1 .0 .1) _ (@pre .1 .1 .0) _ (@found-at .ensures)) ∙ @if1 .left))
 
 -- src/lib.rt:260:5
 after-fill-requires : tie.Need-after-fill-requires
-after-fill-requires c κs = after-asks (c .before .before .before .before .before .before .before .before .before .before .before .before .before .before .before .before .before .before .before .before .before .before .before .before .before .before .before .before .before .before .pre .0 .0) (c .before .before .before .before .before .before .before .before .before .before .before .before .before .before .before .before .before .before .before .before .before .before .before .before .before .before .before .before .before .before .args .gas .now) (ask [] (c .before .before .before .before .before .before .before .before .before .before .before .before .before .before .before .before .before .before .before .before .before .before .before .before .before .before .before .before .before .before .args .threshold) (c .before .before .before .before .before .before .before .before .before .before .before .before .before .before .before .before .before .before .before .before .before .before .before .before .before .before .before .before .before .before .args .limit) (c .before .before .before .before .before .before .before .before .before .before .before .before .before .before .before .before .before .before .before .before .before .before .before .before .before .before .before .before .before .before .args .allowance)) _ (c .before .before .before .before .before .before .before .before .before .before .before .before .before .before .before .before .before .before .before .before .before .before .before .before .before .before .before .before .before .before .pre .1 .0 .0) (c .before .before .before .before .before .before .before .before .before .before .before .before .before .before .before .before .before .before .before .before .before .before .before .before .before .before .before .before .before .before .pre .1 .0 .1) (c .before .before .before .before .before .before .before .before .before .before .before .before .before .before .before .before .before .before .before .before .before .before .before .before .before .before .before .before .before .before .pre .1 .1 .0) (sym (mark-is (ask [] (c .before .before .before .before .before .before .before .before .before .before .before .before .before .before .before .before .before .before .before .before .before .before .before .before .before .before .before .before .before .before .args .threshold) (c .before .before .before .before .before .before .before .before .before .before .before .before .before .before .before .before .before .before .before .before .before .before .before .before .before .before .before .before .before .before .args .limit) (c .before .before .before .before .before .before .before .before .before .before .before .before .before .before .before .before .before .before .before .before .before .before .before .before .before .before .before .before .before .before .args .allowance)) (c .before .before .before .before .before .before .before .before .before .before .before .before .before .before .before .before .before .before .before .before .before .before .before .before .before .before .before .before .before .before .pre .1 .0 .0) (c .before .before .before .before .before .before .before .before .before .before .before .before .before .before .before .before .before .before .before .before .before .before .before .before .before .before .before .before .before .before .pre .1 .0 .1) _ (c .before .before .before .before .before .before .before .before .before .before .before .before .before .before .before .before .before .before .before .before .before .before .before .before .before .before .before .before .before .before .pre .1 .1 .0) _ (c .before .before .before .before .before .before .before .before .before .before .before .before .before .before .before .before .before .found-at .ensures)) ∙ c .before .before .before .before .before .before .before .before .before .before .before .before .before .before .before .if1 .left) (c .before .before .before .before .before .before .flood-fill .ensures)
+after-fill-requires c κs = after-asks (@pre .0 .0) (@args .gas .now) (ask [] (@args .threshold) (@args .limit) (@args .allowance)) _ (@pre .1 .0 .0) (@pre .1 .0 .1) (@pre .1 .1 .0) (sym (mark-is (ask [] (@args .threshold) (@args .limit) (@args .allowance)) (@pre .1 .0 .0) (@pre .1 .0 .1) _ (@pre .1 .1 .0) _ (@found-at .ensures)) ∙ @if1 .left) (@flood-fill .ensures)
 
 -- src/lib.rt:203:1
 same-length : tie.Need-same-length
@@ -88,7 +88,7 @@ same-length-3 c = search needs
 
 -- src/lib.rt:203:1
 returns-4 : tie.Need-returns-4
-returns-4 c = λ hot. after-fills (c .before .before .before .before .before .before .before .before .before .before .before .before .before .before .before .before .before .before .before .before .before .before .before .before .before .before .before .before .before .before .before .before .before .before .before .pre .0 .0) (c .before .before .before .before .before .before .before .before .before .before .before .before .before .before .before .before .before .before .before .before .before .before .before .before .before .before .before .before .before .before .before .before .before .before .before .args .gas .now) (ask hot (c .before .before .before .before .before .before .before .before .before .before .before .before .before .before .before .before .before .before .before .before .before .before .before .before .before .before .before .before .before .before .before .before .before .before .before .args .threshold) (c .before .before .before .before .before .before .before .before .before .before .before .before .before .before .before .before .before .before .before .before .before .before .before .before .before .before .before .before .before .before .before .before .before .before .before .args .limit) (c .before .before .before .before .before .before .before .before .before .before .before .before .before .before .before .before .before .before .before .before .before .before .before .before .before .before .before .before .before .before .before .before .before .before .before .args .allowance)) _ (c .before .before .before .before .before .before .before .before .before .before .before .before .before .before .before .before .before .before .before .before .before .before .before .before .before .before .before .before .before .before .before .before .before .before .before .pre .1 .0 .0) (c .before .before .before .before .before .before .before .before .before .before .before .before .before .before .before .before .before .before .before .before .before .before .before .before .before .before .before .before .before .before .before .before .before .before .before .pre .1 .0 .1) (c .before .before .before .before .before .before .before .before .before .before .before .before .before .before .before .before .before .before .before .before .before .before .before .before .before .before .before .before .before .before .before .before .before .before .before .pre .1 .1 .0) (sym (mark-is (ask hot (c .before .before .before .before .before .before .before .before .before .before .before .before .before .before .before .before .before .before .before .before .before .before .before .before .before .before .before .before .before .before .before .before .before .before .before .args .threshold) (c .before .before .before .before .before .before .before .before .before .before .before .before .before .before .before .before .before .before .before .before .before .before .before .before .before .before .before .before .before .before .before .before .before .before .before .args .limit) (c .before .before .before .before .before .before .before .before .before .before .before .before .before .before .before .before .before .before .before .before .before .before .before .before .before .before .before .before .before .before .before .before .before .before .before .args .allowance)) (c .before .before .before .before .before .before .before .before .before .before .before .before .before .before .before .before .before .before .before .before .before .before .before .before .before .before .before .before .before .before .before .before .before .before .before .pre .1 .0 .0) (c .before .before .before .before .before .before .before .before .before .before .before .before .before .before .before .before .before .before .before .before .before .before .before .before .before .before .before .before .before .before .before .before .before .before .before .pre .1 .0 .1) _ (c .before .before .before .before .before .before .before .before .before .before .before .before .before .before .before .before .before .before .before .before .before .before .before .before .before .before .before .before .before .before .before .before .before .before .before .pre .1 .1 .0) _ (c .before .before .before .before .before .before .before .before .before .before .before .before .before .before .before .before .before .before .before .before .before .before .found-at .ensures)) ∙ c .before .before .before .before .before .before .before .before .before .before .before .before .before .before .before .before .before .before .before .before .if1 .left) (is-rest _ _ (ask hot (c .before .before .before .before .before .before .before .before .before .before .before .before .before .before .before .before .before .before .before .before .before .before .before .before .before .before .before .before .before .before .before .before .before .before .before .args .threshold) (c .before .before .before .before .before .before .before .before .before .before .before .before .before .before .before .before .before .before .before .before .before .before .before .before .before .before .before .before .before .before .before .before .before .before .before .args .limit) (c .before .before .before .before .before .before .before .before .before .before .before .before .before .before .before .before .before .before .before .before .before .before .before .before .before .before .before .before .before .before .before .before .before .before .before .args .allowance)) _ _ (sym (mark-is (ask hot (c .before .before .before .before .before .before .before .before .before .before .before .before .before .before .before .before .before .before .before .before .before .before .before .before .before .before .before .before .before .before .before .before .before .before .before .args .threshold) (c .before .before .before .before .before .before .before .before .before .before .before .before .before .before .before .before .before .before .before .before .before .before .before .before .before .before .before .before .before .before .before .before .before .before .before .args .limit) (c .before .before .before .before .before .before .before .before .before .before .before .before .before .before .before .before .before .before .before .before .before .before .before .before .before .before .before .before .before .before .before .before .before .before .before .args .allowance)) (c .before .before .before .before .before .before .before .before .before .before .before .before .before .before .before .before .before .before .before .before .before .before .before .before .before .before .before .before .before .before .before .before .before .before .before .pre .1 .0 .0) (c .before .before .before .before .before .before .before .before .before .before .before .before .before .before .before .before .before .before .before .before .before .before .before .before .before .before .before .before .before .before .before .before .before .before .before .pre .1 .0 .1) _ (c .before .before .before .before .before .before .before .before .before .before .before .before .before .before .before .before .before .before .before .before .before .before .before .before .before .before .before .before .before .before .before .before .before .before .before .pre .1 .1 .0) _ (c .before .before .before .before .before .before .before .before .before .before .before .before .before .before .before .before .before .before .before .before .before .before .found-at .ensures)) ∙ c .before .before .before .before .before .before .before .before .before .before .before .before .before .before .before .before .before .before .before .before .if1 .left) (sym (c .before .before .before .before .before .before .before .before .before .before .before .before .before .before .before .before .before .before .enabled .ensures) ∙ not-false _ (c .before .before .before .before .before .before .before .before .before .before .before .before .before .before .before .before .before .if2 .left)) false (sym (c .before .before .before .before .before .before .before .before .before .before .before .before .before .before .before .if3 .left) ∙ (c .before .before .before .before .before .before .before .before .before .before .before .before .before .before .before .before .unshareable .ensures _ refl refl refl refl (ask hot (c .before .before .before .before .before .before .before .before .before .before .before .before .before .before .before .before .before .before .before .before .before .before .before .before .before .before .before .before .before .before .before .before .before .before .before .args .threshold) (c .before .before .before .before .before .before .before .before .before .before .before .before .before .before .before .before .before .before .before .before .before .before .before .before .before .before .before .before .before .before .before .before .before .before .before .args .limit) (c .before .before .before .before .before .before .before .before .before .before .before .before .before .before .before .before .before .before .before .before .before .before .before .before .before .before .before .before .before .before .before .before .before .before .before .args .allowance)) refl))) (c .before .before .before .before .before .before .before .before .before .before .before .flood-fill .ensures) (c .before .before .before .before .after-fill .ensures)
+returns-4 c = λ hot. after-fills (@pre .0 .0) (@args .gas .now) (ask hot (@args .threshold) (@args .limit) (@args .allowance)) _ (@pre .1 .0 .0) (@pre .1 .0 .1) (@pre .1 .1 .0) (sym (mark-is (ask hot (@args .threshold) (@args .limit) (@args .allowance)) (@pre .1 .0 .0) (@pre .1 .0 .1) _ (@pre .1 .1 .0) _ (@found-at .ensures)) ∙ @if1 .left) (is-rest _ _ (ask hot (@args .threshold) (@args .limit) (@args .allowance)) _ _ (sym (mark-is (ask hot (@args .threshold) (@args .limit) (@args .allowance)) (@pre .1 .0 .0) (@pre .1 .0 .1) _ (@pre .1 .1 .0) _ (@found-at .ensures)) ∙ @if1 .left) (sym (@enabled .ensures) ∙ not-false _ (@if2 .left)) false (sym (@if3 .left) ∙ (@unshareable .ensures _ refl refl refl refl (ask hot (@args .threshold) (@args .limit) (@args .allowance)) refl))) (@flood-fill .ensures) (@after-fill .ensures)
 
 pub hot-row-spec : {M : Type 1} → statement M
 hot-row-spec =

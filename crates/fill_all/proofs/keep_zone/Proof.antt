@@ -70,7 +70,7 @@ same-length-2 c = search needs
 
 -- src/lib.rt:144:1
 returns : tie.Need-returns
-returns c = record { answer = rw (c .is-over .ensures); words = rw (c .before .before .starts-at .ensures); floats = rw (c .before .moles-at .ensures) }
+returns c = record { answer = rw (@is-over .ensures); words = rw (@starts-at .ensures); floats = rw (@moles-at .ensures) }
 
 pub keep-zone-spec : {M : Type 1} → statement M
 keep-zone-spec =

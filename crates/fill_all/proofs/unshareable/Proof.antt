@@ -25,39 +25,39 @@ links-of-requires c κs = search needs
 
 -- src/lib.rt:99:9
 returns : tie.Need-returns
-returns c = λ b em es en eg q et. none-linked b _ q _ _ _ (c .before .links-of .ensures .0 ∙ ap (λ (l : List ℕ). getD l (c .before .before .before .before .before .before .args .row) 0) (sym es)) (c .before .links-of .ensures .1 ∙ ap (λ (l : List ℕ). getD l (c .before .before .before .before .before .before .args .row + 1) 0) (sym es)) (c .if1 .taken)
+returns c = λ b em es en eg q et. none-linked b _ q _ _ _ (@links-of .ensures .0 ∙ ap (λ (l : List ℕ). getD l (@args .row) 0) (sym es)) (@links-of .ensures .1 ∙ ap (λ (l : List ℕ). getD l (@args .row + 1) 0) (sym es)) (@if1 .taken)
 
 -- src/lib.rt:101:9
 total-requires : tie.Need-total-requires
-total-requires c κs = (c .before .before .before .before .before .before .pre .0 .1 .0, c .before .before .before .before .before .before .pre .1 .1 _ (c .before .before .before .before .before .before .pre .0 .1 .0))
+total-requires c κs = (@pre .0 .1 .0, @pre .1 .1 _ (@pre .0 .1 .0))
 
 -- src/lib.rt:103:9
 returns-2 : tie.Need-returns-2
-returns-2 c = λ b em es en eg q et. few-moles b _ q _ _ _ (c .before .before .before .links-of .ensures .0 ∙ ap (λ (l : List ℕ). getD l (c .before .before .before .before .before .before .before .before .args .row) 0) (sym es)) (c .before .before .before .links-of .ensures .1 ∙ ap (λ (l : List ℕ). getD l (c .before .before .before .before .before .before .before .before .args .row + 1) 0) (sym es)) (c .before .before .if1 .left) (omega (arith, c .before .before .before .before .before .before .before .before .pre .0 .1 .1 .rise _ (c .before .before .before .before .before .before .before .before .pre .0 .1 .0), c .before .before .before .before .before .before .before .before .pre .0 .1 .1 .end _ (c .before .before .before .before .before .before .before .before .pre .0 .1 .0), c .before .before .before .links-of .ensures .0, c .before .before .before .links-of .ensures .1)) _ (c .before .total .ensures b em eg) (c .if2 .taken)
+returns-2 c = λ b em es en eg q et. few-moles b _ q _ _ _ (@links-of .ensures .0 ∙ ap (λ (l : List ℕ). getD l (@args .row) 0) (sym es)) (@links-of .ensures .1 ∙ ap (λ (l : List ℕ). getD l (@args .row + 1) 0) (sym es)) (@if1 .left) (omega (arith, @pre .0 .1 .1 .rise _ (@pre .0 .1 .0), @pre .0 .1 .1 .end _ (@pre .0 .1 .0), @links-of .ensures .0, @links-of .ensures .1)) _ (@total .ensures b em eg) (@if2 .taken)
 
 -- src/lib.rt:105:14
 mul-all-near : tie.Need-mul-all-near
-mul-all-near c = omega (arith, c .before .before .before .before .before .before .before .before .pre .0 .1 .1 .rise _ (c .before .before .before .before .before .before .before .before .pre .0 .1 .0), c .before .before .before .before .before .before .before .before .pre .0 .1 .1 .end _ (c .before .before .before .before .before .before .before .before .pre .0 .1 .0), c .before .before .before .links-of .ensures .0, c .before .before .before .links-of .ensures .1, c .before .before .before .before .before .shared-slice-known3 .given 0)
+mul-all-near c = omega (arith, @pre .0 .1 .1 .rise _ (@pre .0 .1 .0), @pre .0 .1 .1 .end _ (@pre .0 .1 .0), @links-of .ensures .0, @links-of .ensures .1, @shared-slice-known3 .given 0)
 
 -- src/lib.rt:105:14
 sub-all-near : tie.Need-sub-all-near
-sub-all-near c = omega (arith, c .before .before .before .before .before .before .before .before .pre .0 .1 .1 .rise _ (c .before .before .before .before .before .before .before .before .pre .0 .1 .0), c .before .before .before .before .before .before .before .before .pre .0 .1 .1 .end _ (c .before .before .before .before .before .before .before .before .pre .0 .1 .0), c .before .before .before .links-of .ensures .0, c .before .before .before .links-of .ensures .1)
+sub-all-near c = omega (arith, @pre .0 .1 .1 .rise _ (@pre .0 .1 .0), @pre .0 .1 .1 .end _ (@pre .0 .1 .0), @links-of .ensures .0, @links-of .ensures .1)
 
 -- src/lib.rt:105:14
 part-all-near-start : tie.Need-part-all-near-start
-part-all-near-start c = omega (arith, c .before .before .before .before .before .before .before .before .pre .0 .1 .1 .rise _ (c .before .before .before .before .before .before .before .before .pre .0 .1 .0), c .before .before .before .before .before .before .before .before .pre .0 .1 .1 .end _ (c .before .before .before .before .before .before .before .before .pre .0 .1 .0), c .before .before .before .links-of .ensures .0, c .before .before .before .links-of .ensures .1)
+part-all-near-start c = omega (arith, @pre .0 .1 .1 .rise _ (@pre .0 .1 .0), @pre .0 .1 .1 .end _ (@pre .0 .1 .0), @links-of .ensures .0, @links-of .ensures .1)
 
 -- src/lib.rt:105:14
 part-all-near-end : tie.Need-part-all-near-end
-part-all-near-end c = omega (arith, c .before .before .before .before .before .before .before .before .pre .0 .1 .1 .rise _ (c .before .before .before .before .before .before .before .before .pre .0 .1 .0), c .before .before .before .before .before .before .before .before .pre .0 .1 .1 .end _ (c .before .before .before .before .before .before .before .before .pre .0 .1 .0), c .before .before .before .links-of .ensures .0, c .before .before .before .links-of .ensures .1)
+part-all-near-end c = omega (arith, @pre .0 .1 .1 .rise _ (@pre .0 .1 .0), @pre .0 .1 .1 .end _ (@pre .0 .1 .0), @links-of .ensures .0, @links-of .ensures .1)
 
 -- src/lib.rt:105:5
 all-near-requires : tie.Need-all-near-requires
-all-near-requires c κs = (c .before .before .before .before .before .before .before .before .before .pre .0 .0, near-asks (c .before .before .before .before .before .before .before .before .before .args .neighbours .now) (c .before .before .before .before .before .before .before .before .before .args .mixtures .now) (λ x. Holds (c .before .before .before .before .before .before .before .before .before .args .gas .now) (c .before .before .before .before .before .before .before .before .before .args .gases) x) (c .before .before .before .before .links-of .result .from) (c .before .before .before .before .links-of .result .to) (c .before .before .before .before .before .before .before .before .before .pre .1 .0) (c .before .before .before .before .before .before .before .before .before .pre .1 .1))
+all-near-requires c κs = (@pre .0 .0, near-asks (@args .neighbours .now) (@args .mixtures .now) (λ x. Holds (@args .gas .now) (@args .gases) x) (@links-of .result .from) (@links-of .result .to) (@pre .1 .0) (@pre .1 .1))
 
 -- src/lib.rt:81:1
 returns-3 : tie.Need-returns-3
-returns-3 c = λ b em es en eg q et. all-tested b _ q _ _ _ (c .before .before .before .before .before .links-of .ensures .0 ∙ ap (λ (l : List ℕ). getD l (c .before .before .before .before .before .before .before .before .before .before .args .row) 0) (sym es)) (c .before .before .before .before .before .links-of .ensures .1 ∙ ap (λ (l : List ℕ). getD l (c .before .before .before .before .before .before .before .before .before .before .args .row + 1) 0) (sym es)) (c .before .before .before .before .if1 .left) (omega (arith, c .before .before .before .before .before .before .before .before .before .before .pre .0 .1 .1 .rise _ (c .before .before .before .before .before .before .before .before .before .before .pre .0 .1 .0), c .before .before .before .before .before .before .before .before .before .before .pre .0 .1 .1 .end _ (c .before .before .before .before .before .before .before .before .before .before .pre .0 .1 .0), c .before .before .before .before .before .links-of .ensures .0, c .before .before .before .before .before .links-of .ensures .1)) _ (c .before .before .before .total .ensures b em eg) (c .before .before .if2 .left) (omega (arith, c .before .before .before .before .before .before .before .before .before .before .pre .0 .1 .1 .rise _ (c .before .before .before .before .before .before .before .before .before .before .pre .0 .1 .0), c .before .before .before .before .before .before .before .before .before .before .pre .0 .1 .1 .end _ (c .before .before .before .before .before .before .before .before .before .before .pre .0 .1 .0), c .before .before .before .before .before .links-of .ensures .0, c .before .before .before .before .before .links-of .ensures .1, ap length en)) _ (c .all-near .ensures b em eg ∙ ap₂ (λ (x : Float) (l : List ℕ). every (λ a. lt (abs (total b (c .before .before .before .before .before .before .before .before .before .before .args .gas .now) a -f c .before .before .before .total .result)) x) (take (c .before .before .before .before .before .links-of .result .to - c .before .before .before .before .before .links-of .result .from) (drop (c .before .before .before .before .before .links-of .result .from) l))) (sym et) (sym en))
+returns-3 c = λ b em es en eg q et. all-tested b _ q _ _ _ (@links-of .ensures .0 ∙ ap (λ (l : List ℕ). getD l (@args .row) 0) (sym es)) (@links-of .ensures .1 ∙ ap (λ (l : List ℕ). getD l (@args .row + 1) 0) (sym es)) (@if1 .left) (omega (arith, @pre .0 .1 .1 .rise _ (@pre .0 .1 .0), @pre .0 .1 .1 .end _ (@pre .0 .1 .0), @links-of .ensures .0, @links-of .ensures .1)) _ (@total .ensures b em eg) (@if2 .left) (omega (arith, @pre .0 .1 .1 .rise _ (@pre .0 .1 .0), @pre .0 .1 .1 .end _ (@pre .0 .1 .0), @links-of .ensures .0, @links-of .ensures .1, ap length en)) _ (@all-near .ensures b em eg ∙ ap₂ (λ (x : Float) (l : List ℕ). every (λ a. lt (abs (total b (@args .gas .now) a -f @total .result)) x) (take (@links-of .result .to - @links-of .result .from) (drop (@links-of .result .from) l))) (sym et) (sym en))
 
 pub unshareable-spec : {M : Type 1} → statement M
 unshareable-spec =

@@ -18,23 +18,23 @@ links-of-requires c κs = search needs
 
 -- src/lib.rt:91:9
 total-requires : tie.Need-total-requires
-total-requires c κs = (rw (c .before .before .before .before .before .before .before .before .before .before .before .before .pre .0 .mixes) (c .before .before .before .before .before .before .before .before .before .before .before .before .pre .1 .1 .0), gas-holds (c .before .before .before .before .before .before .before .before .before .before .before .before .pre .0) (c .before .before .before .before .before .before .before .before .before .before .before .before .args .gas .now) refl (c .before .before .before .before .before .before .before .before .before .before .before .before .args .row))
+total-requires c κs = (rw (@pre .0 .mixes) (@pre .1 .1 .0), gas-holds (@pre .0) (@args .gas .now) refl (@args .row))
 
 -- src/lib.rt:94:9
 mul-reach-links : tie.Need-mul-reach-links
-mul-reach-links c = omega (arith, parts (c .before .before .before .before .before .before .before .before .before .before .before .before .before .before .pre .0) .rise _ (c .before .before .before .before .before .before .before .before .before .before .before .before .before .before .pre .1 .1 .0), parts (c .before .before .before .before .before .before .before .before .before .before .before .before .before .before .pre .0) .end _ (c .before .before .before .before .before .before .before .before .before .before .before .before .before .before .pre .1 .1 .0), c .before .before .links-of .ensures .0, c .before .before .links-of .ensures .1, c .before .before .before .before .before .before .before .before .before .before .before .before .before .before .pre .0 .links)
+mul-reach-links c = omega (arith, parts (@pre .0) .rise _ (@pre .1 .1 .0), parts (@pre .0) .end _ (@pre .1 .1 .0), @links-of .ensures .0, @links-of .ensures .1, @pre .0 .links)
 
 -- src/lib.rt:94:9
 sub-reach-links : tie.Need-sub-reach-links
-sub-reach-links c = omega (arith, parts (c .before .before .before .before .before .before .before .before .before .before .before .before .before .before .pre .0) .rise _ (c .before .before .before .before .before .before .before .before .before .before .before .before .before .before .pre .1 .1 .0), parts (c .before .before .before .before .before .before .before .before .before .before .before .before .before .before .pre .0) .end _ (c .before .before .before .before .before .before .before .before .before .before .before .before .before .before .pre .1 .1 .0), c .before .before .links-of .ensures .0, c .before .before .links-of .ensures .1, c .before .before .before .before .before .before .before .before .before .before .before .before .before .before .pre .0 .links)
+sub-reach-links c = omega (arith, parts (@pre .0) .rise _ (@pre .1 .1 .0), parts (@pre .0) .end _ (@pre .1 .1 .0), @links-of .ensures .0, @links-of .ensures .1, @pre .0 .links)
 
 -- src/lib.rt:94:9
 part-reach-links-start : tie.Need-part-reach-links-start
-part-reach-links-start c = omega (arith, parts (c .before .before .before .before .before .before .before .before .before .before .before .before .before .before .pre .0) .rise _ (c .before .before .before .before .before .before .before .before .before .before .before .before .before .before .pre .1 .1 .0), parts (c .before .before .before .before .before .before .before .before .before .before .before .before .before .before .pre .0) .end _ (c .before .before .before .before .before .before .before .before .before .before .before .before .before .before .pre .1 .1 .0), c .before .before .links-of .ensures .0, c .before .before .links-of .ensures .1, c .before .before .before .before .before .before .before .before .before .before .before .before .before .before .pre .0 .links)
+part-reach-links-start c = omega (arith, parts (@pre .0) .rise _ (@pre .1 .1 .0), parts (@pre .0) .end _ (@pre .1 .1 .0), @links-of .ensures .0, @links-of .ensures .1, @pre .0 .links)
 
 -- src/lib.rt:94:9
 part-reach-links-end : tie.Need-part-reach-links-end
-part-reach-links-end c = omega (arith, parts (c .before .before .before .before .before .before .before .before .before .before .before .before .before .before .pre .0) .rise _ (c .before .before .before .before .before .before .before .before .before .before .before .before .before .before .pre .1 .1 .0), parts (c .before .before .before .before .before .before .before .before .before .before .before .before .before .before .pre .0) .end _ (c .before .before .before .before .before .before .before .before .before .before .before .before .before .before .pre .1 .1 .0), c .before .before .links-of .ensures .0, c .before .before .links-of .ensures .1, c .before .before .before .before .before .before .before .before .before .before .before .before .before .before .pre .0 .links)
+part-reach-links-end c = omega (arith, parts (@pre .0) .rise _ (@pre .1 .1 .0), parts (@pre .0) .end _ (@pre .1 .1 .0), @links-of .ensures .0, @links-of .ensures .1, @pre .0 .links)
 
 -- src/lib.rt:97:9
 mul-reach-links-2 : tie.Need-mul-reach-links-2
@@ -46,15 +46,15 @@ shared-slice-read-reach-links c = search needs
 
 -- src/lib.rt:93:9
 reach-links-requires : tie.Need-reach-links-requires
-reach-links-requires c κs = (c .before .before .before .before .before .before .before .before .before .before .before .before .before .before .before .before .before .before .pre .1 .0, (rows-of (c .before .before .before .before .before .before .before .before .before .before .before .before .before .before .before .before .before .before .pre .0), part-fits (c .before .before .before .before .before .before .before .before .before .before .before .before .before .before .before .before .before .before .pre .0) _ (c .before .before .before .before .before .before .before .before .before .before .before .before .before .before .before .before .before .before .pre .1 .1 .0) _ _ (c .before .before .before .before .before .before .links-of .ensures .0) (c .before .before .before .before .before .before .links-of .ensures .1) _ (c .before .before .before .before .before .before .before .before .before .before .before .before .before .before .before .before .before .before .pre .1 .1 .1 .1 .1)))
+reach-links-requires c κs = (@pre .1 .0, (rows-of (@pre .0), part-fits (@pre .0) _ (@pre .1 .1 .0) _ _ (@links-of .ensures .0) (@links-of .ensures .1) _ (@pre .1 .1 .1 .1 .1)))
 
 -- src/lib.rt:112:17
 add-t25 : tie.Need-add-t25
-add-t25 c = omega (arith, c .before .before .before .before .before .before .before .before .before .before .before .before .before .before .before .before .before .before .before .before .before .before .before .before .pre .1 .1 .1 .0)
+add-t25 c = omega (arith, @pre .1 .1 .1 .0)
 
 -- src/lib.rt:115:16
 add-t34 : tie.Need-add-t34
-add-t34 c = omega (arith, c .before .before .before .before .before .before .before .before .before .before .before .before .before .before .before .before .before .before .before .before .before .before .before .before .before .before .pre .1 .1 .1 .1 .0)
+add-t34 c = omega (arith, @pre .1 .1 .1 .1 .0)
 
 -- src/lib.rt:63:1
 same-length : tie.Need-same-length
@@ -66,7 +66,7 @@ same-length-2 c = search needs
 
 -- src/lib.rt:63:1
 returns : tie.Need-returns
-returns c = λ limit allowance. floods-expand (c .before .before .before .before .before .before .before .before .before .before .before .before .before .before .before .before .before .before .before .before .before .before .before .before .before .before .pre .0) _ limit allowance _ _ _ _ _ _ _ _ _ (c .before .before .before .before .before .before .before .before .before .before .before .before .before .before .before .before .before .before .before .before .before .before .before .before .before .before .pre .1 .1 .0) (c .before .before .before .before .before .before .before .before .before .before .before .before .before .before .links-of .ensures .0) (c .before .before .before .before .before .before .before .before .before .before .before .before .before .before .links-of .ensures .1) (c .before .before .before .before .before .before .before .before .before .before .before .before .before .total .ensures _ refl refl) _ (c .before .before .before .before .before .before .before .reach-links .ensures) refl
+returns c = λ limit allowance. floods-expand (@pre .0) _ limit allowance _ _ _ _ _ _ _ _ _ (@pre .1 .1 .0) (@links-of .ensures .0) (@links-of .ensures .1) (@total .ensures _ refl refl) _ (@reach-links .ensures) refl
 
 pub expand-spec : {M : Type 1} → statement M
 expand-spec =

@@ -26,11 +26,11 @@ abbrev μ-loop : tie.MeasureT-loop
 
 -- src/lib.rt:228:9
 start-requires : tie.Need-start-requires Inv-loop μ-loop
-start-requires c κs = start-asks (c .before .before .before .before .before .before .before .before .before .before .before .before .pre .0) (c .before .before .before .before .before .before .before .before .before .before .before .before .args .gas .now) (c .before .before .before .before .before .before .before .before .before .before .before .before .args .limit) (c .before .before .before .before .before .before .before .before .before .before .before .before .args .allowance) (c .before .before .before .before .before .before .before .before .before .before .before .before .args .z) (c .before .before .before .before .before .before .before .before .before .before .before .before .args .kept) (c .before .before .before .before .before .before .before .before .before .before .before .before .args .used) (c .before .before .before .before .before .before .before .before .before .before .before .before .args .tests) (c .before .before .before .before .before .before .before .before .before .before .before .before .args .row) (c .before .before .before .before .before .before .before .before .before .before .before .before .pre .1 .0)
+start-requires c κs = start-asks (@pre .0) (@args .gas .now) (@args .limit) (@args .allowance) (@args .z) (@args .kept) (@args .used) (@args .tests) (@args .row) (@pre .1 .0)
 
 -- src/lib.rt:229:5
 loop-holds : tie.Need-loop-holds Inv-loop μ-loop
-loop-holds c = (popping-start (c .before .before .before .before .before .before .before .before .before .before .before .before .before .before .before .pre .0) _ _ _ _ _ _ _ _ (c .before .before .before .before .before .before .before .before .before .before .before .before .before .before .before .pre .1 .0) (c .before .before .start .ensures .0) (c .before .before .start .ensures .1) (c .before .before .before .before .before .before .before .before .before .before .before .before .before .before .before .pre .1 .1), refl)
+loop-holds c = (popping-start (@pre .0) _ _ _ _ _ _ _ _ (@pre .1 .0) (@start .ensures .0) (@start .ensures .1) (@pre .1 .1), refl)
 
 -- src/lib.rt:229:11
 goes-on-requires : tie.Need-goes-on-requires Inv-loop μ-loop
@@ -38,27 +38,27 @@ goes-on-requires c κs = search needs
 
 -- src/lib.rt:230:9
 pop-requires : tie.Need-pop-requires Inv-loop μ-loop
-pop-requires c κs = (c .before .before .before .before .before .before .before .before .before .before .before .before .before .before .before .before .before .before .before .before .pre .0, ((c .before .before .before .before .loop .inv .0 .done .fit, c .before .before .before .before .loop .inv .0 .done .bounds), (going-on (c .before .before .before .before .loop .t .state) (c .before .before .before .before .loop .t .popped) (c .before .before .before .before .loop .t .reach .queued) (sym (c .before .before .before .goes-on .ensures) ∙ c .before .before .if1 .taken) .0, (going-on (c .before .before .before .before .loop .t .state) (c .before .before .before .before .loop .t .popped) (c .before .before .before .before .loop .t .reach .queued) (sym (c .before .before .before .goes-on .ensures) ∙ c .before .before .if1 .taken) .1, (c .before .before .before .before .loop .inv .0 .clock (going-on (c .before .before .before .before .loop .t .state) (c .before .before .before .before .loop .t .popped) (c .before .before .before .before .loop .t .reach .queued) (sym (c .before .before .before .goes-on .ensures) ∙ c .before .before .if1 .taken) .0), popping-free (c .before .before .before .before .before .before .before .before .before .before .before .before .before .before .before .before .before .before .before .before .pre .0) _ _ _ _ _ _ _ _ (c .before .before .before .before .before .before .before .before .before .before .before .before .before .before .before .before .before .before .before .before .pre .1 .0) (c .before .before .before .before .before .before .before .start .ensures .0) (c .before .before .before .before .before .before .before .start .ensures .1) (c .before .before .before .before .loop .inv .0) (going-on (c .before .before .before .before .loop .t .state) (c .before .before .before .before .loop .t .popped) (c .before .before .before .before .loop .t .reach .queued) (sym (c .before .before .before .goes-on .ensures) ∙ c .before .before .if1 .taken) .1))))))
+pop-requires c κs = (@pre .0, ((@loop .inv .0 .done .fit, @loop .inv .0 .done .bounds), (going-on (@loop .t .state) (@loop .t .popped) (@loop .t .reach .queued) (sym (@goes-on .ensures) ∙ @if1 .taken) .0, (going-on (@loop .t .state) (@loop .t .popped) (@loop .t .reach .queued) (sym (@goes-on .ensures) ∙ @if1 .taken) .1, (@loop .inv .0 .clock (going-on (@loop .t .state) (@loop .t .popped) (@loop .t .reach .queued) (sym (@goes-on .ensures) ∙ @if1 .taken) .0), popping-free (@pre .0) _ _ _ _ _ _ _ _ (@pre .1 .0) (@start .ensures .0) (@start .ensures .1) (@loop .inv .0) (going-on (@loop .t .state) (@loop .t .popped) (@loop .t .reach .queued) (sym (@goes-on .ensures) ∙ @if1 .taken) .1))))))
 
 -- src/lib.rt:229:5
 loop-less : tie.Need-loop-less Inv-loop μ-loop
-loop-less c = omega (arith, c .before .before .before .before .pop .ensures .1 .0, going-on (c .before .before .before .before .before .before .before .before .before .loop .t .state) (c .before .before .before .before .before .before .before .before .before .loop .t .popped) (c .before .before .before .before .before .before .before .before .before .loop .t .reach .queued) (sym (c .before .before .before .before .before .before .before .before .goes-on .ensures) ∙ c .before .before .before .before .before .before .before .if1 .taken) .1, c .before .before .before .before .before .before .before .before .before .loop .inv .0 .done .fit .queue)
+loop-less c = omega (arith, @pop .ensures .1 .0, going-on (@loop .t .state) (@loop .t .popped) (@loop .t .reach .queued) (sym (@goes-on .ensures) ∙ @if1 .taken) .1, @loop .inv .0 .done .fit .queue)
 
 -- src/lib.rt:229:5
 loop-again : tie.Need-loop-again Inv-loop μ-loop
-loop-again c = (popping-next (c .before .before .before .before .before .before .before .before .before .before .before .before .before .before .before .before .before .before .before .before .before .before .before .before .before .pre .0) _ _ _ _ _ _ _ _ (c .before .before .before .before .before .before .before .before .before .before .before .before .before .before .before .before .before .before .before .before .before .before .before .before .before .pre .1 .0) (c .before .before .before .before .before .before .before .before .before .before .before .before .start .ensures .0) (c .before .before .before .before .before .before .before .before .before .before .before .before .start .ensures .1) (c .before .before .before .before .before .before .before .before .before .loop .inv .0) (going-on (c .before .before .before .before .before .before .before .before .before .loop .t .state) (c .before .before .before .before .before .before .before .before .before .loop .t .popped) (c .before .before .before .before .before .before .before .before .before .loop .t .reach .queued) (sym (c .before .before .before .before .before .before .before .before .goes-on .ensures) ∙ c .before .before .before .before .before .before .before .if1 .taken) .1) (c .before .before .before .before .pop .ensures .0) (c .before .before .before .before .pop .ensures .1 .0) (c .before .before .before .before .pop .ensures .1 .1), c .before .before .before .before .pop .kept .1 .1 .1 .1 .1 .1 .1 .1 .1 .1 .1 .1 .1 .1 .1 .0 ∙ c .before .before .before .before .before .before .before .before .before .loop .inv .1)
+loop-again c = (popping-next (@pre .0) _ _ _ _ _ _ _ _ (@pre .1 .0) (@start .ensures .0) (@start .ensures .1) (@loop .inv .0) (going-on (@loop .t .state) (@loop .t .popped) (@loop .t .reach .queued) (sym (@goes-on .ensures) ∙ @if1 .taken) .1) (@pop .ensures .0) (@pop .ensures .1 .0) (@pop .ensures .1 .1), @pop .kept .1 .1 .1 .1 .1 .1 .1 .1 .1 .1 .1 .1 .1 .1 .1 .0 ∙ @loop .inv .1)
 
 -- src/lib.rt:203:1
 same-length : tie.Need-same-length Inv-loop μ-loop
-same-length c = c .before .before .loop .inv .1 ∙ c .before .before .before .before .before .start .kept .1 .1 .1 .1 .1 .1 .0
+same-length c = @loop .inv .1 ∙ @start .kept .1 .1 .1 .1 .1 .1 .0
 
 -- src/lib.rt:203:1
 same-length-2 : tie.Need-same-length-2 Inv-loop μ-loop
-same-length-2 c = wrote-length (c .before .before .loop .inv .0 .done .does .wrote)
+same-length-2 c = wrote-length (@loop .inv .0 .done .does .wrote)
 
 -- src/lib.rt:203:1
 returns : tie.Need-returns Inv-loop μ-loop
-returns c = popping-end (c .before .before .before .before .before .before .before .before .before .before .before .before .before .before .before .before .before .before .pre .0) _ _ _ _ _ _ _ _ (c .before .before .before .before .before .before .before .before .before .before .before .before .before .before .before .before .before .before .pre .1 .0) (c .before .before .before .before .before .start .ensures .0) (c .before .before .before .before .before .start .ensures .1) (c .before .before .loop .inv .0) (sym (c .before .goes-on .ensures) ∙ c .if1 .left)
+returns c = popping-end (@pre .0) _ _ _ _ _ _ _ _ (@pre .1 .0) (@start .ensures .0) (@start .ensures .1) (@loop .inv .0) (sym (@goes-on .ensures) ∙ @if1 .left)
 
 pub flood-fill-spec : {M : Type 1} → statement M
 flood-fill-spec =

@@ -42,15 +42,15 @@ ended-requires c κs = search needs
 
 -- src/lib.rt:149:9
 returns : tie.Need-returns
-returns c = pop-over _ _ _ _ _ _ (c .before .before .before .before .before .before .before .before .before .before .before .before .before .before .before .before .args .t) (c .before .before .before .before .before .before .before .before .before .before .before .before .before .before .before .before .pre .1 .0 .0) (c .before .before .before .before .before .before .before .before .before .before .before .before .before .before .before .before .pre .1 .0 .1) (c .before .before .before .before .before .before .before .before .before .before .before .before .before .before .before .before .pre .1 .1 .0) (c .before .before .before .before .before .before .before .before .before .before .before .before .before .before .before .before .pre .1 .1 .1 .0) (c .before .if1 .taken) _ (c .ended .ensures)
+returns c = pop-over _ _ _ _ _ _ (@args .t) (@pre .1 .0 .0) (@pre .1 .0 .1) (@pre .1 .1 .0) (@pre .1 .1 .1 .0) (@if1 .taken) _ (@ended .ensures)
 
 -- src/lib.rt:151:48
 cast-is-planet : tie.Need-cast-is-planet
-cast-is-planet c = omega (arith, row-below (c .before .before .before .before .before .before .before .before .before .before .before .before .before .before .before .pre .1 .0 .0) (c .before .before .before .before .before .before .before .before .before .before .before .before .before .before .before .pre .1 .0 .1) _ (c .before .before .before .before .before .before .before .before .before .before .before .before .before .before .before .pre .1 .1 .1 .0) _ (c .before .before .before .queue-at .ensures), c .before .before .before .before .before .before .before .before .before .before .before .before .before .before .before .pre .0 .turfs)
+cast-is-planet c = omega (arith, row-below (@pre .1 .0 .0) (@pre .1 .0 .1) _ (@pre .1 .1 .1 .0) _ (@queue-at .ensures), @pre .0 .turfs)
 
 -- src/lib.rt:151:38
 shared-slice-read-is-planet : tie.Need-shared-slice-read-is-planet
-shared-slice-read-is-planet c = rw (c .before .before .before .before .before .before .before .before .before .before .before .before .before .before .before .before .pre .0 .planets) (row-below (c .before .before .before .before .before .before .before .before .before .before .before .before .before .before .before .before .pre .1 .0 .0) (c .before .before .before .before .before .before .before .before .before .before .before .before .before .before .before .before .pre .1 .0 .1) _ (c .before .before .before .before .before .before .before .before .before .before .before .before .before .before .before .before .pre .1 .1 .1 .0) _ (c .before .before .before .before .queue-at .ensures))
+shared-slice-read-is-planet c = rw (@pre .0 .planets) (row-below (@pre .1 .0 .0) (@pre .1 .0 .1) _ (@pre .1 .1 .1 .0) _ (@queue-at .ensures))
 
 -- src/lib.rt:151:9
 is-planet-requires : tie.Need-is-planet-requires
@@ -62,15 +62,15 @@ breaks-requires c κs = search needs
 
 -- src/lib.rt:154:9
 ended-requires-2 : tie.Need-ended-requires-2
-ended-requires-2 c κs = (omega (arith, c .before .before .before .before .before .before .before .before .before .before .before .before .before .before .before .before .before .before .before .before .pre .1 .1 .1 .0, c .before .before .before .before .before .before .before .before .before .before .before .before .before .before .before .before .before .before .before .before .pre .1 .0 .0 .queue, c .before .before .before .before .before .before .before .before .before .before .before .before .before .before .before .before .before .before .before .before .pre .0 .turfs), omega (arith, c .before .before .before .before .before .before .before .before .before .before .before .before .before .before .before .before .before .before .before .before .pre .1 .1 .1 .1 .0, c .before .before .before .before .before .before .before .before .before .before .before .before .before .before .before .before .before .before .before .before .fits .allowance))
+ended-requires-2 c κs = (omega (arith, @pre .1 .1 .1 .0, @pre .1 .0 .0 .queue, @pre .0 .turfs), omega (arith, @pre .1 .1 .1 .1 .0, @fits .allowance))
 
 -- src/lib.rt:154:9
 returns-2 : tie.Need-returns-2
-returns-2 c = pop-broken _ _ _ _ _ _ (c .before .before .before .before .before .before .before .before .before .before .before .before .before .before .before .before .before .before .before .before .before .args .t) (c .before .before .before .before .before .before .before .before .before .before .before .before .before .before .before .before .before .before .before .before .before .pre .1 .0 .0) (c .before .before .before .before .before .before .before .before .before .before .before .before .before .before .before .before .before .before .before .before .before .pre .1 .0 .1) (c .before .before .before .before .before .before .before .before .before .before .before .before .before .before .before .before .before .before .before .before .before .pre .1 .1 .0) (c .before .before .before .before .before .before .before .before .before .before .before .before .before .before .before .before .before .before .before .before .before .pre .1 .1 .1 .0) _ (c .before .before .before .before .before .before .before .before .before .queue-at .ensures) (c .before .before .before .before .before .before .if1 .left) _ (c .before .before .before .before .is-planet .ensures) (sym (c .before .if2 .taken) ∙ c .before .before .breaks .ensures) _ (c .ended2 .ensures)
+returns-2 c = pop-broken _ _ _ _ _ _ (@args .t) (@pre .1 .0 .0) (@pre .1 .0 .1) (@pre .1 .1 .0) (@pre .1 .1 .1 .0) _ (@queue-at .ensures) (@if1 .left) _ (@is-planet .ensures) (sym (@if2 .taken) ∙ @breaks .ensures) _ (@ended2 .ensures)
 
 -- src/lib.rt:156:5
 expand-requires : tie.Need-expand-requires
-expand-requires c κs = (c .before .before .before .before .before .before .before .before .before .before .before .before .before .before .before .before .before .before .before .before .before .before .pre .0, (c .before .before .before .before .before .before .before .before .before .before .before .before .before .before .before .before .before .before .before .before .before .before .pre .1 .0, (row-below (c .before .before .before .before .before .before .before .before .before .before .before .before .before .before .before .before .before .before .before .before .before .before .pre .1 .0 .0) (c .before .before .before .before .before .before .before .before .before .before .before .before .before .before .before .before .before .before .before .before .before .before .pre .1 .0 .1) _ (c .before .before .before .before .before .before .before .before .before .before .before .before .before .before .before .before .before .before .before .before .before .before .pre .1 .1 .1 .0) _ (c .before .before .before .before .before .before .before .before .before .before .queue-at .ensures), (omega (arith, c .before .before .before .before .before .before .before .before .before .before .before .before .before .before .before .before .before .before .before .before .before .before .pre .1 .1 .1 .0, c .before .before .before .before .before .before .before .before .before .before .before .before .before .before .before .before .before .before .before .before .before .before .pre .1 .0 .0 .queue, c .before .before .before .before .before .before .before .before .before .before .before .before .before .before .before .before .before .before .before .before .before .before .pre .0 .turfs), (omega (arith, c .before .before .before .before .before .before .before .before .before .before .before .before .before .before .before .before .before .before .before .before .before .before .pre .1 .1 .1 .1 .0, c .before .before .before .before .before .before .before .before .before .before .before .before .before .before .before .before .before .before .before .before .before .before .fits .allowance), subst (λ (x : ℕ). Free (c .before .before .before .before .before .before .before .before .before .before .before .before .before .before .before .before .before .before .before .before .before .before .args .starts .now) (getD (c .before .before .before .before .before .before .before .before .before .before .before .before .before .before .before .before .before .before .before .before .before .before .args .words .now) (x + c .before .before .before .before .before .before .before .before .before .before .before .before .before .before .before .before .before .before .before .before .before .before .args .t .popped) 0) (c .before .before .before .before .before .before .before .before .before .before .before .before .before .before .before .before .before .before .before .before .before .before .args .words .now)) (sym (c .before .before .before .before .before .before .before .before .before .before .queue-at .ensures)) (c .before .before .before .before .before .before .before .before .before .before .before .before .before .before .before .before .before .before .before .before .before .before .pre .1 .1 .1 .1 .1))))))
+expand-requires c κs = (@pre .0, (@pre .1 .0, (row-below (@pre .1 .0 .0) (@pre .1 .0 .1) _ (@pre .1 .1 .1 .0) _ (@queue-at .ensures), (omega (arith, @pre .1 .1 .1 .0, @pre .1 .0 .0 .queue, @pre .0 .turfs), (omega (arith, @pre .1 .1 .1 .1 .0, @fits .allowance), subst (λ (x : ℕ). Free (@args .starts .now) (getD (@args .words .now) (x + @args .t .popped) 0) (@args .words .now)) (sym (@queue-at .ensures)) (@pre .1 .1 .1 .1 .1))))))
 
 -- src/lib.rt:121:1
 same-length : tie.Need-same-length
@@ -82,7 +82,7 @@ same-length-2 c = search needs
 
 -- src/lib.rt:121:1
 returns-3 : tie.Need-returns-3
-returns-3 c = pop-on _ _ _ _ _ _ (c .before .before .before .before .before .before .before .before .before .before .before .before .before .before .before .before .before .before .before .before .before .before .before .before .before .before .before .args .t) (c .before .before .before .before .before .before .before .before .before .before .before .before .before .before .before .before .before .before .before .before .before .before .before .before .before .before .before .pre .1 .0 .0) (c .before .before .before .before .before .before .before .before .before .before .before .before .before .before .before .before .before .before .before .before .before .before .before .before .before .before .before .pre .1 .0 .1) (c .before .before .before .before .before .before .before .before .before .before .before .before .before .before .before .before .before .before .before .before .before .before .before .before .before .before .before .pre .1 .1 .0) (c .before .before .before .before .before .before .before .before .before .before .before .before .before .before .before .before .before .before .before .before .before .before .before .before .before .before .before .pre .1 .1 .1 .0) _ (c .before .before .before .before .before .before .before .before .before .before .before .before .before .before .before .queue-at .ensures) (c .before .before .before .before .before .before .before .before .before .before .before .before .if1 .left) _ (c .before .before .before .before .before .before .before .before .before .before .is-planet .ensures) (sym (c .before .before .before .before .before .before .before .if2 .left) ∙ c .before .before .before .before .before .before .before .before .breaks .ensures) (c .before .before .before .before .expand .ensures _ _)
+returns-3 c = pop-on _ _ _ _ _ _ (@args .t) (@pre .1 .0 .0) (@pre .1 .0 .1) (@pre .1 .1 .0) (@pre .1 .1 .1 .0) _ (@queue-at .ensures) (@if1 .left) _ (@is-planet .ensures) (sym (@if2 .left) ∙ @breaks .ensures) (@expand .ensures _ _)
 
 pub pop-spec : {M : Type 1} → statement M
 pop-spec =

@@ -56,15 +56,15 @@ places-at-requires c κs = search needs
 
 -- src/lib.rt:185:5
 insert-requires : tie.Need-insert-requires
-insert-requires c κs = start-room (c .before .before .before .before .before .before .args .row) (c .before .before .before .before .before .before .args .used) (c .before .before .before .before .before .before .args .tests) (c .before .before .before .before .before .before .args .kept) (c .before .before .before .before .before .before .args .n) (c .before .before .before .before .before .before .args .e) (c .before .before .before .before .before .before .args .words .now) (c .before .before .before .before .before .before .pre .0) (c .before .before .before .before .before .before .pre .1 .0) (c .before .before .before .before .before .before .pre .1 .1 .0) (c .before .before .before .before .before .before .pre .1 .1 .1) _ _ _ _ (c .before .before .before .before .found-at .ensures) (c .before .before .before .queue-at .ensures) (c .before .before .nodes-at .ensures) (c .before .places-at .ensures) .1
+insert-requires c κs = start-room (@args .row) (@args .used) (@args .tests) (@args .kept) (@args .n) (@args .e) (@args .words .now) (@pre .0) (@pre .1 .0) (@pre .1 .1 .0) (@pre .1 .1 .1) _ _ _ _ (@found-at .ensures) (@queue-at .ensures) (@nodes-at .ensures) (@places-at .ensures) .1
 
 -- src/lib.rt:176:1
 same-length : tie.Need-same-length
-same-length c = c .before .before .insert .kept .1 .1 .1 .1 .0 ∙ simp length-set
+same-length c = @insert .kept .1 .1 .1 .1 .0 ∙ simp length-set
 
 -- src/lib.rt:176:1
 returns : tie.Need-returns
-returns c = (started (c .before .before .before .before .before .before .before .before .before .args .row) (c .before .before .before .before .before .before .before .before .before .args .used) (c .before .before .before .before .before .before .before .before .before .args .tests) (c .before .before .before .before .before .before .before .before .before .args .kept) (c .before .before .before .before .before .before .before .before .before .args .n) (c .before .before .before .before .before .before .before .before .before .args .e) (c .before .before .before .before .before .before .before .before .before .args .words .now) (c .before .before .before .before .before .before .before .before .before .pre .0) (c .before .before .before .before .before .before .before .before .before .pre .1 .0) (c .before .before .before .before .before .before .before .before .before .pre .1 .1 .0) (c .before .before .before .before .before .before .before .before .before .pre .1 .1 .1) _ _ _ _ (c .before .before .before .before .before .before .before .found-at .ensures) (c .before .before .before .before .before .before .queue-at .ensures) (c .before .before .before .before .before .nodes-at .ensures) (c .before .before .before .before .places-at .ensures) _ (c .before .before .insert .ensures), (refl, (refl, (refl, refl))))
+returns c = (started (@args .row) (@args .used) (@args .tests) (@args .kept) (@args .n) (@args .e) (@args .words .now) (@pre .0) (@pre .1 .0) (@pre .1 .1 .0) (@pre .1 .1 .1) _ _ _ _ (@found-at .ensures) (@queue-at .ensures) (@nodes-at .ensures) (@places-at .ensures) _ (@insert .ensures), (refl, (refl, (refl, refl))))
 
 pub start-spec : {M : Type 1} → statement M
 start-spec =
