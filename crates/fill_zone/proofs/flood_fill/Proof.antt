@@ -1,7 +1,7 @@
 -- The loop's invariant: the pops left, from here on, come to all pops from the start. Assumes nothing.
+use Rattle.turfs.specs.Tables.{table, boardOf}
 use Rattle.fill_zone.proofs.Zones.{Popping, going-on, start-asks, popping-start, popping-free, popping-next, popping-end}
 use Rattle.events.proofs.Areas.{wrote-length}
-use Rattle.turfs.specs.Tables.{board}
 use lib.ListN.{length}
 use Prim.Native.Nat.{_-_}
 use mathlib.Core.Path.{_≡_, refl, sym, _∙_}
@@ -16,49 +16,78 @@ use Rattle.fill_zone.proofs.pop.Reads as pop-reads
 use Rattle.fill_zone.proofs.start.Reads as start-reads
 
 abbrev Inv-loop : tie.InvT-loop
-Inv-loop row z used tests kept limit allowance ids flags planetary mixtures starts neighbours link-flags immutable gases gas words₀ area₀ t₀ words area t =
-    Popping (board ids flags planetary mixtures starts neighbours link-flags immutable gases) gas limit allowance z kept t₀ t words₀ words area₀ area
-    × (length words ≡ length words₀)
+Inv-loop settings rows marks gases gas words₀ events₀ slot t₀ words events t =
+    Popping (boardOf rows marks gases) gas (settings .limit) (settings .allowance) (slot .z) (slot .kept) t₀ t words₀ words events₀ events × (length words ≡ length words₀)
 
 abbrev μ-loop : tie.MeasureT-loop
-μ-loop row z used tests kept limit allowance ids flags planetary mixtures starts neighbours link-flags immutable gases gas words₀ area₀ t₀ words area t =
-    length ids - t .popped
+μ-loop settings rows marks gases gas words₀ events₀ slot t₀ words events t = length (table rows 0) - t .popped
 
--- src/lib.rt:228:9
+-- src/lib.rt:202:15
+element-copy-out-ids : tie.Need-element-copy-out-ids Inv-loop μ-loop
+element-copy-out-ids c = search needs
+
+-- src/lib.rt:203:22
+element-copy-out-neighbours : tie.Need-element-copy-out-neighbours Inv-loop μ-loop
+element-copy-out-neighbours c = search needs
+
+-- src/lib.rt:208:9
 start-requires : tie.Need-start-requires Inv-loop μ-loop
-start-requires c κs = start-asks (@pre .0) (@args .gas .now) (@args .limit) (@args .allowance) (@args .z) (@args .kept) (@args .used) (@args .tests) (@args .row) (@pre .1 .0)
+start-requires c κs =
+    let seed = c .before .before .before .before .before .before .args .seed in
+    start-asks (c .before .before .before .before .before .before .pre .0) (c .before .before .before .before .before .before .args .gas .now) (c .before .before .before .before .before .before .args .settings .limit) (c .before .before .before .before .before .before .args .settings .allowance) (seed .z) (seed .kept) (seed .used) (seed .tests) (seed .row) (c .before .before .before .before .before .before .pre .1 .0)
 
--- src/lib.rt:229:5
+-- src/lib.rt:209:5
 loop-holds : tie.Need-loop-holds Inv-loop μ-loop
-loop-holds c = (popping-start (@pre .0) _ _ _ _ _ _ _ _ (@pre .1 .0) (@start .ensures .0) (@start .ensures .1) (@pre .1 .1), refl)
+loop-holds c = (popping-start (c .before .before .before .before .before .before .before .before .before .pre .0) _ _ _ _ _ _ _ _ (c .before .before .before .before .before .before .before .before .before .pre .1 .0) (c .before .before .start .ensures .0) (c .before .before .start .ensures .1) (c .before .before .before .before .before .before .before .before .before .pre .1 .1), refl)
 
--- src/lib.rt:229:11
+-- src/lib.rt:209:11
 goes-on-requires : tie.Need-goes-on-requires Inv-loop μ-loop
 goes-on-requires c κs = search needs
 
--- src/lib.rt:230:9
+-- src/lib.rt:210:9
 pop-requires : tie.Need-pop-requires Inv-loop μ-loop
-pop-requires c κs = (@pre .0, ((@loop .inv .0 .done .fit, @loop .inv .0 .done .bounds), (going-on (@loop .t .state) (@loop .t .popped) (@loop .t .reach .queued) (sym (@goes-on .ensures) ∙ @if1 .taken) .0, (going-on (@loop .t .state) (@loop .t .popped) (@loop .t .reach .queued) (sym (@goes-on .ensures) ∙ @if1 .taken) .1, (@loop .inv .0 .clock (going-on (@loop .t .state) (@loop .t .popped) (@loop .t .reach .queued) (sym (@goes-on .ensures) ∙ @if1 .taken) .0), popping-free (@pre .0) _ _ _ _ _ _ _ _ (@pre .1 .0) (@start .ensures .0) (@start .ensures .1) (@loop .inv .0) (going-on (@loop .t .state) (@loop .t .popped) (@loop .t .reach .queued) (sym (@goes-on .ensures) ∙ @if1 .taken) .1))))))
+pop-requires c κs =
+    let t = c .before .before .before .before .loop .t in
+    let on = going-on (t .state) (t .popped) (t .reach .queued) (sym (c .before .before .before .goes-on .ensures) ∙ c .before .before .if1 .taken) in
+    (
+      c .before .before .before .before .before .before .before .before .before .before .before .before .before .before .pre .0,
+      record {
+        walking = record { fit = c .before .before .before .before .loop .inv .0 .done .fit; bounds = c .before .before .before .before .loop .inv .0 .done .bounds };
+        on = on .0;
+        left = on .1;
+        clock = c .before .before .before .before .loop .inv .0 .clock (on .0);
+        free = popping-free (c .before .before .before .before .before .before .before .before .before .before .before .before .before .before .pre .0) _ _ _ _ _ _ _ _ (c .before .before .before .before .before .before .before .before .before .before .before .before .before .before .pre .1 .0) (c .before .before .before .before .before .before .before .start .ensures .0) (c .before .before .before .before .before .before .before .start .ensures .1) (c .before .before .before .before .loop .inv .0) (on .1);
+      },
+    )
 
--- src/lib.rt:229:5
+-- src/lib.rt:209:5
 loop-less : tie.Need-loop-less Inv-loop μ-loop
-loop-less c = omega (arith, @pop .ensures .1 .0, going-on (@loop .t .state) (@loop .t .popped) (@loop .t .reach .queued) (sym (@goes-on .ensures) ∙ @if1 .taken) .1, @loop .inv .0 .done .fit .queue)
+loop-less c =
+    let t = c .before .before .before .before .before .before .before .before .before .loop .t in
+    let on = going-on (t .state) (t .popped) (t .reach .queued) (sym (c .before .before .before .before .before .before .before .before .goes-on .ensures) ∙ c .before .before .before .before .before .before .before .if1 .taken) in
+    omega (arith, c .before .before .before .before .pop .ensures .1 .popped, on .1, c .before .before .before .before .before .before .before .before .before .loop .inv .0 .done .fit .queue)
 
--- src/lib.rt:229:5
+-- src/lib.rt:209:5
 loop-again : tie.Need-loop-again Inv-loop μ-loop
-loop-again c = (popping-next (@pre .0) _ _ _ _ _ _ _ _ (@pre .1 .0) (@start .ensures .0) (@start .ensures .1) (@loop .inv .0) (going-on (@loop .t .state) (@loop .t .popped) (@loop .t .reach .queued) (sym (@goes-on .ensures) ∙ @if1 .taken) .1) (@pop .ensures .0) (@pop .ensures .1 .0) (@pop .ensures .1 .1), @pop .kept .1 .1 .1 .1 .1 .1 .1 .1 .1 .1 .1 .1 .1 .1 .1 .0 ∙ @loop .inv .1)
+loop-again c =
+    let t = c .before .before .before .before .before .before .before .before .before .loop .t in
+    let on = going-on (t .state) (t .popped) (t .reach .queued) (sym (c .before .before .before .before .before .before .before .before .goes-on .ensures) ∙ c .before .before .before .before .before .before .before .if1 .taken) in
+    (
+      popping-next (c .before .before .before .before .before .before .before .before .before .before .before .before .before .before .before .before .before .before .before .pre .0) _ _ _ _ _ _ _ _ (c .before .before .before .before .before .before .before .before .before .before .before .before .before .before .before .before .before .before .before .pre .1 .0) (c .before .before .before .before .before .before .before .before .before .before .before .before .start .ensures .0) (c .before .before .before .before .before .before .before .before .before .before .before .before .start .ensures .1) (c .before .before .before .before .before .before .before .before .before .loop .inv .0) (on .1) (c .before .before .before .before .pop .ensures .0) (c .before .before .before .before .pop .ensures .1),
+      c .before .before .before .before .pop .kept .1 .1 .1 .1 .1 .1 .1 .0 ∙ c .before .before .before .before .before .before .before .before .before .loop .inv .1,
+    )
 
--- src/lib.rt:203:1
+-- src/lib.rt:185:1
 same-length : tie.Need-same-length Inv-loop μ-loop
-same-length c = @loop .inv .1 ∙ @start .kept .1 .1 .1 .1 .1 .1 .0
+same-length c = c .before .before .loop .inv .1 ∙ c .before .before .before .before .before .start .kept .1 .1 .1 .0
 
--- src/lib.rt:203:1
+-- src/lib.rt:185:1
 same-length-2 : tie.Need-same-length-2 Inv-loop μ-loop
-same-length-2 c = wrote-length (@loop .inv .0 .done .does .wrote)
+same-length-2 c = wrote-length (c .before .before .loop .inv .0 .done .does .wrote)
 
--- src/lib.rt:203:1
+-- src/lib.rt:185:1
 returns : tie.Need-returns Inv-loop μ-loop
-returns c = popping-end (@pre .0) _ _ _ _ _ _ _ _ (@pre .1 .0) (@start .ensures .0) (@start .ensures .1) (@loop .inv .0) (sym (@goes-on .ensures) ∙ @if1 .left)
+returns c = popping-end (c .before .before .before .before .before .before .before .before .before .before .before .before .pre .0) _ _ _ _ _ _ _ _ (c .before .before .before .before .before .before .before .before .before .before .before .before .pre .1 .0) (c .before .before .before .before .before .start .ensures .0) (c .before .before .before .before .before .start .ensures .1) (c .before .before .loop .inv .0) (sym (c .before .goes-on .ensures) ∙ c .if1 .left)
 
 pub flood-fill-spec : {M : Type 1} → statement M
 flood-fill-spec =
@@ -66,6 +95,8 @@ flood-fill-spec =
     (tie.spec
     Inv-loop
     μ-loop
+    element-copy-out-ids
+    element-copy-out-neighbours
     start-requires
     loop-holds
     goes-on-requires

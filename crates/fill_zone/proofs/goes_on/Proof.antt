@@ -19,7 +19,7 @@ enum-told-3 c = search needs
 
 -- src/lib.rt:163:1
 returns : tie.Need-returns
-returns c = rw (@enum-told .given .1)
+returns c = rw (c .before .before .enum-told .given .1)
 
 -- src/lib.rt:163:1
 returns-2 : tie.Need-returns-2

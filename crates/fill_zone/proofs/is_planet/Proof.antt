@@ -11,7 +11,7 @@ returns c = search needs
 
 -- src/lib.rt:43:1
 returns-2 : tie.Need-returns-2
-returns-2 c = rw (@if1 .left)
+returns-2 c = rw (c .if1 .left)
 
 pub is-planet-spec : {M : Type 1} → statement M
 is-planet-spec = tie.close (tie.spec returns returns-2)
