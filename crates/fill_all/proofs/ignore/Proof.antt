@@ -18,53 +18,53 @@ Inv-loop queued n e starts words₀ queue i₀ words i = Backing n e starts queu
 abbrev μ-loop : tie.MeasureT-loop
 μ-loop queued n e starts words₀ queue i₀ words i = queued - i
 
--- src/lib.rt:125:9
+-- src/lib.rt:135:9
 queue-at-requires : tie.Need-queue-at-requires Inv-loop μ-loop
-queue-at-requires c κs = (@pre .0 .0 .links, @pre .0 .0 .turfs)
+queue-at-requires c κs = (c .before .before .pre .0 .sizes .links, c .before .before .pre .0 .sizes .turfs)
 
--- src/lib.rt:127:5
+-- src/lib.rt:137:5
 loop-holds : tie.Need-loop-holds Inv-loop μ-loop
 loop-holds c = backing-start _ _ _ _ _
 
--- src/lib.rt:128:25
+-- src/lib.rt:138:25
 add-give-back : tie.Need-add-give-back Inv-loop μ-loop
-add-give-back c = omega (arith, @queue-at .ensures, @pre .0 .0 .turfs, @pre .0 .0 .links, @loop-test .taken, @pre .0 .1 .1 .0)
+add-give-back c = omega (arith, c .before .before .queue-at .ensures, c .before .before .before .before .before .pre .0 .sizes .turfs, c .before .before .before .before .before .pre .0 .sizes .links, c .loop-test .taken, c .before .before .before .before .before .pre .0 .few)
 
--- src/lib.rt:128:19
+-- src/lib.rt:138:19
 mul-give-back : tie.Need-mul-give-back Inv-loop μ-loop
-mul-give-back c = omega (arith, @queue-at .ensures, @pre .0 .0 .turfs, @pre .0 .0 .links, @loop-test .taken, @pre .0 .1 .1 .0)
+mul-give-back c = omega (arith, c .before .before .queue-at .ensures, c .before .before .before .before .before .pre .0 .sizes .turfs, c .before .before .before .before .before .pre .0 .sizes .links, c .loop-test .taken, c .before .before .before .before .before .pre .0 .few)
 
--- src/lib.rt:128:19
+-- src/lib.rt:138:19
 slice-read-give-back : tie.Need-slice-read-give-back Inv-loop μ-loop
-slice-read-give-back c = omega (arith, @queue-at .ensures, @pre .0 .1 .0, @loop-test .taken, @pre .0 .1 .1 .0, @loop .inv .long)
+slice-read-give-back c = omega (arith, c .before .before .before .queue-at .ensures, c .before .before .before .before .before .before .pre .0 .words, c .before .loop-test .taken, c .before .before .before .before .before .before .pre .0 .few, c .before .before .loop .inv .long)
 
--- src/lib.rt:128:19
+-- src/lib.rt:138:19
 cast-give-back : tie.Need-cast-give-back Inv-loop μ-loop
-cast-give-back c = omega (arith, back-row (@loop .inv) (@pre .0 .1 .0) (@pre .0 .1 .1 .0) (@loop-test .taken) _ (@queue-at .ensures), @pre .0 .1 .1 .1 _ (@loop-test .taken), @pre .0 .0 .turfs)
+cast-give-back c = omega (arith, back-row (c .before .before .loop .inv) (c .before .before .before .before .before .before .pre .0 .words) (c .before .before .before .before .before .before .pre .0 .few) (c .before .loop-test .taken) _ (c .before .before .before .queue-at .ensures), c .before .before .before .before .before .before .pre .0 .rows _ (c .before .loop-test .taken), c .before .before .before .before .before .before .pre .0 .sizes .turfs)
 
--- src/lib.rt:128:9
+-- src/lib.rt:138:9
 give-back-requires : tie.Need-give-back-requires Inv-loop μ-loop
-give-back-requires c κs = back-asks (@args .starts .now) (@loop .words) (@pre .1) (rw (@loop .inv .long) (@pre .0 .1 .0)) _ (subst (λ (x : ℕ). x < @args .n) (sym (back-row (@loop .inv) (@pre .0 .1 .0) (@pre .0 .1 .1 .0) (@loop-test .taken) _ (@queue-at .ensures))) (@pre .0 .1 .1 .1 _ (@loop-test .taken)))
+give-back-requires c κs = back-asks (c .before .before .before .loop .words) (c .before .before .before .before .before .before .before .pre .1) (rw (c .before .before .before .loop .inv .long) (c .before .before .before .before .before .before .before .pre .0 .words)) _ (subst (λ (x : ℕ). x < c .before .before .before .before .before .before .before .args .n) (sym (back-row (c .before .before .before .loop .inv) (c .before .before .before .before .before .before .before .pre .0 .words) (c .before .before .before .before .before .before .before .pre .0 .few) (c .before .before .loop-test .taken) _ (c .before .before .before .before .queue-at .ensures))) (c .before .before .before .before .before .before .before .pre .0 .rows _ (c .before .before .loop-test .taken)))
 
--- src/lib.rt:129:9
+-- src/lib.rt:139:9
 add-i : tie.Need-add-i Inv-loop μ-loop
-add-i c = omega (arith, @loop-test .taken, @pre .0 .1 .1 .0, @pre .0 .0 .turfs)
+add-i c = omega (arith, c .before .before .before .before .before .loop-test .taken, c .before .before .before .before .before .before .before .before .before .before .pre .0 .few, c .before .before .before .before .before .before .before .before .before .before .pre .0 .sizes .turfs)
 
--- src/lib.rt:127:5
+-- src/lib.rt:137:5
 loop-less : tie.Need-loop-less Inv-loop μ-loop
 loop-less c = search needs
 
--- src/lib.rt:127:5
+-- src/lib.rt:137:5
 loop-again : tie.Need-loop-again Inv-loop μ-loop
-loop-again c = backing-next (@loop .inv) (@pre .0 .1 .0) (@pre .0 .1 .1 .0) (@loop-test .taken) _ (@queue-at .ensures) _ (back-row (@loop .inv) (@pre .0 .1 .0) (@pre .0 .1 .1 .0) (@loop-test .taken) _ (@queue-at .ensures)) (@pre .1 .1 .0 _ (subst (λ (x : ℕ). x < @args .n) (sym (back-row (@loop .inv) (@pre .0 .1 .0) (@pre .0 .1 .1 .0) (@loop-test .taken) _ (@queue-at .ensures))) (@pre .0 .1 .1 .1 _ (@loop-test .taken)))) (@pre .1 .1 .1 _ (subst (λ (x : ℕ). x < @args .n) (sym (back-row (@loop .inv) (@pre .0 .1 .0) (@pre .0 .1 .1 .0) (@loop-test .taken) _ (@queue-at .ensures))) (@pre .0 .1 .1 .1 _ (@loop-test .taken)))) (@give-back .ensures)
+loop-again c = backing-next (c .before .before .before .before .before .before .loop .inv) (c .before .before .before .before .before .before .before .before .before .before .pre .0 .words) (c .before .before .before .before .before .before .before .before .before .before .pre .0 .few) (c .before .before .before .before .before .loop-test .taken) _ (c .before .before .before .before .before .before .before .queue-at .ensures) _ (back-row (c .before .before .before .before .before .before .loop .inv) (c .before .before .before .before .before .before .before .before .before .before .pre .0 .words) (c .before .before .before .before .before .before .before .before .before .before .pre .0 .few) (c .before .before .before .before .before .loop-test .taken) _ (c .before .before .before .before .before .before .before .queue-at .ensures)) (c .before .before .before .before .before .before .before .before .before .before .pre .1 .rise _ (subst (λ (x : ℕ). x < c .before .before .before .before .before .before .before .before .before .before .args .n) (sym (back-row (c .before .before .before .before .before .before .loop .inv) (c .before .before .before .before .before .before .before .before .before .before .pre .0 .words) (c .before .before .before .before .before .before .before .before .before .before .pre .0 .few) (c .before .before .before .before .before .loop-test .taken) _ (c .before .before .before .before .before .before .before .queue-at .ensures))) (c .before .before .before .before .before .before .before .before .before .before .pre .0 .rows _ (c .before .before .before .before .before .loop-test .taken)))) (c .before .before .before .before .before .before .before .before .before .before .pre .1 .end _ (subst (λ (x : ℕ). x < c .before .before .before .before .before .before .before .before .before .before .args .n) (sym (back-row (c .before .before .before .before .before .before .loop .inv) (c .before .before .before .before .before .before .before .before .before .before .pre .0 .words) (c .before .before .before .before .before .before .before .before .before .before .pre .0 .few) (c .before .before .before .before .before .loop-test .taken) _ (c .before .before .before .before .before .before .before .queue-at .ensures))) (c .before .before .before .before .before .before .before .before .before .before .pre .0 .rows _ (c .before .before .before .before .before .loop-test .taken)))) (c .before .before .give-back .ensures)
 
--- src/lib.rt:120:1
+-- src/lib.rt:130:1
 same-length : tie.Need-same-length Inv-loop μ-loop
-same-length c = @loop .inv .long
+same-length c = c .before .loop .inv .long
 
--- src/lib.rt:120:1
+-- src/lib.rt:130:1
 returns : tie.Need-returns Inv-loop μ-loop
-returns c = backing-end (@loop .inv) (@loop-test .left)
+returns c = backing-end (c .before .loop .inv) (c .loop-test .left)
 
 pub ignore-spec : {M : Type 1} → statement M
 ignore-spec =

@@ -7,11 +7,11 @@ use Rattle.fill_all.proofs.nearer.Lts as lts
 
 -- src/lib.rt:51:9
 returns : tie.Need-returns
-returns c = near-here _ _ (@pre) (@if1 .taken)
+returns c = near-here _ _ (c .before .pre) (c .if1 .taken)
 
 -- src/lib.rt:45:1
 returns-2 : tie.Need-returns-2
-returns-2 c = near-not _ _ (@pre) (@if1 .left)
+returns-2 c = near-not _ _ (c .before .pre) (c .if1 .left)
 
 pub nearer-spec : {M : Type 1} → statement M
 nearer-spec = tie.close (tie.spec returns returns-2)
