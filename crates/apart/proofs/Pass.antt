@@ -1,22 +1,20 @@
 -- One pass is enough: a mark says who has a mixture, and no second zone gets past it. Assumes nothing.
 use mathlib.Core.Path.{_≡_, refl, sym, ap, _∙_, subst}
 use mathlib.Core.Logic.{_≢_, _⊎_, inl, inr}
-use mathlib.Core.List.{List, [], _∷_, _++_, map}
+use mathlib.Core.List.{List, [], _∷_, map}
 use mathlib.Core.Bool.{Bool, true, false, not, _||_}
 use Prim.Native.Nat.{ℕ, zero, suc, _+_, _-_, _≤_, _<_}
 use native.Mathlib.Omega.{arith}
 use native.Mathlib.Numerals.{add-one}
 use native.Mathlib.Decide.{ℕ-discrete}
 use lib.Dec.{T, eqb, ltb, eqb·suc-zero, eqb→eq, eqb-refl, lt→ltb, ltb→lt}
-use lib.ListN.{length, getD, set, take, drop, replicate}
+use lib.ListN.{length, getD, set, take}
 use lib.Seq.{take-suc, take-length, getD-set-same, getD-set-other}
 use lib.Ieee.Bits.{is-true}
 use Rattle.basics.specs.Loops.{member, snoc, keep, consIf, every, upFrom}
-use Rattle.basics.specs.Lists.{All}
 use Rattle.basics.proofs.Loops.{All-imp, All-getD}
-use Rattle.basics.proofs.Lists.{map-append, member-front, member-last, member-map, members, or-cases, all-every, upFrom-below, upFrom-length}
+use Rattle.basics.proofs.Lists.{map-append, member-front, member-last, member-map, members, or-cases, all-every, upFrom-below}
 use Rattle.basics.proofs.Tests.{differ, every-up-at}
-use Rattle.basics.proofs.Parts.{cleared-length, cleared-far, cleared-at}
 use Rattle.board_rules.specs.Board.{Board, turfCount, linkCount, mixtureCount, mixOf, immutableMix}
 use Rattle.turfs.specs.Tables.{Slices, boardOf}
 use Rattle.reverse_links.specs.Words.{But}

@@ -1,7 +1,10 @@
 // Whether the kept zones are apart: one pass over their nodes, which marks each changeable mixture with the zone that has it.
+use turfs::IDS;
+use turfs::IMMUTABLE;
+use turfs::MIXTURES;
 use turfs::Marks;
+use turfs::NEIGHBOURS;
 use turfs::Rows;
-use turfs::{IDS, IMMUTABLE, MIXTURES, NEIGHBOURS};
 ghost use mathlib.Core.Path.{_≡_};
 ghost use mathlib.Core.List.{List};
 ghost use Prim.Native.Nat.{ℕ, _+_, _≤_, _<_};

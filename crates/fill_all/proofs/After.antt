@@ -19,7 +19,7 @@ use Rattle.board_rules.specs.Board.{Board, turfCount, linkCount}
 use Rattle.turfs.specs.Tables.{Accepted}
 use Rattle.event_rules.specs.declared.Event.{Event}
 use Rattle.fill_rules.specs.Fill.{Fill, isOver, fill}
-use Rattle.flood_fill.specs.Held.{sizes, startsAt, nodesAt, Sizes, zeros}
+use Rattle.flood_fill.specs.Held.{sizes, startsAt, zeros}
 use Rattle.flood_fill.specs.Held as link
 use Rattle.flood_fill.proofs.Does.{does-plain}
 use Rattle.flood_fill.proofs.Bounds.{zeros-some}

@@ -7,7 +7,7 @@ use mathlib.Core.List.{List, [], _∷_, map}
 use mathlib.Core.Bool.{Bool, true, false, not}
 use lib.Dec.{eqb}
 use lib.Ieee.{Float}
-use lib.ListN.{length, getD, set, take, drop, take-append-drop, length-replicate, length-map}
+use lib.ListN.{length, getD, take, drop, take-append-drop, length-replicate, length-map}
 use lib.Seq.{take-suc, take-all, getD-set-same}
 use Rattle.basics.specs.Loops.{run, upFrom}
 use Rattle.basics.specs.Regions.{cut, region}

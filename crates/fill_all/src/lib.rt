@@ -4,11 +4,15 @@ use fill_rules::Going;
 use fill_rules::Settings;
 use fill_zone::Flood;
 use fill_zone::Seed;
+use turfs::FLAGS;
+use turfs::IDS;
 use turfs::Links;
+use turfs::MIXTURES;
 use turfs::Marks;
+use turfs::NEIGHBOURS;
 use turfs::Rows;
+use turfs::STARTS;
 use turfs::SimulationFlags;
-use turfs::{FLAGS, IDS, MIXTURES, NEIGHBOURS, STARTS};
 ghost use mathlib.Core.Path.{_≡_};
 ghost use mathlib.Core.Bool.{true, _||_};
 ghost use mathlib.Core.List.{List};
@@ -280,7 +284,16 @@ fn hot_id(
         return s;
     };
     hot_row(
-        row, s, settings, rows, marks, gases, gas, words, floats, events,
+        row,
+        s,
+        settings,
+        rows,
+        marks,
+        gases,
+        gas,
+        words,
+        floats,
+        events,
     )
 }
 
@@ -333,7 +346,16 @@ fn fill_hot(
             return s;
         }
         s = hot_id(
-            hot[i], s, settings, rows, marks, gases, gas, words, floats, events,
+            hot[i],
+            s,
+            settings,
+            rows,
+            marks,
+            gases,
+            gas,
+            words,
+            floats,
+            events,
         );
         i += 1;
     }
@@ -363,6 +385,15 @@ pub fn fill_all(
     let neighbours = rows[NEIGHBOURS];
     let s = begin(ids.len(), neighbours.len(), words);
     fill_hot(
-        hot, s, settings, rows, marks, gases, gas, words, floats, events,
+        hot,
+        s,
+        settings,
+        rows,
+        marks,
+        gases,
+        gas,
+        words,
+        floats,
+        events,
     )
 }

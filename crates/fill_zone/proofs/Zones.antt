@@ -30,9 +30,8 @@ use Rattle.flood_fill.proofs.Links.{queue-length, owner-view}
 use Rattle.flood_fill.specs.Start.{startFill}
 use Rattle.flood_fill.proofs.Owned.{Fresh, pops-fresh}
 use Rattle.flood_fill.proofs.Rest.{going, still}
-use Rattle.fill_zone.specs.Held.{FillView, fillIn, fillView, onFill, none, fillFrom, Floods, Moved, Starts, AtStart, Begins, StartFits, PopFits, Ready}
-use Rattle.flood_fill.specs.Asked.{Free, Walking}
-use Rattle.flood_fill.specs.declared.Slot.{Slot}
+use Rattle.fill_zone.specs.Held.{FillView, fillIn, fillView, onFill, none, fillFrom, Floods, Moved, Starts, AtStart, Begins, StartFits, Ready}
+use Rattle.flood_fill.specs.Asked.{Free}
 use Rattle.fill_zone.specs.declared.Flood.{Flood}
 use Rattle.fill_zone.proofs.Boards.{sizes-of, parts, source-is}
 use Rattle.fill_zone.proofs.Pops.{row-at, row-below}

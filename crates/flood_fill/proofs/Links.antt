@@ -1,16 +1,15 @@
 -- One link of a turf, then its links one after the other. A link that the turf has not taken yet has no owner. Assumes nothing.
-use Prim.Native.Nat.{ℕ, _+_, _-_, _*_, _≤_, _<_}
+use Prim.Native.Nat.{ℕ, _+_, _-_, _≤_, _<_}
 use native.Mathlib.Omega.{arith}
-use mathlib.Core.Path.{_≡_, refl, ap, ap₂, _∙_, sym, subst}
-use mathlib.Core.Logic.{_≢_}
+use mathlib.Core.Path.{_≡_, refl, ap, _∙_, sym, subst}
 use mathlib.Core.List.{List, [], _∷_, _++_, append-nil, append-assoc}
 use mathlib.Core.Bool.{Bool, true, false, not, _&&_, _||_, cond}
 use lib.Dec.{eqb}
-use lib.ListN.{length, getD, set, take, drop, length-drop}
+use lib.ListN.{length, getD, set, drop, length-drop}
 use lib.Seq.{length-take-le}
 use borrow.Author.Tests.{eq-eqb, ne-eqb}
 use Rattle.basics.specs.Loops.{run, upFrom, snoc}
-use Rattle.basics.specs.Regions.{cut, region}
+use Rattle.basics.specs.Regions.{region}
 use Rattle.basics.specs.Lists.{one}
 use Rattle.basics.proofs.Loops.{run-suc, run-up-end, run-same}
 use Rattle.board_rules.specs.Board.{Board, turfCount, linkCount, idOf, end, enabled, planetary, immutable, firelock, linksOf}
@@ -20,7 +19,7 @@ use Rattle.event_rules.specs.declared.Event.the-variants.{DepressurizeWanted, P
 use Rattle.events.proofs.Areas.{wrote-length}
 use Rattle.fill_rules.specs.Fill.{Reach, insert, reachLink}
 use Rattle.flood_fill.specs.Steps.{metAt, edgeTo, mark, push, askSpace, askPlanet, discover, reachMet}
-use Rattle.flood_fill.specs.Held.{sizes, nodesAt, foundAt, View, view, onReach, zeros, Fit, Bounds, Bounded, Does, Moves, Discovers, Reaches}
+use Rattle.flood_fill.specs.Held.{sizes, foundAt, View, view, onReach, Fit, Bounded, Does, Moves, Discovers, Reaches}
 use Rattle.flood_fill.specs.Asked.{Linked, Walking, EdgeFits, PushFits, LinkFits}
 use Rattle.flood_fill.specs.declared.Reached.{Reached}
 use Rattle.flood_fill.specs.declared.Slot.{Slot}

@@ -1,10 +1,17 @@
 // `flood_fill_zones`: one zone, from one turf. Its definition stands in crate fill_rules; specs/Held.antt says how the work area holds it.
 use event_rules::Event;
 use turfs::AdjacentFlags;
+use turfs::FLAGS;
+use turfs::IDS;
+use turfs::IMMUTABLE;
+use turfs::LINK_FLAGS;
+use turfs::MIXTURES;
 use turfs::Marks;
+use turfs::NEIGHBOURS;
+use turfs::PLANETARY;
 use turfs::Rows;
+use turfs::STARTS;
 use turfs::SimulationFlags;
-use turfs::{FLAGS, IDS, IMMUTABLE, LINK_FLAGS, MIXTURES, NEIGHBOURS, PLANETARY, STARTS};
 ghost use mathlib.Core.Path.{_≡_};
 ghost use mathlib.Core.Bool.{not, _&&_};
 ghost use Prim.Native.Nat.{ℕ, _+_, _≤_, _<_};

@@ -12,9 +12,6 @@ use Prim.Native.Nat.{_-_}
 use borrow.Author.Needs.{needs}
 use Rattle.fill_all.proofs.fill_hot.Statement.{statement}
 use Rattle.fill_all.proofs.fill_hot.Tie as tie
-use Rattle.fill_all.proofs.fill_hot.Reads as reads
-use Rattle.fill_all.proofs.fill_hot.Lts as lts
-use Rattle.fill_all.proofs.hot_id.Reads as hot-id-reads
 
 abbrev Inv-loop : tie.InvT-loop
 Inv-loop hot settings rows marks gases gas words₀ floats₀ events₀ s₀ i₀ words floats events s i =
@@ -26,80 +23,74 @@ Inv-loop hot settings rows marks gases gas words₀ floats₀ events₀ s₀ i�
 abbrev μ-loop : tie.MeasureT-loop
 μ-loop hot settings rows marks gases gas words₀ floats₀ events₀ s₀ i₀ words floats events s i = length hot - i
 
--- src/lib.rt:331:5
 loop-holds : tie.Need-loop-holds Inv-loop μ-loop
-loop-holds c = (loop-start (c .before .before .before .before .before .pre .0) _ _ _ _ _ (c .before .before .before .before .before .pre .1 .1 .0) (c .before .before .before .before .before .pre .1 .1 .1), (refl, refl))
+loop-holds c =
+    let entry = c .before .before .before .before .before in
+    (loop-start (entry .pre .0) _ _ _ _ _ (entry .pre .1 .1 .0) (entry .pre .1 .1 .1), (refl, refl))
 
--- src/lib.rt:333:13
 same-length : tie.Need-same-length Inv-loop μ-loop
 same-length c = c .before .before .loop .inv .1 .0
 
--- src/lib.rt:333:13
 same-length-2 : tie.Need-same-length-2 Inv-loop μ-loop
 same-length-2 c = c .before .before .loop .inv .1 .1
 
--- src/lib.rt:333:13
 same-length-3 : tie.Need-same-length-3 Inv-loop μ-loop
 same-length-3 c = wrote-length (c .before .before .loop .inv .0 .does .wrote)
 
--- src/lib.rt:333:13
 returns : tie.Need-returns Inv-loop μ-loop
-returns c = loop-over (c .before .before .before .before .before .before .before .before .pre .0) _ _ _ _ _ (c .before .before .before .before .before .before .before .before .pre .1 .1 .0) (c .before .before .before .before .before .before .before .before .pre .1 .1 .1) (c .before .before .loop .i) (c .before .before .loop .inv .0) (c .if1 .taken)
+returns c =
+    let entry = c .before .before .before .before .before .before .before .before in
+    loop-over (entry .pre .0) _ _ _ _ _ (entry .pre .1 .1 .0) (entry .pre .1 .1 .1) (c .before .before .loop .i) (c .before .before .loop .inv .0) (c .if1 .taken)
 
--- src/lib.rt:336:13
 mul-hot-id : tie.Need-mul-hot-id Inv-loop μ-loop
 mul-hot-id c = search needs
 
--- src/lib.rt:336:13
 shared-slice-read-hot-id : tie.Need-shared-slice-read-hot-id Inv-loop μ-loop
 shared-slice-read-hot-id c = search needs
 
--- src/lib.rt:335:9
 hot-id-requires : tie.Need-hot-id-requires Inv-loop μ-loop
 hot-id-requires c κs =
-    (
-      c .before .before .before .before .before .before .before .before .before .before .before .before .pre .0,
+    let entry = c .before .before .before .before .before .before .before .before .before .before .before .before in
+    let head = c .before .before .before .before .before .before .loop in (
+      entry .pre .0,
       (
-        c .before .before .before .before .before .before .before .before .before .before .before .before .pre .1 .0,
+        entry .pre .1 .0,
         record {
-          stored = c .before .before .before .before .before .before .loop .inv .0 .stored;
-          room = loop-open (c .before .before .before .before .before .before .before .before .before .before .before .before .pre .0) _ _ _ _ _ (c .before .before .before .before .before .before .before .before .before .before .before .before .pre .1 .1 .0) (c .before .before .before .before .before .before .before .before .before .before .before .before .pre .1 .1 .1) (c .before .before .before .before .before .before .loop .i) (c .before .before .before .before .before .before .loop .inv .0) (c .before .before .before .before .if1 .left);
+          stored = head .inv .0 .stored;
+          room = loop-open (entry .pre .0) _ _ _ _ _ (entry .pre .1 .1 .0) (entry .pre .1 .1 .1) (head .i) (head .inv .0) (c .before .before .before .before .if1 .left);
           going = c .before .before .before .before .if1 .left;
         },
       ),
     )
 
--- src/lib.rt:338:9
 add-i : tie.Need-add-i Inv-loop μ-loop
 add-i c = omega (arith, c .before .before .before .before .before .before .before .before .before .before .before .before .loop-test .taken, c .before .before .before .before .before .before .before .before .before .before .before .before .before .before .before .before .before .before .before .good)
 
--- src/lib.rt:331:5
 loop-less : tie.Need-loop-less Inv-loop μ-loop
 loop-less c = search needs
 
--- src/lib.rt:331:5
 loop-again : tie.Need-loop-again Inv-loop μ-loop
 loop-again c =
-    (
-      loop-next (c .before .before .before .before .before .before .before .before .before .before .before .before .before .before .before .before .before .before .before .pre .0) _ _ _ _ _ (c .before .before .before .before .before .before .before .before .before .before .before .before .before .before .before .before .before .before .before .pre .1 .1 .0) (c .before .before .before .before .before .before .before .before .before .before .before .before .before .before .before .before .before .before .before .pre .1 .1 .1) (c .before .before .before .before .before .before .before .before .before .before .before .before .before .loop .i) (c .before .before .before .before .before .before .before .before .before .before .before .before .before .loop .inv .0) (c .before .before .before .before .before .before .before .before .before .before .before .before .loop-test .taken) (c .before .before .before .before .before .before .hot-id .ensures (c .before .before .before .before .before .before .before .before .before .before .before .before .before .before .before .before .before .before .before .args .hot .now)),
-      (c .before .before .before .before .before .before .hot-id .kept .1 .1 .1 .1 .1 .1 .1 .0 ∙ c .before .before .before .before .before .before .before .before .before .before .before .before .before .loop .inv .1 .0, c .before .before .before .before .before .before .hot-id .kept .1 .1 .1 .1 .1 .1 .1 .1 .0 ∙ c .before .before .before .before .before .before .before .before .before .before .before .before .before .loop .inv .1 .1),
+    let entry = c .before .before .before .before .before .before .before .before .before .before .before .before .before .before .before .before .before .before .before in
+    let head = c .before .before .before .before .before .before .before .before .before .before .before .before .before .loop in
+    let by-hot-id = c .before .before .before .before .before .before .hot-id in (
+      loop-next (entry .pre .0) _ _ _ _ _ (entry .pre .1 .1 .0) (entry .pre .1 .1 .1) (head .i) (head .inv .0) (c .before .before .before .before .before .before .before .before .before .before .before .before .loop-test .taken) (by-hot-id .ensures (entry .args .hot .now)),
+      (by-hot-id .kept .1 .1 .1 .1 .1 .1 .1 .0 ∙ head .inv .1 .0, by-hot-id .kept .1 .1 .1 .1 .1 .1 .1 .1 .0 ∙ head .inv .1 .1),
     )
 
--- src/lib.rt:309:1
 same-length-4 : tie.Need-same-length-4 Inv-loop μ-loop
 same-length-4 c = c .before .loop .inv .1 .0
 
--- src/lib.rt:309:1
 same-length-5 : tie.Need-same-length-5 Inv-loop μ-loop
 same-length-5 c = c .before .loop .inv .1 .1
 
--- src/lib.rt:309:1
 same-length-6 : tie.Need-same-length-6 Inv-loop μ-loop
 same-length-6 c = wrote-length (c .before .loop .inv .0 .does .wrote)
 
--- src/lib.rt:309:1
 returns-2 : tie.Need-returns-2 Inv-loop μ-loop
-returns-2 c = loop-end (c .before .before .before .before .before .before .before .pre .0) _ _ _ _ _ (c .before .before .before .before .before .before .before .pre .1 .1 .0) (c .before .before .before .before .before .before .before .pre .1 .1 .1) (c .before .loop .i) (c .before .loop .inv .0) (c .loop-test .left)
+returns-2 c =
+    let entry = c .before .before .before .before .before .before .before in
+    loop-end (entry .pre .0) _ _ _ _ _ (entry .pre .1 .1 .0) (entry .pre .1 .1 .1) (c .before .loop .i) (c .before .loop .inv .0) (c .loop-test .left)
 
 pub fill-hot-spec : {M : Type 1} → statement M
 fill-hot-spec =
