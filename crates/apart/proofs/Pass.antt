@@ -1,28 +1,29 @@
 -- One pass is enough: a mark says who has a mixture, and no second zone gets past it. Assumes nothing.
 use mathlib.Core.Path.{_≡_, refl, sym, ap, _∙_, subst}
 use mathlib.Core.Logic.{_≢_, _⊎_, inl, inr}
-use mathlib.Core.List.{List, [], _∷_, _++_, map}
+use mathlib.Core.List.{List, [], _∷_, map}
 use mathlib.Core.Bool.{Bool, true, false, not, _||_}
 use Prim.Native.Nat.{ℕ, zero, suc, _+_, _-_, _≤_, _<_}
 use native.Mathlib.Omega.{arith}
 use native.Mathlib.Numerals.{add-one}
 use native.Mathlib.Decide.{ℕ-discrete}
 use lib.Dec.{T, eqb, ltb, eqb·suc-zero, eqb→eq, eqb-refl, lt→ltb, ltb→lt}
-use lib.ListN.{length, getD, set, take, drop, replicate}
+use lib.ListN.{length, getD, set, take}
 use lib.Seq.{take-suc, take-length, getD-set-same, getD-set-other}
 use lib.Ieee.Bits.{is-true}
 use Rattle.basics.specs.Loops.{member, snoc, keep, consIf, every, upFrom}
-use Rattle.basics.specs.Lists.{All}
 use Rattle.basics.proofs.Loops.{All-imp, All-getD}
-use Rattle.basics.proofs.Lists.{map-append, member-front, member-last, member-map, members, or-cases, all-every, upFrom-below, upFrom-length}
+use Rattle.basics.proofs.Lists.{map-append, member-front, member-last, member-map, members, or-cases, all-every, upFrom-below}
 use Rattle.basics.proofs.Tests.{differ, every-up-at}
-use Rattle.basics.proofs.Parts.{cleared-length, cleared-far, cleared-at}
-use Rattle.board_rules.specs.Board.{Board, mixtureCount, mixOf, immutableMix}
+use Rattle.board_rules.specs.Board.{Board, turfCount, linkCount, mixtureCount, mixOf, immutableMix}
+use Rattle.turfs.specs.Tables.{Slices, boardOf}
 use Rattle.reverse_links.specs.Words.{But}
 use Rattle.reverse_links.proofs.Places.{but-set, but-then}
 use Rattle.finalize_eq.specs.Turns.{Zone, zoneAt, nodesAt}
 use Rattle.equalize.specs.Equalize.{hasMix, apart}
-use Rattle.apart.specs.Marks.{Marked, Laid, Stands, hasFirst, Met, Marks, Shared, Passed, Tells}
+use Rattle.flood_fill.specs.Held.{startsAt}
+use Rattle.flood_fill.specs.Held as words
+use Rattle.apart.specs.Marks.{marksAt, PassFits, ApartFits, Marked, Laid, Stands, hasFirst, Met, Marks, Shared, Passed, Tells}
 
 not-so : (t : Bool) → (T t → ⊥) → t ≡ false
 not-so true n = absurd (n tt)
@@ -384,3 +385,34 @@ module _ {n zones first base at hi : ℕ} {w₀ w : List ℕ} (h : Laid n zones 
 
   pub tells-after : {b : Board} {r : Bool} {w′ : List ℕ} → hi ≡ at + mixtureCount b → Tells b zones first base at r w w′ → Tells b zones first base at r w₀ w′
   tells-after {b} q t = record { words = but-then (omega arith) (omega arith) (subst (λ (x : ℕ). But at x w₀ w) q k) (t .words); answer = λ zs e s. t .answer zs e (stands-kept zs e s) }
+
+-- the number of gases is read nowhere
+pub tells-gases : (rows marks : Slices) (gases : ℕ) {zones first base at : ℕ} {r : Bool} {w w′ : List ℕ} → Tells (boardOf rows marks 0) zones first base at r w w′
+    → Tells (boardOf rows marks gases) zones first base at r w w′
+unfolding apart hasMix
+tells-gases rows marks gases t = record { words = t .words; answer = t .answer }
+
+-- ---- the whole pass
+
+module _ {b : Board} {zones : ℕ} {w : List ℕ} (fits : ApartFits b zones w) (first nodes : ℕ) (ef : first ≡ startsAt (turfCount b) (linkCount b)) (en : nodes ≡ words.nodesAt (turfCount b) (linkCount b)) where
+  abbrev at : ℕ
+  at = nodes + turfCount b + linkCount b
+
+  pub marks-room : at + mixtureCount b ≤ length w
+  marks-room = omega (arith, fits .pass .room)
+
+  laid-at : Laid (turfCount b) zones first nodes at w
+  laid-at = rw (ef, en) (fits .laid)
+
+  module _ {w₁ : List ℕ} (k : But at (at + mixtureCount b) w w₁) where
+    pub pass-asks : PassFits b at w₁ × Laid (turfCount b) zones first nodes at w₁
+    pass-asks = (
+      record { turfs = fits .pass .turfs; few = fits .pass .few; room = omega (arith, marks-room, k .len); mixtures = fits .pass .mixtures; mixed = fits .pass .mixed },
+      laid-kept laid-at k,
+    )
+
+    pub pass-tells : {r : Bool} {w′ : List ℕ} → Tells b zones first nodes at r w₁ w′
+        → let n = turfCount b in let e = linkCount b in Tells b zones (startsAt n e) (words.nodesAt n e) (marksAt n e) r w w′
+    pass-tells {r} {w′} t =
+        subst (λ (x : ℕ). Tells b zones (startsAt (turfCount b) (linkCount b)) x (x + turfCount b + linkCount b) r w w′) en
+        (subst (λ (x : ℕ). Tells b zones x nodes at r w w′) ef (tells-after laid-at k refl t))

@@ -1,34 +1,22 @@
 -- How the words hold the zones and the mixtures' marks, and what a function promises of them.
 use mathlib.Core.Path.{_≡_}
 use mathlib.Core.Logic.{_≢_, _⊎_}
-use mathlib.Core.List.{List, [], map}
-use mathlib.Core.Bool.{Bool, true, false, not}
+use mathlib.Core.List.{List, map}
+use mathlib.Core.Bool.{Bool, true, false}
 use Prim.Native.Nat.{ℕ, _+_, _≤_, _<_}
 use lib.Dec.{T, eqb}
 use lib.ListN.{length, getD, set, take}
 use Rattle.basics.specs.Loops.{member}
-use Rattle.board_rules.specs.Board.{Board, mixtureCount, mixOf, immutableMix}
+use Rattle.board_rules.specs.Board.{Board, turfCount, linkCount, mixtureCount, mixOf, immutableMix}
 use Rattle.reverse_links.specs.Words.{But}
+use Rattle.flood_fill.specs.Held.{startsAt, Sizes}
+use Rattle.flood_fill.specs.Held as words
 use Rattle.finalize_eq.specs.Turns.{Zone, nodesAt}
 use Rattle.equalize.specs.Equalize.{apart}
 
--- the tables that are looked at
-abbrev pub mixed : List ℕ → List ℕ → Board
-mixed mixtures immutable = record {
-  ids = [];
-  flags = [];
-  planetary = [];
-  mixtures = mixtures;
-  starts = [];
-  neighbours = [];
-  linkFlags = [];
-  immutable = immutable;
-  gases = 0;
-}
-
--- the mixture m is immutable
-abbrev pub changeless : List ℕ → ℕ → Bool
-changeless immutable m = not (eqb (getD immutable m 0) 0)
+-- where the mixtures' marks start: after the nodes of all zones
+abbrev pub marksAt : ℕ → ℕ → ℕ
+marksAt n e = words.nodesAt n e + n + e
 
 -- one node of the zone, whose mixture's mark stands at p: a changeable one without mark gets the zone's; r: no other zone has it
 pub record Marked (changeless : Bool) (p zone : ℕ) (r : Bool) (w w′ : List ℕ) : Type 0 where
@@ -44,6 +32,20 @@ pub record Laid (n zones first base at : ℕ) (w : List ℕ) : Type 0 where
   pub rise : (z : ℕ) → z < zones → getD w (first + z) 0 ≤ getD w (first + z + 1) 0
   pub end : (z : ℕ) → z < zones → base + getD w (first + z + 1) 0 ≤ at
   pub rows : (z j : ℕ) → z < zones → base + getD w (first + z) 0 ≤ j → j < base + getD w (first + z + 1) 0 → getD w j 0 < n
+
+-- what a pass over nodes is asked: a mark for each mixture from `at` on, and each turf's mixture
+pub record PassFits (b : Board) (at : ℕ) (w : List ℕ) : Type 0 where
+  pub turfs : turfCount b ≤ 4096
+  pub few : mixtureCount b ≤ 4096
+  pub room : at + mixtureCount b ≤ length w
+  pub mixtures : length (b .mixtures) ≡ turfCount b
+  pub mixed : (r : ℕ) → r < turfCount b → mixOf b r < mixtureCount b
+
+-- what the pass over all zones is asked
+pub record ApartFits (b : Board) (zones : ℕ) (w : List ℕ) : Type 0 where
+  pub sizes : Sizes (turfCount b) (linkCount b)
+  pub pass : PassFits b (marksAt (turfCount b) (linkCount b)) w
+  pub laid : Laid (turfCount b) zones (startsAt (turfCount b) (linkCount b)) (words.nodesAt (turfCount b) (linkCount b)) (marksAt (turfCount b) (linkCount b)) w
 
 -- they are the nodes of these zones
 pub record Stands (first base : ℕ) (zs : List Zone) (w : List ℕ) : Type 0 where

@@ -1,24 +1,38 @@
 // Whether the kept zones are apart: one pass over their nodes, which marks each changeable mixture with the zone that has it.
+use turfs::IDS;
+use turfs::IMMUTABLE;
+use turfs::MIXTURES;
+use turfs::Marks;
+use turfs::NEIGHBOURS;
+use turfs::Rows;
 ghost use mathlib.Core.Path.{_≡_};
 ghost use mathlib.Core.List.{List};
 ghost use Prim.Native.Nat.{ℕ, _+_, _≤_, _<_};
-ghost use lib.ListN.{length, getD};
+ghost use lib.ListN.{getD};
+ghost use Rattle.board_rules.specs.Board.{turfCount, linkCount, mixtureCount, mixOf, immutableMix};
+ghost use Rattle.turfs.specs.Tables.{boardAt};
 ghost use Rattle.reverse_links.specs.Words.{But};
+ghost use Rattle.flood_fill.specs.Held.{startsAt, nodesAt};
 ghost use Rattle.finalize_eq.specs.Turns.{Zone};
-ghost use Rattle.apart.specs.Marks.{changeless, Marked, Laid, Passed, Tells, mixed};
+ghost use Rattle.apart.specs.Marks.{marksAt, Marked, Laid, PassFits, ApartFits, Passed, Tells};
 
 // A node of the zone: its mixture is marked with it, unless it is immutable or marked already. False: another zone has it.
 fn node_apart(
     row: usize,
     zone: u32,
     at: usize,
-    mixtures: &[u32],
-    immutable: &[u8],
+    rows: &Rows,
+    marks: &Marks,
     words: &mut [u32],
 ) -> bool
-    requires { ⌜ (row < length (now mixtures)) × ((getD (now mixtures) row 0 < length (now immutable)) × ((at + length (now immutable) ≤ length (now words)) × ((zone < 4096) × (length (now immutable) ≤ 4096)))) ⌝ }
-    ensures { λ r. ⌜ Marked (changeless (now (immutable .entry)) (getD (now (mixtures .entry)) row 0)) (at + getD (now (mixtures .entry)) row 0) zone r (now (words .entry)) (now (words .exit)) ⌝ }
+    requires { ⌜ PassFits (boardAt rows marks 0) at (now words) ⌝ }
+    requires { ⌜ row < turfCount (boardAt rows marks 0) ⌝ }
+    requires { ⌜ zone < 4096 ⌝ }
+    ensures { λ r. let b = boardAt (rows .entry) (marks .entry) 0 in
+        ⌜ Marked (immutableMix b (mixOf b row)) (at + mixOf b row) zone r (now (words .entry)) (now (words .exit)) ⌝ }
 {
+    let mixtures = rows[MIXTURES];
+    let immutable = marks[IMMUTABLE];
     let mix = mixtures[row] as usize;
     if immutable[mix] != 0 {
         return true;
@@ -37,17 +51,20 @@ fn zone_apart(
     from: usize,
     to: usize,
     at: usize,
-    mixtures: &[u32],
-    immutable: &[u8],
+    rows: &Rows,
+    marks: &Marks,
     words: &mut [u32],
 ) -> bool
-    requires { ⌜ (to ≤ at) × ((at + length (now immutable) ≤ length (now words)) × ((zone < 4096) × (length (now immutable) ≤ 4096))) ⌝ }
-    requires { ⌜ ((j : ℕ) → from ≤ j → j < to → getD (now words) j 0 < length (now mixtures)) × ((r : ℕ) → r < length (now mixtures) → getD (now mixtures) r 0 < length (now immutable)) ⌝ }
-    ensures { λ r. ⌜ But at (at + length (now (immutable .entry))) (now (words .entry)) (now (words .exit)) × ((zs : List Zone) → Passed (mixed (now (mixtures .entry)) (now (immutable .entry))) zs zone from to at r (now (words .entry)) (now (words .exit))) ⌝ }
+    requires { ⌜ PassFits (boardAt rows marks 0) at (now words) ⌝ }
+    requires { ⌜ to ≤ at ⌝ }
+    requires { ⌜ zone < 4096 ⌝ }
+    requires { ⌜ ((j : ℕ) → from ≤ j → j < to → getD (now words) j 0 < turfCount (boardAt rows marks 0)) ⌝ }
+    ensures { λ r. ⌜ But at (at + mixtureCount (boardAt (rows .entry) (marks .entry) 0)) (now (words .entry)) (now (words .exit)) ⌝ }
+    ensures { λ r. ⌜ ((zs : List Zone) → Passed (boardAt (rows .entry) (marks .entry) 0) zs zone from to at r (now (words .entry)) (now (words .exit))) ⌝ }
 {
     let mut i = from;
     while i < to {
-        if !node_apart(words[i] as usize, zone, at, mixtures, immutable, words) {
+        if !node_apart(words[i] as usize, zone, at, rows, marks, words) {
             return false;
         }
         i += 1;
@@ -55,25 +72,26 @@ fn zone_apart(
     true
 }
 
-// Zone after zone, from no marks.
+// Zone after zone, from no marks: the zones' nodes start where the words from `first` on say, and stand from `nodes` on.
 fn zones_apart(
     zones: usize,
     first: usize,
     nodes: usize,
     at: usize,
-    mixtures: &[u32],
-    immutable: &[u8],
+    rows: &Rows,
+    marks: &Marks,
     words: &mut [u32],
 ) -> bool
-    requires { ⌜ Laid (length (now mixtures)) zones first nodes at (now words) × ((at + length (now immutable) ≤ length (now words)) × (length (now immutable) ≤ 4096)) ⌝ }
-    requires { ⌜ ((r : ℕ) → r < length (now mixtures) → getD (now mixtures) r 0 < length (now immutable)) × ((i : ℕ) → i < length (now immutable) → getD (now words) (at + i) 0 ≡ 0) ⌝ }
-    ensures { λ r. ⌜ Tells (mixed (now (mixtures .entry)) (now (immutable .entry))) zones first nodes at r (now (words .entry)) (now (words .exit)) ⌝ }
+    requires { ⌜ PassFits (boardAt rows marks 0) at (now words) ⌝ }
+    requires { ⌜ Laid (turfCount (boardAt rows marks 0)) zones first nodes at (now words) ⌝ }
+    requires { ⌜ ((i : ℕ) → i < mixtureCount (boardAt rows marks 0) → getD (now words) (at + i) 0 ≡ 0) ⌝ }
+    ensures { λ r. ⌜ Tells (boardAt (rows .entry) (marks .entry) 0) zones first nodes at r (now (words .entry)) (now (words .exit)) ⌝ }
 {
     let mut z = 0;
     while z < zones {
         let from = nodes + words[first + z] as usize;
         let to = nodes + words[first + z + 1] as usize;
-        if !zone_apart(z as u32, from, to, at, mixtures, immutable, words) {
+        if !zone_apart(z as u32, from, to, at, rows, marks, words) {
             return false;
         }
         z += 1;
@@ -81,21 +99,22 @@ fn zones_apart(
     true
 }
 
-// Whether no changeable mixture is in two of the zones. Where the zones' nodes start stands from `first` on, the nodes from `nodes` on, and the mixtures'
-// marks from `at` on.
-pub fn apart(
-    zones: usize,
-    first: usize,
-    nodes: usize,
-    at: usize,
-    mixtures: &[u32],
-    immutable: &[u8],
-    words: &mut [u32],
-) -> bool
-    requires { ⌜ Laid (length (now mixtures)) zones first nodes at (now words) × ((at + length (now immutable) ≤ length (now words)) × (length (now immutable) ≤ 4096)) ⌝ }
-    requires { ⌜ ((r : ℕ) → r < length (now mixtures) → getD (now mixtures) r 0 < length (now immutable)) ⌝ }
-    ensures { λ r. ⌜ Tells (mixed (now (mixtures .entry)) (now (immutable .entry))) zones first nodes at r (now (words .entry)) (now (words .exit)) ⌝ }
+// Whether no changeable mixture is in two of the zones. The mixtures' marks stand after the zones' nodes.
+pub fn apart(zones: usize, rows: &Rows, marks: &Marks, words: &mut [u32]) -> bool
+    requires { ⌜ ApartFits (boardAt rows marks 0) zones (now words) ⌝ }
+    ensures { λ r. ⌜ ((gases : ℕ) → let b = boardAt (rows .entry) (marks .entry) gases in
+        let n = turfCount b in
+        let e = linkCount b in
+        Tells b zones (startsAt n e) (nodesAt n e) (marksAt n e) r (now (words .entry)) (now (words .exit))) ⌝ }
 {
+    let ids = rows[IDS];
+    let neighbours = rows[NEIGHBOURS];
+    let immutable = marks[IMMUTABLE];
+    let n = ids.len();
+    let e = neighbours.len();
+    let first = flood_fill::starts_at(n, e);
+    let nodes = flood_fill::nodes_at(n, e);
+    let at = nodes + n + e;
     basics::clear_part(words, at, immutable.len());
-    zones_apart(zones, first, nodes, at, mixtures, immutable, words)
+    zones_apart(zones, first, nodes, at, rows, marks, words)
 }

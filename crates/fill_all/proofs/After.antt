@@ -19,7 +19,7 @@ use Rattle.board_rules.specs.Board.{Board, turfCount, linkCount}
 use Rattle.turfs.specs.Tables.{Accepted}
 use Rattle.event_rules.specs.declared.Event.{Event}
 use Rattle.fill_rules.specs.Fill.{Fill, isOver, fill}
-use Rattle.flood_fill.specs.Held.{sizes, startsAt, nodesAt, Sizes, zeros}
+use Rattle.flood_fill.specs.Held.{sizes, startsAt, zeros}
 use Rattle.flood_fill.specs.Held as link
 use Rattle.flood_fill.proofs.Does.{does-plain}
 use Rattle.flood_fill.proofs.Bounds.{zeros-some}
@@ -31,6 +31,7 @@ use Rattle.fill_zone.proofs.Boards.{parts}
 use Rattle.finalize_eq.specs.Turns.{Zone}
 use Rattle.equalize.specs.Equalize.{Ask, Filled, afterFill, passedOver, fillFrom, hotRow}
 use Rattle.fill_all.specs.Held.{floatSizes, molesAt, zoneIn, viewIn, view, onFilled, startsIn, Stored, Open, Fills, giveBack, pushed, Keeps, Drops}
+use Rattle.fill_all.specs.Asked.{Spans, PushedFits, KeepFits}
 use Rattle.fill_all.specs.declared.Filling.{Filling}
 use Rattle.fill_all.proofs.Back.{given-back}
 
@@ -86,9 +87,9 @@ module _ {b : Board} {m : ℕ} (h : Accepted b m) (gas : List Float) (q : Ask) (
   pub zone-fits : s .zones < 4096
   zone-fits = omega (arith, one-zone, st .sizes .turfs)
 
-  pub fill-ready : Ready b (s .zones) (s .nodes) (s .used) row w area × (s .tests ≤ q .allowance)
+  pub fill-ready : Ready b (s .zones) (s .nodes) (s .used) row w area
   unfolding link.view
-  fill-ready = (record { row = hr; zone = one-zone; words = st .words; new = new; unowned = op .unowned; nodes = st .nodes; bytes = op .bytes }, op .tests)
+  fill-ready = record { row = hr; zone = one-zone; words = st .words; new = new; unowned = op .unowned; nodes = st .nodes; bytes = op .bytes }
 
   -- the definition's fill, after the events es
   abbrev T : List Event → Fill
@@ -117,12 +118,13 @@ module _ {b : Board} {m : ℕ} (h : Accepted b m) (gas : List Float) (q : Ask) (
         long : length (pushed n e (t .reach .queued) w₁) ≡ t .reach .queued
         long = length-take-le (t .reach .queued) (region (sizes n e) 5 w₁) (omega (arith, B .fit .queue, Rattle.flood_fill.proofs.Stores.queue-long n e w₁ (B .fit .words)))
 
-    pub after-asks : (Sizes n e × ((nodesAt n e + n + e + n ≤ length w₁) × ((molesAt n e + n ≤ length f) × ((s .zones < n) × (s .nodes + t .reach .nodes ≤ n + e)))))
-        × (((t .reach .queued ≤ n) × ((i : ℕ) → i < t .reach .queued → getD (pushed n e (t .reach .queued) w₁) i 0 < n))
-        × ((length (b .starts) ≡ n + 1) × (((r : ℕ) → r < n → getD (b .starts) r 0 ≤ getD (b .starts) (r + 1) 0) × ((r : ℕ) → r < n → getD (b .starts) (r + 1) 0 ≤ e))))
+    pub after-asks : KeepFits n e s t w₁ f × (PushedFits n e (t .reach .queued) w₁ × Spans n e (b .starts))
     after-asks = (
-      (st .sizes, (B .fit .words, (st .floats, (one-zone, B .fit .nodes)))),
-      ((B .fit .queue, rows-in), (h .starts, (parts h .rise, parts h .end))),
+      record { sizes = st .sizes; words = B .fit .words; floats = st .floats; zones = one-zone; nodes = B .fit .nodes },
+      (
+        record { sizes = st .sizes; words = B .fit .words; few = B .fit .queue; rows = rows-in },
+        record { count = h .starts; rise = parts h .rise; end = parts h .end },
+      ),
     )
 
     -- the step of the definition

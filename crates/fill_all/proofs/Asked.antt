@@ -1,5 +1,5 @@
 -- A call that equalize's number lets pass was lent what filling asks for. Assumes nothing.
-use Prim.Native.Nat.{ℕ, _+_, _*_, _≤_}
+use Prim.Native.Nat.{ℕ}
 use native.Mathlib.Omega.{arith}
 use mathlib.Core.Path.{_≡_, ap, _∙_}
 use mathlib.Core.List.{List}
@@ -8,17 +8,16 @@ use lib.Dec.{T, leb}
 use lib.Ieee.Bits.{is-true}
 use lib.ListN.{length}
 use Rattle.basics.specs.Floats.{finiteSignClear}
-use Rattle.board_rules.specs.Board.{Board, turfCount, linkCount}
+use Rattle.board_rules.specs.Board.{Board}
 use Rattle.board_rules.specs.Refuse.{ascending, linksFit}
 use Rattle.turfs.specs.Tables.{Accepted}
 use Rattle.lent_rules.specs.Lent.{Lent, Extra, wordsRoom, floatsRoom, refusal}
 use Rattle.lent.specs.Given.{Given}
 use Rattle.lent.proofs.Passed.{Passed, passed, links-pass}
 use Rattle.lent.proofs.Numbers.{given}
-use Rattle.flood_fill.specs.Held.{nodesAt}
 use Rattle.equalize.specs.Equalize.{Ask}
 use Rattle.equalize.specs.Result.{equalizeRoom, equalizeNumber}
-use Rattle.fill_all.specs.Held.{molesAt}
+use Rattle.fill_all.specs.Asked.{FillFits}
 
 module _ (b : Board) (q : Ask) (turns : List ℕ) (l : Lent) where
   -- what only equalize is lent
@@ -46,10 +45,8 @@ module _ (b : Board) (q : Ask) (turns : List ℕ) (l : Lent) where
     let-links = links-pass b l (equalizeRoom b) extra z
 
     -- what filling asks
-    pub fill-asks : (Accepted b (length (l .gas)) × (finiteSignClear (q .threshold) ≡ true))
-        × ((nodesAt (turfCount b) (linkCount b) + turfCount b + linkCount b + turfCount b ≤ length (l .words))
-        × ((molesAt (turfCount b) (linkCount b) + turfCount b ≤ length (l .floats)) × (16 * turfCount b ≤ length (l .area))))
+    pub fill-asks : Accepted b (length (l .gas)) × ((finiteSignClear (q .threshold) ≡ true) × FillFits b (l .words) (l .floats) (l .area))
     unfolding wordsRoom floatsRoom
     fill-asks =
         let p = let-pass in
-        ((p .board, is-true (finiteSignClear (q .threshold)) (p .threshold)), (omega (arith, p .words), (omega (arith, p .floats), omega (arith, p .area))))
+        (p .board, (is-true (finiteSignClear (q .threshold)) (p .threshold), record { words = omega (arith, p .words); floats = omega (arith, p .floats); events = omega (arith, p .area) }))

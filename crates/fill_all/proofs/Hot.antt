@@ -10,23 +10,20 @@ use lib.Ieee.{Float, lt}
 use lib.ListN.{length, getD}
 use borrow.Author.Tests.{eq-eqb, ne-eqb}
 use Rattle.basics.specs.Loops.{every}
-use Rattle.basics.specs.Floats.{finiteSignClear}
 use Rattle.basics.specs.Regions.{region}
 use Rattle.basics.specs.declared.Spot.{Spot}
 use Rattle.basics.specs.declared.Spot.the-variants.{At, Nowhere}
 use Rattle.basics.specs.Lists.{Found}
 use Rattle.board_rules.specs.Board.{Board, anyBit, turfCount, linkCount, enabled, linksOf, rowOf}
-use Rattle.turfs.specs.Tables.{Parts, Accepted}
+use Rattle.turfs.specs.Tables.{Accepted}
 use Rattle.turfs.proofs.Accepted.{row-below}
 use Rattle.mixture_rules.specs.Mixture.{total}
-use Rattle.mixture.specs.Moves.{Holds}
 use Rattle.fill_rules.specs.Fill.{fill}
 use Rattle.flood_fill.specs.Held.{sizes, foundAt}
 use Rattle.flood_fill.proofs.Does.{does-as}
 use Rattle.flood_fill.proofs.Stores.{found-at}
 use Rattle.fill_zone.specs.Held.{Begins}
 use Rattle.fill_zone.specs.declared.Flood.{Flood}
-use Rattle.fill_zone.proofs.Boards.{parts, gas-holds}
 use Rattle.equalize.specs.Equalize.{Ask, Filled, 10f, near, passedOver, hotRow, hotId}
 use Rattle.fill_all.specs.Held.{view, onFilled, Stored, Open, Fills, After}
 use Rattle.fill_all.specs.declared.Filling.{Filling}
@@ -66,16 +63,6 @@ module _ (b : Board) (gas : List Float) (q : Ask) (i : ℕ) where
   pub id-known : (s : Filled) → s .cancelled ≡ false → (r : ℕ) → rowOf b i ≡ At r → hotRow b gas q (At r) s ≡ hotId b gas q i s
   unfolding hotId
   id-known s c r e = rw (c, e)
-
--- ---- what the tests of a turf are asked
-
-pub share-asks : {b : Board} {m : ℕ} (h : Accepted b m) (gas : List Float) → m ≡ length gas → (threshold : Float) → finiteSignClear threshold ≡ true → (row : ℕ) → row < turfCount b
-    → ((finiteSignClear threshold ≡ true) × ((row < length (b .mixtures)) × Parts (length (b .mixtures)) (b .starts) (b .neighbours)))
-    × (((k : ℕ) → getD (b .neighbours) k 0 < length (b .mixtures)) × ((r : ℕ) → r < length (b .mixtures) → Holds gas (b .gases) (getD (b .mixtures) r 0)))
-share-asks {b} h gas e threshold t row l = (
-  (t, (rw (h .mixes) l, subst (λ (k : ℕ). Parts k (b .starts) (b .neighbours)) (sym (h .mixes)) (parts h))),
-  (λ k. rw (h .mixes) (h .ends k), λ r _. gas-holds h gas e r),
-)
 
 -- ---- the turf at `row`
 

@@ -7,7 +7,7 @@ use mathlib.Core.List.{List, [], _∷_, map}
 use mathlib.Core.Bool.{Bool, true, false, not}
 use lib.Dec.{eqb}
 use lib.Ieee.{Float}
-use lib.ListN.{length, getD, set, take, drop, take-append-drop, length-replicate, length-map}
+use lib.ListN.{length, getD, take, drop, take-append-drop, length-replicate, length-map}
 use lib.Seq.{take-suc, take-all, getD-set-same}
 use Rattle.basics.specs.Loops.{run, upFrom}
 use Rattle.basics.specs.Regions.{cut, region}
@@ -22,14 +22,15 @@ use Rattle.events.specs.Area.{Wrote}
 use Rattle.event_rules.specs.declared.Event.{Event}
 use Rattle.events.proofs.Areas.{wrote-length}
 use Rattle.events.proofs.Sizes.{requests-size}
-use Rattle.flood_fill.specs.Held.{sizes, nodesAt, zeros}
+use Rattle.flood_fill.specs.Held.{sizes, zeros}
 use Rattle.flood_fill.proofs.Does.{does-plain, does-then, does-as}
 use Rattle.flood_fill.proofs.Bounds.{zeros-most}
 use Rattle.flood_fill.proofs.Counts.{marked}
 use Rattle.equalize.specs.Equalize.{Ask, Filled, near, passedOver, fillFrom, hotRow, hotId, fillAll}
 use Rattle.equalize.proofs.Hot.{startFilled}
 use Rattle.equalize.proofs.Zones.{Zoned, zoned}
-use Rattle.fill_all.specs.Held.{ask, floatSizes, molesAt, zoneIn, View, view, aroundIn, onFilled, startsIn, Stored, Open, Fills, start, Begun, Cleared, FillsAll}
+use Rattle.fill_all.specs.Held.{ask, floatSizes, zoneIn, View, view, aroundIn, onFilled, startsIn, Stored, Open, Fills, start, Begun, Cleared, FillsAll}
+use Rattle.fill_all.specs.Asked.{FillFits}
 use Rattle.fill_all.specs.declared.Filling.{Filling}
 
 -- every mark is set or isn't
@@ -147,8 +148,8 @@ module _ {b : Board} {m : ℕ} (h : Accepted b m) (gas : List Float) (hot : List
 
 -- ---- from nothing
 
-module _ {b : Board} {m : ℕ} (h : Accepted b m) (w w₁ : List ℕ) (f : List Float) (area : List ℕ) (long : nodesAt (turfCount b) (linkCount b) + turfCount b + linkCount b + turfCount b ≤ length w)
-    (flong : molesAt (turfCount b) (linkCount b) + turfCount b ≤ length f) (room : 16 * turfCount b ≤ length area) (len : length w₁ ≡ length w) (c : Cleared (turfCount b) (linkCount b) w w₁) (s : Filling) (es : s ≡ start) where
+module _ {b : Board} {m : ℕ} (h : Accepted b m) (w w₁ : List ℕ) (f : List Float) (area : List ℕ) (y : FillFits b w f area)
+    (len : length w₁ ≡ length w) (c : Cleared (turfCount b) (linkCount b) w w₁) (s : Filling) (es : s ≡ start) where
   abbrev n₁ : ℕ
   n₁ = turfCount b
 
@@ -156,16 +157,16 @@ module _ {b : Board} {m : ℕ} (h : Accepted b m) (w w₁ : List ℕ) (f : List 
   e₁ = linkCount b
 
   pub begun : Begun b s w₁ area
-  begun = record { answer = es; found = ap (λ (x : List (List ℕ)). getD x 8 []) c; owner = ap (λ (x : List (List ℕ)). getD x 0 []) c; room = room }
+  begun = record { answer = es; found = ap (λ (x : List (List ℕ)). getD x 8 []) c; owner = ap (λ (x : List (List ℕ)). getD x 0 []) c; room = y .events }
 
   first-start : getD (startsIn n₁ e₁ w₁) 0 0 ≡ 0
-  first-start = ap (λ (x : List (List ℕ)). getD (getD x 11 []) 0 0) c ∙ getD-set-same (startsIn n₁ e₁ w) 0 0 0 (rw (cut-length (sizes n₁ e₁) w 11 (omega arith) (omega arith)) (omega arith))
+  first-start = ap (λ (x : List (List ℕ)). getD (getD x 11 []) 0 0) c ∙ getD-set-same (startsIn n₁ e₁ w) 0 0 0 (rw (cut-length (sizes n₁ e₁) w 11 (omega arith) (omega (arith, y .words))) (omega arith))
 
   pub begun-stored : Stored n₁ e₁ s w₁ f
   begun-stored = subst (λ (x : Filling). Stored n₁ e₁ x w₁ f) (sym es) (record {
     sizes = record { turfs = h .turfs .1; links = h .links };
-    words = rw len long;
-    floats = flong;
+    words = rw len (y .words);
+    floats = y .floats;
     zones = omega arith;
     first = first-start;
     last = first-start;

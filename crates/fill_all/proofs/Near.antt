@@ -1,19 +1,18 @@
--- The tests of a hot turf: |d| < t is d < t and -t < d, and a test of each of a part of the link list is a test of each link. Assumes nothing.
-use Prim.Native.Nat.{ℕ, zero, suc, _+_, _-_, _*_, _≤_, _<_}
+-- The tests of a hot turf: |d| < t is d < t and -t < d; no links, few moles, or all neighbours near. Assumes nothing.
+use Prim.Native.Nat.{ℕ, _+_, _-_, _*_, _≤_}
 use native.Mathlib.Omega.{arith}
 use mathlib.Core.Path.{_≡_, refl, ap, _∙_, sym}
 use mathlib.Core.List.{List}
-use mathlib.Core.Bool.{Bool, true, false, _&&_, _||_}
+use mathlib.Core.Bool.{Bool, true, false, _||_}
 use lib.Dec.{eqb, ltb}
 use lib.Ieee.{Float, nan, inf, fin, lt, neg, up, down}
-use lib.ListN.{length, getD, take, drop, length-take}
-use lib.Seq.{drop-cons, getD-take, getD-drop}
+use lib.ListN.{length, getD}
 use borrow.Author.Tests.{ltb-true, ltb-false, lt-ltb, le-ltb, eq-eqb, ne-eqb}
 use Rattle.basics.specs.Loops.{every, upFrom}
 use Rattle.basics.specs.Floats.{abs, finiteSignClear, _-f_}
 use Rattle.basics.proofs.Tests.{differ}
 use Rattle.basics.proofs.Lists.{upFrom-length}
-use Rattle.board_rules.specs.Board.{Board, linkCount, linksOf}
+use Rattle.board_rules.specs.Board.{Board, end, linksOf}
 use Rattle.mixture_rules.specs.Mixture.{total}
 use Rattle.equalize.specs.Equalize.{Ask, 10f, near}
 
@@ -47,13 +46,14 @@ near-not (inf false) (fin false n k) c h = refl
 near-not (fin true m e) (fin false n k) c h = below-none (m * up e * down k) (n * up k * down e) h
 near-not (fin false m e) (fin false n k) c h = sym h
 
--- ---- each of a part
+-- ---- the tests of a turf
 
-every-part : (p : ℕ → Bool) (l : List ℕ) (from m : ℕ) → from + m ≤ length l → every p (take m (drop from l)) ≡ every (λ k. p (getD l k 0)) (upFrom from m)
-unfolding every upFrom
-every-part p l from zero h = refl
-every-part p l from (suc m) h =
-    ap (λ (r : List ℕ). every p (take (suc m) r)) (drop-cons l from 0 (omega arith)) ∙ ap (λ (t : Bool). p (getD l from 0) && t) (every-part p l (suc from) m (omega arith))
+-- the total at the end of the link k is nearer to `mine` than the threshold
+abbrev pub nearAt : Board → List Float → Float → Float → ℕ → Bool
+nearAt b gas mine threshold k = lt (abs (total b gas (end b k) -f mine)) threshold
+
+pub near-told : (b : Board) (gas : List Float) (mine threshold : Float) (k : ℕ) (t : Bool) {x : Float} → x ≡ total b gas (end b k) → t ≡ lt (abs (x -f mine)) threshold → nearAt b gas mine threshold k ≡ t
+near-told b gas mine threshold k t e i = ap (λ (x : Float). lt (abs (x -f mine)) threshold) (sym e) ∙ sym i
 
 module _ (b : Board) (gas : List Float) (q : Ask) (r from to : ℕ) (ef : from ≡ getD (b .starts) r 0) (et : to ≡ getD (b .starts) (r + 1) 0) where
   degree : length (linksOf b r) ≡ to - from
@@ -73,17 +73,9 @@ module _ (b : Board) (gas : List Float) (q : Ask) (r from to : ℕ) (ef : from �
     pub few-moles : lt mine 10f ≡ true → true ≡ eqb (length (linksOf b r)) 0 || rest
     few-moles l = linked true (sym (ap (λ (u : Bool). u || every (near b gas q r) (linksOf b r)) (ap (λ (x : Float). lt x 10f) (sym em) ∙ l)))
 
-    pub all-tested : lt mine 10f ≡ false → to ≤ linkCount b → (t : Bool) → t ≡ every (λ a. lt (abs (total b gas a -f mine)) (q .threshold)) (take (to - from) (drop from (b .neighbours)))
+    pub all-tested : lt mine 10f ≡ false → (x : Float) → q .threshold ≡ x → (t : Bool) → t ≡ every (nearAt b gas mine x) (upFrom from (to - from))
         → t ≡ eqb (length (linksOf b r)) 0 || rest
     unfolding near linksOf
-    all-tested l h t e =
-        linked t (e ∙ every-part _ (b .neighbours) from (to - from) (omega arith) ∙ rw (em, ef, et) refl
+    all-tested l x ex t e =
+        linked t (e ∙ rw (← ex, em, ef, et) refl
         ∙ sym (ap (λ (u : Bool). u || every (near b gas q r) (linksOf b r)) (ap (λ (x : Float). lt x 10f) (sym em) ∙ l)))
-
--- what the test of each of a part is asked
-pub near-asks : (l mixtures : List ℕ) (P : ℕ → Type 0) (from to : ℕ) → ((k : ℕ) → getD l k 0 < length mixtures) → ((r : ℕ) → r < length mixtures → P (getD mixtures r 0))
-    → (i : ℕ) → i < length (take (to - from) (drop from l)) → (getD (take (to - from) (drop from l)) i 0 < length mixtures) × P (getD mixtures (getD (take (to - from) (drop from l)) i 0) 0)
-near-asks l mixtures P from to rows holds i h =
-    let j : i < to - from = omega (arith, h, length-take (to - from) (drop from l)) in
-    let e : getD (take (to - from) (drop from l)) i 0 ≡ getD l (from + i) 0 = getD-take (to - from) (drop from l) i 0 j ∙ getD-drop from l i 0 in
-    rw e (rows (from + i), holds (getD l (from + i) 0) (rows (from + i)))

@@ -13,6 +13,7 @@ use Rattle.basics.proofs.Regions.{cut-set, cut-get, cut-part}
 use Rattle.flood_fill.specs.Held.{sizes, queueAt, foundAt, startsAt, nodesAt}
 use Rattle.flood_fill.proofs.Stores.{queue-long}
 use Rattle.fill_all.specs.Held.{giveBack, pushed, GaveBack, Cleared}
+use Rattle.fill_all.specs.Asked.{Spans}
 
 -- the middle of a list, cleared
 emptied : (k : ℕ) (mid ys : List ℕ) → length mid ≤ k → ys ≡ replicate k 0 ++ drop k mid → ys ≡ replicate k 0
@@ -109,6 +110,6 @@ cleared-length n e w w₁ ys fa sa k long ef ek e₁ ey =
     simp (length-set, lib.ListN.length-append, y, t, length-drop) (omega arith)
 
 -- what a row that gives back is asked
-pub back-asks : {n e : ℕ} (starts w : List ℕ) → (length starts ≡ n + 1) × (((r : ℕ) → r < n → getD starts r 0 ≤ getD starts (r + 1) 0) × ((r : ℕ) → r < n → getD starts (r + 1) 0 ≤ e))
-    → nodesAt n e + n + e + n ≤ length w → (r : ℕ) → r < n → (r + 1 < length starts) × ((getD starts r 0 ≤ getD starts (r + 1) 0) × (getD starts (r + 1) 0 ≤ length w))
-back-asks starts w p long r l = (omega (arith, p .0), (p .1 .0 r l, omega (arith, p .1 .1 r l)))
+pub back-asks : {n e : ℕ} {starts : List ℕ} (w : List ℕ) → Spans n e starts → nodesAt n e + n + e + n ≤ length w → (r : ℕ) → r < n
+    → (r + 1 < length starts) × ((getD starts r 0 ≤ getD starts (r + 1) 0) × (getD starts (r + 1) 0 ≤ length w))
+back-asks w p long r l = (omega (arith, p .count), (p .rise r l, omega (arith, p .end r l)))

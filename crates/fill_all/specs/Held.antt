@@ -13,6 +13,7 @@ use Rattle.turfs.specs.Tables.{source}
 use Rattle.events.specs.Area.{Holds}
 use Rattle.event_rules.specs.declared.Event.{Event}
 use Rattle.fill_rules.specs.Fill.{isOver}
+use Rattle.fill_rules.specs.declared.Settings.{Settings}
 use Rattle.flood_fill.specs.Held.{sizes, startsAt, nodesAt, Sizes, zeros, Does}
 use Rattle.fill_zone.specs.declared.Flood.{Flood}
 use Rattle.finalize_eq.specs.Turns.{Zone}
@@ -22,6 +23,9 @@ use Rattle.fill_all.specs.declared.Filling.{Filling}
 -- what only equalize is asked
 abbrev pub ask : List ℕ → Float → ℕ → ℕ → Ask
 ask hot threshold limit allowance = record { hot = hot; threshold = threshold; limit = limit; allowance = allowance }
+
+abbrev pub asked : List ℕ → Settings → Ask
+asked hot settings = ask hot (settings .threshold) (settings .limit) (settings .allowance)
 
 -- ---- the areas
 

@@ -1,26 +1,36 @@
 // Filling: zones from the hot turfs. Its definition is `fillAll` of crate equalize; specs/Held.antt says how the work areas hold it.
 use basics::Spot;
 use fill_rules::Going;
+use fill_rules::Settings;
 use fill_zone::Flood;
+use fill_zone::Seed;
+use turfs::FLAGS;
+use turfs::IDS;
+use turfs::Links;
+use turfs::MIXTURES;
+use turfs::Marks;
+use turfs::NEIGHBOURS;
+use turfs::Rows;
+use turfs::STARTS;
 use turfs::SimulationFlags;
 ghost use mathlib.Core.Path.{_≡_};
-ghost use mathlib.Core.Bool.{true, false, _||_};
+ghost use mathlib.Core.Bool.{true, _||_};
 ghost use mathlib.Core.List.{List};
-ghost use Prim.Native.Nat.{ℕ, _+_, _*_, _≤_, _<_};
+ghost use Prim.Native.Nat.{ℕ, _+_, _-_, _≤_, _<_};
 ghost use lib.Dec.{eqb};
 ghost use lib.ListN.{length, getD};
 ghost use lib.Ieee.{lt};
-ghost use Rattle.basics.specs.Loops.{run, every};
+ghost use Rattle.basics.specs.Loops.{run, every, upFrom};
 ghost use Rattle.basics.specs.Floats.{abs, _-f_, finiteSignClear};
 ghost use Rattle.basics.specs.declared.Spot.the-variants.{At};
-ghost use Rattle.board_rules.specs.Board.{Board, linksOf};
-ghost use Rattle.turfs.specs.Tables.{Parts, board, Accepted};
+ghost use Rattle.board_rules.specs.Board.{turfCount, linkCount, end, linksOf};
+ghost use Rattle.turfs.specs.Tables.{boardAt, Accepted};
 ghost use Rattle.mixture_rules.specs.Mixture.{total};
-ghost use Rattle.mixture.specs.Moves.{Holds};
 ghost use Rattle.fill_rules.specs.Fill.{isOver};
 ghost use Rattle.flood_fill.specs.Held.{nodesAt, Sizes};
 ghost use Rattle.equalize.specs.Equalize.{Ask, 10f, near, hotRow, hotId, fillAll};
-ghost use Rattle.fill_all.specs.Held.{ask, molesAt, Stored, Open, Fills, giveBack, pushed, GaveBack, Keeps, After, start, Begun, Cleared, FillsAll};
+ghost use Rattle.fill_all.specs.Held.{asked, molesAt, Stored, Fills, giveBack, GaveBack, Keeps, After, start, Begun, Cleared, FillsAll};
+ghost use Rattle.fill_all.specs.Asked.{Spans, PushedFits, KeepFits, HotFits, FillFits};
 
 // What filling has come to: zones kept, the nodes that they have in all, clock tests, bytes of events, whether the clock ran out.
 pub struct Filling {
@@ -51,26 +61,32 @@ fn nearer(x: f32, y: f32, threshold: f32) -> bool
     false
 }
 
-// Whether the totals of all these turfs are nearer to a total than the threshold.
+// Whether the totals at the ends of these links are nearer to a total than the threshold.
 fn all_near(
-    rows: &[u32],
+    links: Links,
     mine: f32,
     threshold: f32,
-    mixtures: &[u32],
+    rows: &Rows,
+    marks: &Marks,
     gases: usize,
     gas: &[f32],
 ) -> bool
+    requires { ⌜ Accepted (boardAt rows marks gases) (length (now gas)) ⌝ }
     requires { ⌜ finiteSignClear threshold ≡ true ⌝ }
-    requires { ⌜ ((i : ℕ) → i < length (now rows) → (getD (now rows) i 0 < length (now mixtures)) × Holds (now gas) gases (getD (now mixtures) (getD (now rows) i 0) 0)) ⌝ }
-    ensures { λ r. ⌜ ((b : Board) → b .mixtures ≡ now (mixtures .entry) → b .gases ≡ gases → r ≡ every (λ a. lt (abs (total b (now (gas .entry)) a -f mine)) threshold) (now (rows .entry))) ⌝ }
+    requires { ⌜ links .to ≤ linkCount (boardAt rows marks gases) ⌝ }
+    ensures { λ r. let b = boardAt (rows .entry) (marks .entry) gases in
+        ⌜ r ≡ every (λ k. lt (abs (total b (now (gas .entry)) (end b k) -f mine)) threshold) (upFrom (links .from) (links .to - links .from)) ⌝ }
 {
-    let mut i = 0;
-    while i < rows.len() {
-        let other = mixture::total(mixtures, gas, gases, rows[i] as usize);
+    let mixtures = rows[MIXTURES];
+    let neighbours = rows[NEIGHBOURS];
+    let to = links.to;
+    let mut k = links.from;
+    while k < to {
+        let other = mixture::total(mixtures, gas, gases, neighbours[k] as usize);
         if !nearer(other, mine, threshold) {
             return false;
         }
-        i += 1;
+        k += 1;
     }
     true
 }
@@ -79,33 +95,33 @@ fn all_near(
 fn unshareable(
     row: usize,
     threshold: f32,
-    mixtures: &[u32],
-    starts: &[u32],
-    neighbours: &[u32],
+    rows: &Rows,
+    marks: &Marks,
     gases: usize,
     gas: &[f32],
 ) -> bool
-    requires { ⌜ (finiteSignClear threshold ≡ true) × ((row < length (now mixtures)) × Parts (length (now mixtures)) (now starts) (now neighbours)) ⌝ }
-    requires { ⌜ ((k : ℕ) → getD (now neighbours) k 0 < length (now mixtures)) × ((r : ℕ) → r < length (now mixtures) → Holds (now gas) gases (getD (now mixtures) r 0)) ⌝ }
-    ensures { λ r. ⌜ ((b : Board) → b .mixtures ≡ now (mixtures .entry) → b .starts ≡ now (starts .entry) → b .neighbours ≡ now (neighbours .entry) → b .gases ≡ gases → (q : Ask) → q .threshold ≡ threshold
+    requires { ⌜ Accepted (boardAt rows marks gases) (length (now gas)) ⌝ }
+    requires { ⌜ finiteSignClear threshold ≡ true ⌝ }
+    requires { ⌜ row < turfCount (boardAt rows marks gases) ⌝ }
+    ensures { λ r. let b = boardAt (rows .entry) (marks .entry) gases in ⌜ ((q : Ask) → q .threshold ≡ threshold
         → r ≡ (eqb (length (linksOf b row)) 0 || (lt (total b (now (gas .entry)) row) 10f || every (near b (now (gas .entry)) q row) (linksOf b row)))) ⌝ }
 {
-    let links = turfs::links_of(starts, row);
-    let from = links.from;
-    let to = links.to;
-    if from == to {
+    let links = turfs::links_of(rows[STARTS], row);
+    if links.from == links.to {
         return true;
     }
-    let mine = mixture::total(mixtures, gas, gases, row);
+    let mine = mixture::total(rows[MIXTURES], gas, gases, row);
     if mine < 10.0 {
         return true;
     }
-    all_near(&neighbours[from..to], mine, threshold, mixtures, gases, gas)
+    all_near(links, mine, threshold, rows, marks, gases, gas)
 }
 
 // The links of the turf at `row` lose their owners.
 fn give_back(row: usize, starts: &[u32], words: &mut [u32])
-    requires { ⌜ (row + 1 < length (now starts)) × ((getD (now starts) row 0 ≤ getD (now starts) (row + 1) 0) × (getD (now starts) (row + 1) 0 ≤ length (now words))) ⌝ }
+    requires { ⌜ row + 1 < length (now starts) ⌝ }
+    requires { ⌜ getD (now starts) row 0 ≤ getD (now starts) (row + 1) 0 ⌝ }
+    requires { ⌜ getD (now starts) (row + 1) 0 ≤ length (now words) ⌝ }
     ensures { λ _. ⌜ now (words .exit) ≡ giveBack (now (starts .entry)) row (now (words .entry)) ⌝ }
 {
     let links = turfs::links_of(starts, row);
@@ -116,8 +132,8 @@ fn give_back(row: usize, starts: &[u32], words: &mut [u32])
 
 // An ignored zone: the turfs that it pushed give their links back.
 fn ignore(queued: usize, n: usize, e: usize, starts: &[u32], words: &mut [u32])
-    requires { ⌜ Sizes n e × ((nodesAt n e + n + e + n ≤ length (now words)) × ((queued ≤ n) × ((i : ℕ) → i < queued → getD (pushed n e queued (now words)) i 0 < n))) ⌝ }
-    requires { ⌜ (length (now starts) ≡ n + 1) × (((r : ℕ) → r < n → getD (now starts) r 0 ≤ getD (now starts) (r + 1) 0) × ((r : ℕ) → r < n → getD (now starts) (r + 1) 0 ≤ e)) ⌝ }
+    requires { ⌜ PushedFits n e queued (now words) ⌝ }
+    requires { ⌜ Spans n e (now starts) ⌝ }
     ensures { λ _. ⌜ GaveBack n e (now (starts .entry)) queued (now (words .entry)) (now (words .exit)) ⌝ }
 {
     let queue = index_set::queue_at(n, e);
@@ -128,6 +144,7 @@ fn ignore(queued: usize, n: usize, e: usize, starts: &[u32], words: &mut [u32])
     }
 }
 
+// Whether the clock ran out.
 fn is_over(state: Going) -> bool
     ensures { λ r. ⌜ r ≡ isOver state ⌝ }
 {
@@ -147,7 +164,7 @@ fn keep_zone(
     words: &mut [u32],
     floats: &mut [f32],
 ) -> Filling
-    requires { ⌜ Sizes n e × ((nodesAt n e + n + e + n ≤ length (now words)) × ((molesAt n e + n ≤ length (now floats)) × ((s .zones < n) × (s .nodes + t .reach .nodes ≤ n + e)))) ⌝ }
+    requires { ⌜ KeepFits n e s t (now words) (now floats) ⌝ }
     ensures { λ r. ⌜ Keeps n e s t r (now (words .entry)) (now (words .exit)) (now (floats .entry)) (now (floats .exit)) ⌝ }
 {
     let reach = t.reach;
@@ -176,9 +193,9 @@ fn after_fill(
     words: &mut [u32],
     floats: &mut [f32],
 ) -> Filling
-    requires { ⌜ Sizes n e × ((nodesAt n e + n + e + n ≤ length (now words)) × ((molesAt n e + n ≤ length (now floats)) × ((s .zones < n) × (s .nodes + t .reach .nodes ≤ n + e)))) ⌝ }
-    requires { ⌜ (t .reach .queued ≤ n) × ((i : ℕ) → i < t .reach .queued → getD (pushed n e (t .reach .queued) (now words)) i 0 < n) ⌝ }
-    requires { ⌜ (length (now starts) ≡ n + 1) × (((r : ℕ) → r < n → getD (now starts) r 0 ≤ getD (now starts) (r + 1) 0) × ((r : ℕ) → r < n → getD (now starts) (r + 1) 0 ≤ e)) ⌝ }
+    requires { ⌜ KeepFits n e s t (now words) (now floats) ⌝ }
+    requires { ⌜ PushedFits n e (t .reach .queued) (now words) ⌝ }
+    requires { ⌜ Spans n e (now starts) ⌝ }
     ensures { λ r. ⌜ After n e (now (starts .entry)) s t r (now (words .entry)) (now (words .exit)) (now (floats .entry)) (now (floats .exit)) ⌝ }
 {
     let reach = t.reach;
@@ -201,28 +218,26 @@ fn after_fill(
 fn hot_row(
     row: usize,
     s: Filling,
-    threshold: f32,
-    limit: u32,
-    allowance: u32,
-    ids: &[u32],
-    flags: &[u8],
-    planetary: &[u8],
-    mixtures: &[u32],
-    starts: &[u32],
-    neighbours: &[u32],
-    link_flags: &[u8],
-    immutable: &[u8],
+    settings: Settings,
+    rows: &Rows,
+    marks: &Marks,
     gases: usize,
     gas: &[f32],
     words: &mut [u32],
     floats: &mut [f32],
-    area: &mut [u8],
+    events: &mut [u8],
 ) -> Filling
-    requires { ⌜ Accepted (board (now ids) (now flags) (now planetary) (now mixtures) (now starts) (now neighbours) (now «link_flags») (now immutable) gases) (length (now gas)) × (finiteSignClear threshold ≡ true) ⌝ }
-    requires { ⌜ Stored (length (now ids)) (length (now neighbours)) s (now words) (now floats) × Open (board (now ids) (now flags) (now planetary) (now mixtures) (now starts) (now neighbours) (now «link_flags») (now immutable) gases) allowance s (now words) (now area) ⌝ }
-    requires { ⌜ (row < length (now ids)) × (s .cancelled ≡ false) ⌝ }
-    ensures { λ r. ⌜ ((hot : List ℕ) → Fills (length (now (ids .entry))) (length (now (neighbours .entry))) (hotRow (board (now (ids .entry)) (now (flags .entry)) (now (planetary .entry)) (now (mixtures .entry)) (now (starts .entry)) (now (neighbours .entry)) (now («link_flags» .entry)) (now (immutable .entry)) gases) (now (gas .entry)) (ask hot threshold limit allowance) (At row)) s r (now (words .entry)) (now (words .exit)) (now (floats .entry)) (now (floats .exit)) (now (area .entry)) (now (area .exit))) ⌝ }
+    requires { ⌜ Accepted (boardAt rows marks gases) (length (now gas)) ⌝ }
+    requires { ⌜ finiteSignClear (settings .threshold) ≡ true ⌝ }
+    requires { ⌜ HotFits (boardAt rows marks gases) (settings .allowance) s (now words) (now floats) (now events) ⌝ }
+    requires { ⌜ row < turfCount (boardAt rows marks gases) ⌝ }
+    ensures { λ r. let b = boardAt (rows .entry) (marks .entry) gases in ⌜ ((hot : List ℕ) → Fills (turfCount b) (linkCount b)
+        (hotRow b (now (gas .entry)) (asked hot settings) (At row)) s r
+        (now (words .entry)) (now (words .exit)) (now (floats .entry)) (now (floats .exit)) (now (events .entry)) (now (events .exit))) ⌝ }
 {
+    let ids = rows[IDS];
+    let neighbours = rows[NEIGHBOURS];
+    let flags = marks[FLAGS];
     let n = ids.len();
     let e = neighbours.len();
     if words[flood_fill::found_at(n, e) + row] != 0 {
@@ -231,88 +246,63 @@ fn hot_row(
     if !SimulationFlags(flags[row]).enabled() {
         return s;
     }
-    if unshareable(row, threshold, mixtures, starts, neighbours, gases, gas) {
+    if unshareable(row, settings.threshold, rows, marks, gases, gas) {
         return s;
     }
-    let t = fill_zone::flood_fill(
-        row as u32,
-        s.zones as u32,
-        s.used,
-        s.tests,
-        s.nodes,
-        limit,
-        allowance,
-        ids,
-        flags,
-        planetary,
-        mixtures,
-        starts,
-        neighbours,
-        link_flags,
-        immutable,
-        gases,
-        gas,
-        words,
-        area,
-    );
-    after_fill(s, t, n, e, starts, words, floats)
+    let seed = Seed {
+        row: row as u32,
+        z: s.zones as u32,
+        kept: s.nodes,
+        used: s.used,
+        tests: s.tests,
+    };
+    let t = fill_zone::flood_fill(seed, settings, rows, marks, gases, gas, words, events);
+    after_fill(s, t, n, e, rows[STARTS], words, floats)
 }
 
 // A hot id; one that no turf has is passed over.
 fn hot_id(
     id: u32,
     s: Filling,
-    threshold: f32,
-    limit: u32,
-    allowance: u32,
-    ids: &[u32],
-    flags: &[u8],
-    planetary: &[u8],
-    mixtures: &[u32],
-    starts: &[u32],
-    neighbours: &[u32],
-    link_flags: &[u8],
-    immutable: &[u8],
+    settings: Settings,
+    rows: &Rows,
+    marks: &Marks,
     gases: usize,
     gas: &[f32],
     words: &mut [u32],
     floats: &mut [f32],
-    area: &mut [u8],
+    events: &mut [u8],
 ) -> Filling
-    requires { ⌜ Accepted (board (now ids) (now flags) (now planetary) (now mixtures) (now starts) (now neighbours) (now «link_flags») (now immutable) gases) (length (now gas)) × (finiteSignClear threshold ≡ true) ⌝ }
-    requires { ⌜ Stored (length (now ids)) (length (now neighbours)) s (now words) (now floats) × Open (board (now ids) (now flags) (now planetary) (now mixtures) (now starts) (now neighbours) (now «link_flags») (now immutable) gases) allowance s (now words) (now area) ⌝ }
-    requires { ⌜ s .cancelled ≡ false ⌝ }
-    ensures { λ r. ⌜ ((hot : List ℕ) → Fills (length (now (ids .entry))) (length (now (neighbours .entry))) (hotId (board (now (ids .entry)) (now (flags .entry)) (now (planetary .entry)) (now (mixtures .entry)) (now (starts .entry)) (now (neighbours .entry)) (now («link_flags» .entry)) (now (immutable .entry)) gases) (now (gas .entry)) (ask hot threshold limit allowance) id) s r (now (words .entry)) (now (words .exit)) (now (floats .entry)) (now (floats .exit)) (now (area .entry)) (now (area .exit))) ⌝ }
+    requires { ⌜ Accepted (boardAt rows marks gases) (length (now gas)) ⌝ }
+    requires { ⌜ finiteSignClear (settings .threshold) ≡ true ⌝ }
+    requires { ⌜ HotFits (boardAt rows marks gases) (settings .allowance) s (now words) (now floats) (now events) ⌝ }
+    ensures { λ r. let b = boardAt (rows .entry) (marks .entry) gases in ⌜ ((hot : List ℕ) → Fills (turfCount b) (linkCount b)
+        (hotId b (now (gas .entry)) (asked hot settings) id) s r
+        (now (words .entry)) (now (words .exit)) (now (floats .entry)) (now (floats .exit)) (now (events .entry)) (now (events .exit))) ⌝ }
 {
-    let Spot::At(row) = turfs::find(ids, id) else {
+    let Spot::At(row) = turfs::find(rows[IDS], id) else {
         return s;
     };
     hot_row(
         row,
         s,
-        threshold,
-        limit,
-        allowance,
-        ids,
-        flags,
-        planetary,
-        mixtures,
-        starts,
-        neighbours,
-        link_flags,
-        immutable,
+        settings,
+        rows,
+        marks,
         gases,
         gas,
         words,
         floats,
-        area,
+        events,
     )
 }
 
 // Nothing is found, owned or kept yet.
 fn begin(n: usize, e: usize, words: &mut [u32]) -> Filling
-    requires { ⌜ Sizes n e × (nodesAt n e + n + e + n ≤ length (now words)) ⌝ }
-    ensures { λ r. ⌜ (r ≡ start) × Cleared n e (now (words .entry)) (now (words .exit)) ⌝ }
+    requires { ⌜ Sizes n e ⌝ }
+    requires { ⌜ nodesAt n e + n + e + n ≤ length (now words) ⌝ }
+    ensures { λ r. ⌜ r ≡ start ⌝ }
+    ensures { λ r. ⌜ Cleared n e (now (words .entry)) (now (words .exit)) ⌝ }
 {
     basics::clear(words, e);
     let found = flood_fill::found_at(n, e);
@@ -332,26 +322,22 @@ fn begin(n: usize, e: usize, words: &mut [u32]) -> Filling
 fn fill_hot(
     hot: &[u32],
     begun: Filling,
-    threshold: f32,
-    limit: u32,
-    allowance: u32,
-    ids: &[u32],
-    flags: &[u8],
-    planetary: &[u8],
-    mixtures: &[u32],
-    starts: &[u32],
-    neighbours: &[u32],
-    link_flags: &[u8],
-    immutable: &[u8],
+    settings: Settings,
+    rows: &Rows,
+    marks: &Marks,
     gases: usize,
     gas: &[f32],
     words: &mut [u32],
     floats: &mut [f32],
-    area: &mut [u8],
+    events: &mut [u8],
 ) -> Filling
-    requires { ⌜ Accepted (board (now ids) (now flags) (now planetary) (now mixtures) (now starts) (now neighbours) (now «link_flags») (now immutable) gases) (length (now gas)) × (finiteSignClear threshold ≡ true) ⌝ }
-    requires { ⌜ Stored (length (now ids)) (length (now neighbours)) begun (now words) (now floats) × Begun (board (now ids) (now flags) (now planetary) (now mixtures) (now starts) (now neighbours) (now «link_flags») (now immutable) gases) begun (now words) (now area) ⌝ }
-    ensures { λ r. ⌜ Fills (length (now (ids .entry))) (length (now (neighbours .entry))) (λ s. run (hotId (board (now (ids .entry)) (now (flags .entry)) (now (planetary .entry)) (now (mixtures .entry)) (now (starts .entry)) (now (neighbours .entry)) (now («link_flags» .entry)) (now (immutable .entry)) gases) (now (gas .entry)) (ask (now (hot .entry)) threshold limit allowance)) (now (hot .entry)) s) begun r (now (words .entry)) (now (words .exit)) (now (floats .entry)) (now (floats .exit)) (now (area .entry)) (now (area .exit)) ⌝ }
+    requires { ⌜ Accepted (boardAt rows marks gases) (length (now gas)) ⌝ }
+    requires { ⌜ finiteSignClear (settings .threshold) ≡ true ⌝ }
+    requires { let b = boardAt rows marks gases in ⌜ Stored (turfCount b) (linkCount b) begun (now words) (now floats) ⌝ }
+    requires { ⌜ Begun (boardAt rows marks gases) begun (now words) (now events) ⌝ }
+    ensures { λ r. let b = boardAt (rows .entry) (marks .entry) gases in ⌜ Fills (turfCount b) (linkCount b)
+        (λ s. run (hotId b (now (gas .entry)) (asked (now (hot .entry)) settings)) (now (hot .entry)) s) begun r
+        (now (words .entry)) (now (words .exit)) (now (floats .entry)) (now (floats .exit)) (now (events .entry)) (now (events .exit)) ⌝ }
 {
     let mut s = begun;
     let mut i = 0;
@@ -362,22 +348,14 @@ fn fill_hot(
         s = hot_id(
             hot[i],
             s,
-            threshold,
-            limit,
-            allowance,
-            ids,
-            flags,
-            planetary,
-            mixtures,
-            starts,
-            neighbours,
-            link_flags,
-            immutable,
+            settings,
+            rows,
+            marks,
             gases,
             gas,
             words,
             floats,
-            area,
+            events,
         );
         i += 1;
     }
@@ -387,46 +365,35 @@ fn fill_hot(
 // All hot ids, ascending, from nothing found.
 pub fn fill_all(
     hot: &[u32],
-    threshold: f32,
-    limit: u32,
-    allowance: u32,
-    ids: &[u32],
-    flags: &[u8],
-    planetary: &[u8],
-    mixtures: &[u32],
-    starts: &[u32],
-    neighbours: &[u32],
-    link_flags: &[u8],
-    immutable: &[u8],
+    settings: Settings,
+    rows: &Rows,
+    marks: &Marks,
     gases: usize,
     gas: &[f32],
     words: &mut [u32],
     floats: &mut [f32],
-    area: &mut [u8],
+    events: &mut [u8],
 ) -> Filling
-    requires { ⌜ Accepted (board (now ids) (now flags) (now planetary) (now mixtures) (now starts) (now neighbours) (now «link_flags») (now immutable) gases) (length (now gas)) × (finiteSignClear threshold ≡ true) ⌝ }
-    requires { ⌜ (nodesAt (length (now ids)) (length (now neighbours)) + length (now ids) + length (now neighbours) + length (now ids) ≤ length (now words)) × ((molesAt (length (now ids)) (length (now neighbours)) + length (now ids) ≤ length (now floats)) × (16 * length (now ids) ≤ length (now area))) ⌝ }
-    ensures { λ r. ⌜ FillsAll (length (now (ids .entry))) (length (now (neighbours .entry))) (fillAll (board (now (ids .entry)) (now (flags .entry)) (now (planetary .entry)) (now (mixtures .entry)) (now (starts .entry)) (now (neighbours .entry)) (now («link_flags» .entry)) (now (immutable .entry)) gases) (now (gas .entry)) (ask (now (hot .entry)) threshold limit allowance)) r (now (words .entry)) (now (words .exit)) (now (floats .entry)) (now (floats .exit)) (now (area .entry)) (now (area .exit)) ⌝ }
+    requires { ⌜ Accepted (boardAt rows marks gases) (length (now gas)) ⌝ }
+    requires { ⌜ finiteSignClear (settings .threshold) ≡ true ⌝ }
+    requires { ⌜ FillFits (boardAt rows marks gases) (now words) (now floats) (now events) ⌝ }
+    ensures { λ r. let b = boardAt (rows .entry) (marks .entry) gases in ⌜ FillsAll (turfCount b) (linkCount b)
+        (fillAll b (now (gas .entry)) (asked (now (hot .entry)) settings)) r
+        (now (words .entry)) (now (words .exit)) (now (floats .entry)) (now (floats .exit)) (now (events .entry)) (now (events .exit)) ⌝ }
 {
+    let ids = rows[IDS];
+    let neighbours = rows[NEIGHBOURS];
     let s = begin(ids.len(), neighbours.len(), words);
     fill_hot(
         hot,
         s,
-        threshold,
-        limit,
-        allowance,
-        ids,
-        flags,
-        planetary,
-        mixtures,
-        starts,
-        neighbours,
-        link_flags,
-        immutable,
+        settings,
+        rows,
+        marks,
         gases,
         gas,
         words,
         floats,
-        area,
+        events,
     )
 }

@@ -4,11 +4,11 @@ use mathlib.Core.Bool.{Bool}
 use Prim.Native.Nat.{ℕ}
 use lib.Dec.{T, eqb}
 use lib.ListN.{replicate}
-use lib.Ieee.{Float, add, sub, sum as isum, mul, div, neg, round, size, span, climb, units, odd, ofInt, ofBits, ofFields, toBits, lt, le, eq, ne}
+use lib.Ieee.{add, sub, sum as isum, mul, div, neg, round, size, span, climb, units, odd, ofInt, ofBits, ofFields, toBits, lt, le, eq, ne}
 use Rattle.basics.specs.Loops.{run, times, allOf, member, same, upFrom}
 use Rattle.basics.specs.Floats.{bitsOf, ofCount, whole}
 use Rattle.board_rules.specs.Board.{Board, linkCount, enabled, planetary, immutable, firelock, linksOf}
-use Rattle.board_rules.specs.Draw.{Turf, to, lock, turf, disabled, planet, space, startsFrom, allWays, draw, pairWith, twenty, boardA, lockedPair, star}
+use Rattle.board_rules.specs.Draw.{to, lock, turf, disabled, planet, space, startsFrom, allWays, draw, pairWith, twenty, boardA, lockedPair, star}
 use Rattle.mixture_rules.specs.Mixture.{sum, amounts, totalMix, total}
 use Rattle.event_rules.specs.Events.{kindOf, fieldsOf, wordsBytes, encode, encodeAll}
 use Rattle.event_rules.specs.declared.Event.{Event}

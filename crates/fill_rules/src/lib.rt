@@ -6,3 +6,11 @@ pub enum Going {
     Broken,
     Over,
 }
+
+// What a call of equalize sets: totals nearer than the threshold are left alone, a zone with a planet turf breaks off above `limit` nodes,
+// and the clock test after `allowance` tests is over.
+pub struct Settings {
+    pub threshold: f32,
+    pub limit: u32,
+    pub allowance: u32,
+}

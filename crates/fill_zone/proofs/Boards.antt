@@ -8,16 +8,14 @@ use lib.ListN.{length, getD}
 use Rattle.basics.specs.Loops.{upFrom}
 use Rattle.basics.proofs.Loops.{All-getD}
 use Rattle.basics.proofs.Lists.{upFrom-at, upFrom-length}
-use Rattle.basics.proofs.Parts.{part, part-length, part-at}
 use Rattle.board_rules.specs.Board.{Board, turfCount, linkCount, mixOf, linksOf, mixtureCount}
-use Rattle.turfs.specs.Tables.{Parts, Accepted, source}
+use Rattle.turfs.specs.Tables.{Slices, boardOf, Parts, Accepted, source}
 use Rattle.turfs.proofs.Accepted.{sources}
 use Rattle.turfs.proofs.Tables.{accepted-parts}
 use Rattle.mixture.specs.Moves.{Holds}
 use Rattle.mixture.proofs.Parts.{holds-of}
-use Rattle.flood_fill.specs.Steps.{Rows}
-use Rattle.flood_fill.specs.Held.{Part, Sizes}
-use Rattle.fill_zone.specs.Held.{Free}
+use Rattle.flood_fill.specs.Held.{Sizes}
+use Rattle.flood_fill.specs.Asked.{Linked}
 
 module _ {b : Board} {m : ℕ} (h : Accepted b m) where
   pub sizes-of : Sizes (turfCount b) (linkCount b)
@@ -25,9 +23,6 @@ module _ {b : Board} {m : ℕ} (h : Accepted b m) where
 
   pub parts : Parts (turfCount b) (b .starts) (b .neighbours)
   parts = accepted-parts b h
-
-  pub rows-of : Rows (turfCount b) (linkCount b) (b .flags) (b .planetary) (b .mixtures) (b .linkFlags) (b .immutable)
-  rows-of = record { flags-n = h .flags; planetary-n = h .planets; mixtures-n = h .mixes; mixed = λ r _. h .mixed r; linkFlags-e = h .linkFlags }
 
   pub gas-holds : (gas : List Float) → m ≡ length gas → (r : ℕ) → Holds gas (b .gases) (mixOf b r)
   gas-holds gas e r = holds-of gas (mixtureCount b) (b .gases) (mixOf b r) (sym e ∙ h .fits) (h .mixed r)
@@ -42,15 +37,15 @@ module _ {b : Board} {m : ℕ} (h : Accepted b m) where
         let s : source (b .starts) (getD (upFrom from deg) (k - from) 0) ≡ r = All-getD (λ j. source (b .starts) j ≡ r) (upFrom from deg) (k - from) 0 (sources b h r) (rw (upFrom-length from deg) (omega arith)) in
         ap (source (b .starts)) (sym (upFrom-at from deg (k - from) (omega arith) ∙ omega arith)) ∙ s
 
-    -- its links, handed on as a part of the link list
-    pub part-fits : (from to : ℕ) → from ≡ getD (b .starts) r 0 → to ≡ getD (b .starts) (r + 1) 0 → (w : List ℕ) → Free (b .starts) r w
-        → Part (turfCount b) (linkCount b) (part (b .neighbours) from to) from w
-    part-fits from to ef et w free =
-        let rise = parts .rise r l in
-        let end = parts .end r l in
-        let len : length (part (b .neighbours) from to) ≡ to - from = part-length (b .neighbours) from to (omega arith) (omega arith) in
-        record {
-          rows = λ i j. rw (part-at (b .neighbours) from to i (omega (arith, len))) (h .ends (from + i));
-          links = omega (arith, len);
-          free = λ i j. free (from + i) (omega arith) (omega (arith, len));
-        }
+-- what a walk over links reads is there, whatever the number of gases
+pub linked-of : (rows marks : Slices) (gases : ℕ) {m : ℕ} → Accepted (boardOf rows marks gases) m → Linked (boardOf rows marks 0)
+linked-of rows marks gases h = record {
+  parts = parts h;
+  links = h .links;
+  flags = h .flags;
+  planetary = h .planets;
+  mixtures = h .mixes;
+  linkFlags = h .linkFlags;
+  ends = λ k _. h .ends k;
+  mixed = λ r _. h .mixed r;
+}

@@ -1,4 +1,3 @@
 pub mod Boards
-pub mod Links
 pub mod Pops
 pub mod Zones

@@ -9,17 +9,14 @@ use lib.Ieee.{Float}
 use lib.ListN.{length, getD}
 use lib.Seq.{getD-take}
 use borrow.Author.Tests.{lt-ltb, le-ltb}
-use Rattle.basics.specs.Loops.{run, upFrom}
+use Rattle.basics.specs.Loops.{run}
 use Rattle.basics.specs.Floats.{_+f_}
 use Rattle.basics.specs.Regions.{region}
 use Rattle.basics.proofs.Loops.{All-getD}
-use Rattle.basics.proofs.Parts.{part}
-use Rattle.board_rules.specs.Board.{Board, turfCount, linkCount, idOf, planetary}
-use Rattle.turfs.specs.Tables.{Accepted}
+use Rattle.board_rules.specs.Board.{Board, turfCount, linkCount, planetary, linksOf}
 use Rattle.mixture_rules.specs.Mixture.{total}
 use Rattle.event_rules.specs.declared.Event.{Event}
-use Rattle.fill_rules.specs.Fill.{Reach, Fill, isOn, endFill, expand, pop, popNext}
-use Rattle.flood_fill.specs.Steps.{reachPart}
+use Rattle.fill_rules.specs.Fill.{Reach, Fill, isOn, endFill, reachLink, expand, pop, popNext}
 use Rattle.flood_fill.specs.Held.{sizes, queueAt, view, onReach, Fit, Bounded, Does, Reaches}
 use Rattle.fill_rules.specs.declared.Going.{Going}
 use Rattle.fill_rules.specs.declared.Going.the-variants.{On, Broken, Over}
@@ -27,10 +24,8 @@ use Rattle.flood_fill.specs.declared.Reached.{Reached}
 use Rattle.flood_fill.proofs.Does.{does-plain, does-as}
 use Rattle.flood_fill.proofs.Stores.{queue-at}
 use Rattle.flood_fill.proofs.Links.{queue-length, nodes-length}
-use Rattle.fill_zone.specs.Held.{FillView, fillIn, fillView, onFill, Floods}
+use Rattle.fill_zone.specs.Held.{FillView, fillIn, fillView, onFill, Floods, Moved}
 use Rattle.fill_zone.specs.declared.Flood.{Flood}
-use Rattle.fill_zone.proofs.Boards.{parts}
-use Rattle.fill_zone.proofs.Links.{links-run}
 
 -- ---- the definition's pop
 
@@ -97,38 +92,25 @@ module _ {n e z kept : ℕ} {t : Flood} {w area : List ℕ} (h : Fit n e kept (t
 
 -- ---- a turf that is expanded
 
-pub floods-expand : {b : Board} {m : ℕ} (h : Accepted b m) (gas : List Float) (limit allowance z kept row from to : ℕ) (planet : Bool) (x : Float) (t r : Flood) {w w′ area area′ : List ℕ} → row < turfCount b
-    → from ≡ getD (b .starts) row 0 → to ≡ getD (b .starts) (row + 1) 0 → x ≡ total b gas row → (s : Reached)
-    → Reaches (turfCount b) (linkCount b) z kept
-    (λ q. run (reachPart (b .flags) (b .planetary) (b .mixtures) (b .linkFlags) (b .immutable) (part (b .neighbours) from to) from z (idOf b row)) (upFrom 0 (length (part (b .neighbours) from to))) q)
-    (t .reach) s w w′ area area′ → r ≡ record { reach = s; popped = t .popped + 1; moles = t .moles +f x; planet = planet; tests = t .tests + 1; state = On }
+pub floods-expand : (b : Board) (gas : List Float) (limit allowance z kept row : ℕ) (planet : Bool) (x : Float) (t r : Flood) {w w′ area area′ : List ℕ} → x ≡ total b gas row → (s : Reached)
+    → Reaches (turfCount b) (linkCount b) z kept (λ q. run (reachLink b z row) (linksOf b row) q) (t .reach) s w w′ area area′
+    → r ≡ record { reach = s; popped = t .popped + 1; moles = t .moles +f x; planet = planet; tests = t .tests + 1; state = On }
     → Floods (turfCount b) (linkCount b) z kept (expand b gas limit allowance z row planet) t r w w′ area area′
-floods-expand {b} h gas limit allowance z kept row from to planet x t r {w} {w′} {area} {area′} l ef et ex s d er =
+floods-expand b gas limit allowance z kept row planet x t r {w} {w′} {area} {area′} ex s d er =
     let n : ℕ = turfCount b in
     let e : ℕ = linkCount b in
     let r₁ : Flood = record { reach = s; popped = t .popped + 1; moles = t .moles +f x; planet = planet; tests = t .tests + 1; state = On } in
     subst (λ (y : Flood). Floods n e z kept (expand b gas limit allowance z row planet) t y w w′ area area′) (sym er) (record {
       fit = d .fit;
       bounds = d .bounds;
-      does = does-fill n e kept
-          (λ q. run (reachPart (b .flags) (b .planetary) (b .mixtures) (b .linkFlags) (b .immutable) (part (b .neighbours) from to) from z (idOf b row)) (upFrom 0 (length (part (b .neighbours) from to))) q)
-          (expand b gas limit allowance z row planet) t r₁ w w′ (d .does) (λ es. step (fillView n e kept t w es .fill));
+      does = does-fill n e kept (λ q. run (reachLink b z row) (linksOf b row) q) (expand b gas limit allowance z row planet) t r₁ w w′ (d .does)
+          (λ es. unfold expand in rw ex);
     })
-  where
-    step : (f : Fill)
-        → record { reach = run (reachPart (b .flags) (b .planetary) (b .mixtures) (b .linkFlags) (b .immutable) (part (b .neighbours) from to) from z (idOf b row)) (upFrom 0 (length (part (b .neighbours) from to))) (f .reach); popped = f .popped + 1; moles = f .moles +f x; planet = planet; tests = f .tests + 1; state = On }
-        ≡ expand b gas limit allowance z row planet f
-    step f = unfold expand in
-        rw (links-run b z row from to ef et (omega (arith, parts h .rise row l)) (omega (arith, parts h .end row l)) (f .reach), ex)
 
 -- ---- what a pop comes to
 
--- how many are popped then, and that the clock has not run out where the fill goes on
-abbrev pub Moved : ℕ → Flood → Flood → Type 0
-Moved allowance t r = (r .popped ≡ t .popped + 1) × (r .state ≡ On → r .tests ≤ allowance)
-
 ended-moved : (allowance : ℕ) (t r : Flood) (planet : Bool) (g : Going) → isOn g ≡ false → r ≡ record { reach = t .reach; popped = t .popped + 1; moles = t .moles; planet = planet; tests = t .tests + 1; state = g } → Moved allowance t r
-ended-moved allowance t r planet g o e = (ap (λ (x : Flood). x .popped) e, λ on. absurd (no (ap isOn (sym on ∙ ap (λ (x : Flood). x .state) e) ∙ o)))
+ended-moved allowance t r planet g o e = record { popped = ap (λ (x : Flood). x .popped) e; clock = λ on. absurd (no (ap isOn (sym on ∙ ap (λ (x : Flood). x .state) e) ∙ o)) }
   where
     no : true ≡ false → ⊥
     no i = let q : _≡_ {A = ℕ} 0 1 = cc in omega arith
@@ -175,8 +157,8 @@ module _ (b : Board) (gas : List Float) (limit allowance z kept : ℕ) (t : Floo
             (ap (λ (x : ℕ). expand b gas limit allowance z x planet (at es)) (row-at h bd (t .popped) l q eq es)
             ∙ next-expand b gas limit allowance z (at es) on (there es) early planet (marked es) (limited false room es)));
       },
-      (
-        ap (λ (v : FillView). v .fill .popped) (d .does .same []),
-        λ _. subst (λ (k : ℕ). k ≤ allowance) (sym (ap (λ (v : FillView). v .fill .tests) (d .does .same []))) early,
-      ),
+      record {
+        popped = ap (λ (v : FillView). v .fill .popped) (d .does .same []);
+        clock = λ _. subst (λ (k : ℕ). k ≤ allowance) (sym (ap (λ (v : FillView). v .fill .tests) (d .does .same []))) early;
+      },
     )

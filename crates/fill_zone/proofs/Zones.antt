@@ -30,7 +30,8 @@ use Rattle.flood_fill.proofs.Links.{queue-length, owner-view}
 use Rattle.flood_fill.specs.Start.{startFill}
 use Rattle.flood_fill.proofs.Owned.{Fresh, pops-fresh}
 use Rattle.flood_fill.proofs.Rest.{going, still}
-use Rattle.fill_zone.specs.Held.{FillView, fillIn, fillView, onFill, none, fillFrom, Floods, Starts, Begins, Free, Ready}
+use Rattle.fill_zone.specs.Held.{FillView, fillIn, fillView, onFill, none, fillFrom, Floods, Moved, Starts, AtStart, Begins, StartFits, Ready}
+use Rattle.flood_fill.specs.Asked.{Free}
 use Rattle.fill_zone.specs.declared.Flood.{Flood}
 use Rattle.fill_zone.proofs.Boards.{sizes-of, parts, source-is}
 use Rattle.fill_zone.proofs.Pops.{row-at, row-below}
@@ -121,8 +122,8 @@ module _ {b : Board} {m : ℕ} (h : Accepted b m) (gas : List Float) (limit allo
   unfolding view
   marks = found-long n e w (y .words)
 
-  pub start-asks : Sizes n e × ((row < n) × ((kept < n + e) × (nodesAt n e + n + e + n ≤ length w)))
-  start-asks = (sizes-of h, (y .row, (omega (arith, y .nodes, y .zone), y .words)))
+  pub start-asks : StartFits n e kept row w
+  start-asks = record { sizes = sizes-of h; row = y .row; room = omega (arith, y .nodes, y .zone); words = y .words }
 
   start-bounds : Bounds n e z kept (set found₀ row 1) (row ∷ []) (row ∷ []) owner₀ used area
   start-bounds =
@@ -138,20 +139,20 @@ module _ {b : Board} {m : ℕ} (h : Accepted b m) (gas : List Float) (limit allo
       }
 
   module _ {t : Flood} {w₁ : List ℕ} (s : Starts n e kept used (λ found owner es. startFill row found owner es tests) t w w₁)
-      (at : (t .popped ≡ 0) × ((t .tests ≡ tests) × ((t .state ≡ On) × (t .reach .used ≡ used)))) where
+      (at : AtStart used tests t) where
     first-bounds : Bounded n e z kept (view n e kept (t .reach) w₁ [] .reach) (t .reach .used) area
     unfolding view
     first-bounds =
         subst (λ (r : Reach). Bounded n e z kept r (t .reach .used) area) (sym (ap (λ (v : FillView). v .fill .reach) (s .same [])))
-        (subst (λ (k : ℕ). Bounds n e z kept (set found₀ row 1) (row ∷ []) (row ∷ []) owner₀ k area) (sym (at .1 .1 .1)) start-bounds)
+        (subst (λ (k : ℕ). Bounds n e z kept (set found₀ row 1) (row ∷ []) (row ∷ []) owner₀ k area) (sym (at .bytes)) start-bounds)
 
     pub popping-start : tests ≤ allowance → Popping b gas limit allowance z kept t t w₁ w₁ area area
     unfolding times
     popping-start l = record {
-      done = subst (λ (k : ℕ). Floods n e z kept (times (popNext b gas limit allowance z) k) t t w₁ w₁ area area) (sym (at .0))
+      done = subst (λ (k : ℕ). Floods n e z kept (times (popNext b gas limit allowance z) k) t t w₁ w₁ area area) (sym (at .none))
           (record { fit = s .fit; bounds = first-bounds; does = does-plain (omega (arith, first-bounds .bytes)) (λ es. refl) });
-      few = omega (arith, at .0);
-      clock = λ _. rw (at .1 .0) l;
+      few = omega (arith, at .none);
+      clock = λ _. rw (at .clock) l;
     }
 
     module _ {t′ : Flood} {w′ area′ : List ℕ} (v : Popping b gas limit allowance z kept t t′ w₁ w′ area area′) where
@@ -175,17 +176,17 @@ module _ {b : Board} {m : ℕ} (h : Accepted b m) (gas : List Float) (limit allo
           ∙ fresh .waiting (t′ .popped) k (le-refl (t′ .popped)) (rw (queue-length (v .done .fit) es) l)
           (source-is h r hr k a c ∙ row-at (v .done .fit) (v .done .bounds) (t′ .popped) l (queueAt n e) refl es)
 
-      pub popping-next : t′ .popped < t′ .reach .queued → {t″ : Flood} {w″ area″ : List ℕ} → Floods n e z kept (popNext b gas limit allowance z) t′ t″ w′ w″ area′ area″ → t″ .popped ≡ t′ .popped + 1
-          → (t″ .state ≡ On → t″ .tests ≤ allowance) → Popping b gas limit allowance z kept t t″ w₁ w″ area area″
-      popping-next l {t″} {w″} {area″} d p q = record {
-        done = subst (λ (k : ℕ). Floods n e z kept (times (popNext b gas limit allowance z) k) t t″ w₁ w″ area area″) (sym p) (record {
+      pub popping-next : t′ .popped < t′ .reach .queued → {t″ : Flood} {w″ area″ : List ℕ} → Floods n e z kept (popNext b gas limit allowance z) t′ t″ w′ w″ area′ area″ → Moved allowance t′ t″
+          → Popping b gas limit allowance z kept t t″ w₁ w″ area area″
+      popping-next l {t″} {w″} {area″} d q = record {
+        done = subst (λ (k : ℕ). Floods n e z kept (times (popNext b gas limit allowance z) k) t t″ w₁ w″ area area″) (sym (q .popped)) (record {
           fit = d .fit;
           bounds = d .bounds;
           does = does-as (does-then (v .done .does) (d .does))
               (λ es. ap (λ (x : Fill). onFill (λ _. x) (fillView n e kept t w₁ es)) (times-last (popNext b gas limit allowance z) (t′ .popped) (fillView n e kept t w₁ es .fill)));
         });
-        few = omega (arith, p, l, v .done .fit .queue);
-        clock = q;
+        few = omega (arith, q .popped, l, v .done .fit .queue);
+        clock = q .clock;
       }
 
       pub popping-end : (isOn (t′ .state) && ltb (t′ .popped) (t′ .reach .queued)) ≡ false
@@ -195,7 +196,7 @@ module _ {b : Board} {m : ℕ} (h : Accepted b m) (gas : List Float) (limit allo
         fit = v .done .fit;
         bounds = v .done .bounds;
         does =
-            does-as (does-then (subst (λ (k : ℕ). Does (fillFrom (λ found owner es. startFill row found owner es tests)) (view n e kept (none used) w) (fillView n e kept t w₁) used k area area) (sym (at .1 .1 .1))
+            does-as (does-then (subst (λ (k : ℕ). Does (fillFrom (λ found owner es. startFill row found owner es tests)) (view n e kept (none used) w) (fillView n e kept t w₁) used k area area) (sym (at .bytes))
             (does-plain (omega (arith, y .bytes)) (s .same))) (v .done .does))
             (λ es. ap (λ (x : Fill). fillFrom (λ _ _ _. x) (view n e kept (none used) w es))
             (times-rest (popNext b gas limit allowance z) (t′ .popped) n (fillFrom (λ found owner fs. startFill row found owner fs tests) (view n e kept (none used) w es) .fill) (v .few)

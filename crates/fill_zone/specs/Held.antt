@@ -2,18 +2,17 @@
 use Prim.Native.Nat.{ℕ, _+_, _*_, _≤_, _<_}
 use mathlib.Core.Path.{_≡_}
 use mathlib.Core.List.{List, []}
-use mathlib.Core.Bool.{Bool, true, false}
+use mathlib.Core.Bool.{false}
 use lib.ListN.{length, getD}
-use lib.Ieee.{Float}
-use Rattle.basics.specs.Loops.{times}
-use Rattle.basics.specs.Floats.{0f}
 use Rattle.board_rules.specs.Board.{Board, turfCount, linkCount}
 use Rattle.turfs.specs.Tables.{source}
 use Rattle.event_rules.specs.declared.Event.{Event}
-use Rattle.fill_rules.specs.Fill.{Reach, Fill, isOn, popNext, fill}
-use Rattle.flood_fill.specs.Held.{nodesAt, Still, View, view, Fit, Bounded, Does, zeros}
-use Rattle.flood_fill.specs.Start.{startFill}
+use Rattle.fill_rules.specs.Fill.{Fill}
+use Rattle.flood_fill.specs.Held.{queueAt, nodesAt, Sizes, Still, View, view, Fit, Bounded, Does, zeros}
+use Rattle.flood_fill.specs.Asked.{Free, Walking, TurfFits}
 use Rattle.flood_fill.specs.declared.Reached.{Reached}
+use Rattle.flood_fill.specs.declared.Slot.{Slot}
+use Rattle.fill_rules.specs.declared.Going.the-variants.{On}
 use Rattle.fill_zone.specs.declared.Flood.{Flood}
 
 -- what the words hold while a fill goes on
@@ -47,10 +46,22 @@ pub record Floods (n e z kept : ℕ) (f : Fill → Fill) (t t′ : Flood) (w w�
   pub bounds : Bounded n e z kept (view n e kept (t′ .reach) w′ [] .reach) (t′ .reach .used) area′
   pub does : Does (onFill f) (fillView n e kept t w) (fillView n e kept t′ w′) (t .reach .used) (t′ .reach .used) area area′
 
+-- what a pop comes to: how many are popped then, and that the clock has not run out where the fill goes on
+pub record Moved (allowance : ℕ) (t r : Flood) : Type 0 where
+  pub popped : r .popped ≡ t .popped + 1
+  pub clock : r .state ≡ On → r .tests ≤ allowance
+
 -- to the fill's first turf, with no event written
 pub record Starts (n e kept used : ℕ) (f : List ℕ → List ℕ → List Event → Fill) (t : Flood) (w w′ : List ℕ) : Type 0 where
   pub fit : Fit n e kept (t .reach) w′
   pub same : (es : List Event) → fillView n e kept t w′ es ≡ fillFrom f (view n e kept (none used) w es)
+
+-- with so many bytes written and clock tests made
+pub record AtStart (used tests : ℕ) (t : Flood) : Type 0 where
+  pub none : t .popped ≡ 0
+  pub clock : t .tests ≡ tests
+  pub on : t .state ≡ On
+  pub bytes : t .reach .used ≡ used
 
 -- by a fill f that starts from what the words hold
 pub record Begins (n e z kept used : ℕ) (f : List ℕ → List ℕ → List Event → Fill) (t : Flood) (w w′ area area′ : List ℕ) : Type 0 where
@@ -58,9 +69,29 @@ pub record Begins (n e z kept used : ℕ) (f : List ℕ → List ℕ → List Ev
   pub bounds : Bounded n e z kept (view n e kept (t .reach) w′ [] .reach) (t .reach .used) area′
   pub does : Does (fillFrom f) (view n e kept (none used) w) (fillView n e kept t w′) used (t .reach .used) area area′
 
--- the links of the row r, by its starts, have no owner yet
-abbrev pub Free : List ℕ → ℕ → List ℕ → Type 0
-Free starts r w = (k : ℕ) → getD starts r 0 ≤ k → k < getD starts (r + 1) 0 → getD w k 0 ≡ 0
+-- ---- what the functions are asked
+
+-- room for the first turf, at the row r
+pub record StartFits (n e kept r : ℕ) (w : List ℕ) : Type 0 where
+  pub sizes : Sizes n e
+  pub row : r < n
+  pub room : kept < n + e
+  pub words : nodesAt n e + n + e + n ≤ length w
+
+-- a turf to expand, at the row r, after a fill that has come to t
+pub record ExpandFits (b : Board) (slot : Slot) (r : ℕ) (t : Flood) (w area : List ℕ) : Type 0 where
+  pub walking : Walking (turfCount b) (linkCount b) slot (t .reach) w area
+  pub turf : TurfFits b r w
+  pub popped : t .popped < 4096
+  pub tests : t .tests < 4294967296
+
+-- a turf to pop
+pub record PopFits (b : Board) (slot : Slot) (allowance : ℕ) (t : Flood) (w area : List ℕ) : Type 0 where
+  pub walking : Walking (turfCount b) (linkCount b) slot (t .reach) w area
+  pub on : t .state ≡ On
+  pub left : t .popped < t .reach .queued
+  pub clock : t .tests ≤ allowance
+  pub free : Free (b .starts) (getD w (queueAt (turfCount b) (linkCount b) + t .popped) 0) w
 
 -- what a fill of zone z from the row r is asked: a turf that no zone found, the links of such turfs without owner, room
 pub record Ready (b : Board) (z kept used r : ℕ) (w area : List ℕ) : Type 0 where

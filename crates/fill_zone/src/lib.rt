@@ -1,18 +1,24 @@
 // One zone: `flood_fill_zones` pop by pop.
 use fill_rules::Going;
+use fill_rules::Settings;
 use flood_fill::Reached;
+use flood_fill::Slot;
+use turfs::IDS;
+use turfs::MIXTURES;
+use turfs::Marks;
+use turfs::NEIGHBOURS;
+use turfs::PLANETARY;
+use turfs::Rows;
 ghost use mathlib.Core.Path.{_≡_};
-ghost use mathlib.Core.Bool.{true, not, _&&_, _||_};
-ghost use mathlib.Core.List.{[]};
+ghost use mathlib.Core.Bool.{not, _&&_, _||_};
 ghost use Prim.Native.Nat.{ℕ, _+_, _≤_, _<_};
 ghost use lib.Dec.{eqb, ltb};
-ghost use lib.ListN.{length, getD};
-ghost use Rattle.turfs.specs.Tables.{board, Accepted};
+ghost use lib.ListN.{length};
+ghost use Rattle.board_rules.specs.Board.{turfCount, linkCount};
+ghost use Rattle.turfs.specs.Tables.{boardAt, Accepted};
 ghost use Rattle.fill_rules.specs.Fill.{isOn, expand, popNext, fill};
-ghost use Rattle.flood_fill.specs.Held.{queueAt, nodesAt, Sizes, view, Fit, Bounded};
 ghost use Rattle.flood_fill.specs.Start.{startFill};
-ghost use Rattle.fill_rules.specs.declared.Going.the-variants.{On};
-ghost use Rattle.fill_zone.specs.Held.{Floods, Starts, Begins, Free, Ready};
+ghost use Rattle.fill_zone.specs.Held.{Floods, Moved, Starts, AtStart, Begins, StartFits, ExpandFits, PopFits, Ready};
 
 // How far a fill has come.
 pub struct Flood {
@@ -24,9 +30,19 @@ pub struct Flood {
     pub state: Going,
 }
 
+// Where a fill starts: from the turf at `row`, as zone z after zones that have `kept` nodes, with so many bytes written and clock tests made.
+pub struct Seed {
+    pub row: u32,
+    pub z: u32,
+    pub kept: usize,
+    pub used: usize,
+    pub tests: usize,
+}
+
 // A popped turf that ends the fill.
 fn ended(state: Going, planet: bool, t: Flood) -> Flood
-    requires { ⌜ (t .popped < 4096) × (t .tests < 4294967296) ⌝ }
+    requires { ⌜ t .popped < 4096 ⌝ }
+    requires { ⌜ t .tests < 4294967296 ⌝ }
     ensures { λ r. ⌜ r ≡ record { reach = t .reach; popped = t .popped + 1; moles = t .moles; planet = planet; tests = t .tests + 1; state = state } ⌝ }
 {
     let reach = t.reach;
@@ -40,6 +56,7 @@ fn ended(state: Going, planet: bool, t: Flood) -> Flood
     }
 }
 
+// Whether a zone is a planet's, with this turf.
 fn is_planet(marked: bool, planetary: u8) -> bool
     ensures { λ r. ⌜ r ≡ (marked || not (eqb planetary 0)) ⌝ }
 {
@@ -64,49 +81,23 @@ fn expand(
     row: u32,
     planet: bool,
     t: Flood,
-    z: u32,
-    kept: usize,
-    ids: &[u32],
-    flags: &[u8],
-    planetary: &[u8],
-    mixtures: &[u32],
-    starts: &[u32],
-    neighbours: &[u32],
-    link_flags: &[u8],
-    immutable: &[u8],
+    slot: Slot,
+    rows: &Rows,
+    marks: &Marks,
     gases: usize,
     gas: &[f32],
     words: &mut [u32],
-    area: &mut [u8],
+    events: &mut [u8],
 ) -> Flood
-    requires { ⌜ Accepted (board (now ids) (now flags) (now planetary) (now mixtures) (now starts) (now neighbours) (now «link_flags») (now immutable) gases) (length (now gas)) ⌝ }
-    requires { ⌜ Fit (length (now ids)) (length (now neighbours)) kept (t .reach) (now words) × Bounded (length (now ids)) (length (now neighbours)) z kept (view (length (now ids)) (length (now neighbours)) kept (t .reach) (now words) [] .reach) (t .reach .used) (now area) ⌝ }
-    requires { ⌜ (row < length (now ids)) × ((t .popped < 4096) × ((t .tests < 4294967296) × Free (now starts) row (now words))) ⌝ }
-    ensures { λ r. ⌜ ((limit allowance : ℕ) → Floods (length (now (ids .entry))) (length (now (neighbours .entry))) z kept (expand (board (now (ids .entry)) (now (flags .entry)) (now (planetary .entry)) (now (mixtures .entry)) (now (starts .entry)) (now (neighbours .entry)) (now («link_flags» .entry)) (now (immutable .entry)) gases) (now (gas .entry)) limit allowance z row planet) t r (now (words .entry)) (now (words .exit)) (now (area .entry)) (now (area .exit))) ⌝ }
+    requires { ⌜ Accepted (boardAt rows marks gases) (length (now gas)) ⌝ }
+    requires { ⌜ ExpandFits (boardAt rows marks gases) slot row t (now words) (now events) ⌝ }
+    ensures { λ r. let b = boardAt (rows .entry) (marks .entry) gases in ⌜ ((limit allowance : ℕ) → Floods (turfCount b) (linkCount b) (slot .z) (slot .kept)
+        (expand b (now (gas .entry)) limit allowance (slot .z) row planet) t r
+        (now (words .entry)) (now (words .exit)) (now (events .entry)) (now (events .exit))) ⌝ }
 {
-    let at = row as usize;
-    let links = turfs::links_of(starts, at);
-    let from = links.from;
-    let to = links.to;
-    let total = mixture::total(mixtures, gas, gases, at);
+    let total = mixture::total(rows[MIXTURES], gas, gases, row as usize);
     let s = t.reach;
-    let reach = flood_fill::reach_links(
-        &neighbours[from..to],
-        from,
-        z,
-        ids[at],
-        s,
-        kept,
-        ids.len(),
-        neighbours.len(),
-        flags,
-        planetary,
-        mixtures,
-        link_flags,
-        immutable,
-        words,
-        area,
-    );
+    let reach = flood_fill::reach_links(row, slot, s, rows, marks, words, events);
     Flood {
         reach,
         popped: t.popped + 1,
@@ -120,58 +111,36 @@ fn expand(
 // The next pop: its clock test, the planet limit, its total, its links.
 fn pop(
     t: Flood,
-    z: u32,
-    kept: usize,
-    limit: u32,
-    allowance: u32,
-    ids: &[u32],
-    flags: &[u8],
-    planetary: &[u8],
-    mixtures: &[u32],
-    starts: &[u32],
-    neighbours: &[u32],
-    link_flags: &[u8],
-    immutable: &[u8],
+    slot: Slot,
+    settings: Settings,
+    rows: &Rows,
+    marks: &Marks,
     gases: usize,
     gas: &[f32],
     words: &mut [u32],
-    area: &mut [u8],
+    events: &mut [u8],
 ) -> Flood
-    requires { ⌜ Accepted (board (now ids) (now flags) (now planetary) (now mixtures) (now starts) (now neighbours) (now «link_flags») (now immutable) gases) (length (now gas)) ⌝ }
-    requires { ⌜ Fit (length (now ids)) (length (now neighbours)) kept (t .reach) (now words) × Bounded (length (now ids)) (length (now neighbours)) z kept (view (length (now ids)) (length (now neighbours)) kept (t .reach) (now words) [] .reach) (t .reach .used) (now area) ⌝ }
-    requires { ⌜ (t .state ≡ On) × ((t .popped < t .reach .queued) × ((t .tests ≤ allowance) × Free (now starts) (getD (now words) (queueAt (length (now ids)) (length (now neighbours)) + t .popped) 0) (now words))) ⌝ }
-    ensures { λ r. ⌜ Floods (length (now (ids .entry))) (length (now (neighbours .entry))) z kept (popNext (board (now (ids .entry)) (now (flags .entry)) (now (planetary .entry)) (now (mixtures .entry)) (now (starts .entry)) (now (neighbours .entry)) (now («link_flags» .entry)) (now (immutable .entry)) gases) (now (gas .entry)) limit allowance z) t r (now (words .entry)) (now (words .exit)) (now (area .entry)) (now (area .exit)) ⌝ }
-    ensures { λ r. ⌜ (r .popped ≡ t .popped + 1) × (r .state ≡ On → r .tests ≤ allowance) ⌝ }
+    requires { ⌜ Accepted (boardAt rows marks gases) (length (now gas)) ⌝ }
+    requires { ⌜ PopFits (boardAt rows marks gases) slot (settings .allowance) t (now words) (now events) ⌝ }
+    ensures { λ r. let b = boardAt (rows .entry) (marks .entry) gases in ⌜ Floods (turfCount b) (linkCount b) (slot .z) (slot .kept)
+        (popNext b (now (gas .entry)) (settings .limit) (settings .allowance) (slot .z)) t r
+        (now (words .entry)) (now (words .exit)) (now (events .entry)) (now (events .exit)) ⌝ }
+    ensures { λ r. ⌜ Moved (settings .allowance) t r ⌝ }
 {
+    let ids = rows[IDS];
+    let neighbours = rows[NEIGHBOURS];
+    let planetary = marks[PLANETARY];
     let popped = t.popped;
     let row = words[index_set::queue_at(ids.len(), neighbours.len()) + popped];
-    if (allowance as usize) < t.tests + 1 {
+    if (settings.allowance as usize) < t.tests + 1 {
         return ended(Going::Over, t.planet, t);
     }
     let planet = is_planet(t.planet, planetary[row as usize]);
     let s = t.reach;
-    if breaks(planet, s.nodes, limit) {
+    if breaks(planet, s.nodes, settings.limit) {
         return ended(Going::Broken, planet, t);
     }
-    expand(
-        row,
-        planet,
-        t,
-        z,
-        kept,
-        ids,
-        flags,
-        planetary,
-        mixtures,
-        starts,
-        neighbours,
-        link_flags,
-        immutable,
-        gases,
-        gas,
-        words,
-        area,
-    )
+    expand(row, planet, t, slot, rows, marks, gases, gas, words, events)
 }
 
 // Whether there is another pop.
@@ -188,87 +157,60 @@ fn goes_on(t: Flood) -> bool
 }
 
 // The first turf of a zone is found, pushed, and a node.
-fn start(
-    row: u32,
-    used: usize,
-    tests: usize,
-    kept: usize,
-    n: usize,
-    e: usize,
-    words: &mut [u32],
-) -> Flood
-    requires { ⌜ Sizes n e × ((row < n) × ((kept < n + e) × (nodesAt n e + n + e + n ≤ length (now words)))) ⌝ }
-    ensures { λ r. ⌜ Starts n e kept used (λ found owner es. startFill row found owner es tests) r (now (words .entry)) (now (words .exit)) ⌝ }
-    ensures { λ r. ⌜ (r .popped ≡ 0) × ((r .tests ≡ tests) × ((r .state ≡ On) × (r .reach .used ≡ used))) ⌝ }
+fn start(seed: Seed, n: usize, e: usize, words: &mut [u32]) -> Flood
+    requires { ⌜ StartFits n e (seed .kept) (seed .row) (now words) ⌝ }
+    ensures { λ r. ⌜ Starts n e (seed .kept) (seed .used) (λ found owner es. startFill (seed .row) found owner es (seed .tests)) r (now (words .entry)) (now (words .exit)) ⌝ }
+    ensures { λ r. ⌜ AtStart (seed .used) (seed .tests) r ⌝ }
 {
+    let row = seed.row;
     words[flood_fill::found_at(n, e) + row as usize] = 1;
     words[index_set::queue_at(n, e)] = row;
-    let first = flood_fill::nodes_at(n, e) + kept;
+    let first = flood_fill::nodes_at(n, e) + seed.kept;
     let places = index_set::places_at(n, e);
     index_set::insert(row, 0, first, places, words);
     let reach = Reached {
         queued: 1,
         nodes: 1,
         ignored: false,
-        used,
+        used: seed.used,
     };
     Flood {
         reach,
         popped: 0,
         moles: 0.0,
         planet: false,
-        tests,
+        tests: seed.tests,
         state: Going::On,
     }
 }
 
-// The zone z from the turf at `row`; the zones kept so far have `kept` nodes.
+// The zone from the seed.
 pub fn flood_fill(
-    row: u32,
-    z: u32,
-    used: usize,
-    tests: usize,
-    kept: usize,
-    limit: u32,
-    allowance: u32,
-    ids: &[u32],
-    flags: &[u8],
-    planetary: &[u8],
-    mixtures: &[u32],
-    starts: &[u32],
-    neighbours: &[u32],
-    link_flags: &[u8],
-    immutable: &[u8],
+    seed: Seed,
+    settings: Settings,
+    rows: &Rows,
+    marks: &Marks,
     gases: usize,
     gas: &[f32],
     words: &mut [u32],
-    area: &mut [u8],
+    events: &mut [u8],
 ) -> Flood
-    requires { ⌜ Accepted (board (now ids) (now flags) (now planetary) (now mixtures) (now starts) (now neighbours) (now «link_flags») (now immutable) gases) (length (now gas)) ⌝ }
-    requires { ⌜ Ready (board (now ids) (now flags) (now planetary) (now mixtures) (now starts) (now neighbours) (now «link_flags») (now immutable) gases) z kept used row (now words) (now area) × (tests ≤ allowance) ⌝ }
-    ensures { λ r. ⌜ Begins (length (now (ids .entry))) (length (now (neighbours .entry))) z kept used (λ found owner es. fill (board (now (ids .entry)) (now (flags .entry)) (now (planetary .entry)) (now (mixtures .entry)) (now (starts .entry)) (now (neighbours .entry)) (now («link_flags» .entry)) (now (immutable .entry)) gases) (now (gas .entry)) limit allowance z row found owner es tests) r (now (words .entry)) (now (words .exit)) (now (area .entry)) (now (area .exit)) ⌝ }
+    requires { ⌜ Accepted (boardAt rows marks gases) (length (now gas)) ⌝ }
+    requires { ⌜ Ready (boardAt rows marks gases) (seed .z) (seed .kept) (seed .used) (seed .row) (now words) (now events) ⌝ }
+    requires { ⌜ seed .tests ≤ settings .allowance ⌝ }
+    ensures { λ r. let b = boardAt (rows .entry) (marks .entry) gases in ⌜ Begins (turfCount b) (linkCount b) (seed .z) (seed .kept) (seed .used)
+        (λ found owner es. fill b (now (gas .entry)) (settings .limit) (settings .allowance) (seed .z) (seed .row) found owner es (seed .tests)) r
+        (now (words .entry)) (now (words .exit)) (now (events .entry)) (now (events .exit)) ⌝ }
 {
-    let mut t = start(row, used, tests, kept, ids.len(), neighbours.len(), words);
+    let ids = rows[IDS];
+    let neighbours = rows[NEIGHBOURS];
+    let slot = Slot {
+        z: seed.z,
+        kept: seed.kept,
+    };
+    let mut t = start(seed, ids.len(), neighbours.len(), words);
     while goes_on(t) {
-        t = pop(
-            t,
-            z,
-            kept,
-            limit,
-            allowance,
-            ids,
-            flags,
-            planetary,
-            mixtures,
-            starts,
-            neighbours,
-            link_flags,
-            immutable,
-            gases,
-            gas,
-            words,
-            area,
-        );
+        t = pop(t, slot, settings, rows, marks, gases, gas, words, events);
     }
     t
 }

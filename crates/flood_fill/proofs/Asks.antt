@@ -1,9 +1,9 @@
 -- Requests of a link, and a neighbour that is found: each request is eight bytes after those that were written. Assumes nothing.
-use Prim.Native.Nat.{ℕ, zero, suc, _+_, _≤_, _<_}
+use Prim.Native.Nat.{ℕ, _+_, _≤_}
 use native.Mathlib.Omega.{arith}
-use mathlib.Core.Path.{_≡_, refl, ap, ap₂, _∙_, sym, subst}
+use mathlib.Core.Path.{_≡_, refl, ap, _∙_, sym, subst}
 use mathlib.Core.List.{List, [], _∷_, _++_, append-nil}
-use mathlib.Core.Bool.{Bool, true, false, _||_, cond}
+use mathlib.Core.Bool.{Bool, true, false, _||_}
 use lib.ListN.{length}
 use Rattle.event_rules.specs.Events.{encode, encodeAll, kindOf, sizeOf}
 use Rattle.events.specs.Area.{Wrote}

@@ -1,6 +1,6 @@
 -- Steps one after the other: what the second writes stands after what the first wrote. Assumes nothing.
 use Prim.Native.Nat.{ℕ, _≤_}
-use mathlib.Core.Path.{_≡_, refl, ap, _∙_, sym, subst}
+use mathlib.Core.Path.{_≡_, ap, _∙_, sym, subst}
 use mathlib.Core.List.{List, [], _++_, append-assoc, append-nil}
 use lib.ListN.{length}
 use Rattle.event_rules.specs.Events.{encodeAll}

@@ -1,25 +1,28 @@
 -- One link of a turf, then its links one after the other. A link that the turf has not taken yet has no owner. Assumes nothing.
-use Prim.Native.Nat.{ℕ, _+_, _*_, _≤_, _<_}
+use Prim.Native.Nat.{ℕ, _+_, _-_, _≤_, _<_}
 use native.Mathlib.Omega.{arith}
-use native.Mathlib.Nat.{zero-add}
-use mathlib.Core.Path.{_≡_, refl, ap, ap₂, _∙_, sym, subst}
-use mathlib.Core.Logic.{_≢_}
-use mathlib.Core.List.{List, [], _∷_, _++_}
-use mathlib.Core.Bool.{Bool, true, false, cond}
+use mathlib.Core.Path.{_≡_, refl, ap, _∙_, sym, subst}
+use mathlib.Core.List.{List, [], _∷_, _++_, append-nil, append-assoc}
+use mathlib.Core.Bool.{Bool, true, false, not, _&&_, _||_, cond}
 use lib.Dec.{eqb}
-use lib.ListN.{length, getD, set, take, drop, length-drop}
+use lib.ListN.{length, getD, set, drop, length-drop}
 use lib.Seq.{length-take-le}
 use borrow.Author.Tests.{eq-eqb, ne-eqb}
-use Rattle.basics.specs.Loops.{run, upFrom}
-use Rattle.basics.specs.Regions.{cut, region}
+use Rattle.basics.specs.Loops.{run, upFrom, snoc}
+use Rattle.basics.specs.Regions.{region}
 use Rattle.basics.specs.Lists.{one}
-use Rattle.basics.proofs.Loops.{run-suc}
+use Rattle.basics.proofs.Loops.{run-suc, run-up-end, run-same}
+use Rattle.board_rules.specs.Board.{Board, turfCount, linkCount, idOf, end, enabled, planetary, immutable, firelock, linksOf}
+use Rattle.turfs.specs.Tables.{Slices, boardOf}
 use Rattle.event_rules.specs.declared.Event.{Event}
+use Rattle.event_rules.specs.declared.Event.the-variants.{DepressurizeWanted, PlanetWanted}
 use Rattle.events.proofs.Areas.{wrote-length}
-use Rattle.fill_rules.specs.Fill.{Reach}
-use Rattle.flood_fill.specs.Steps.{metAt, Rows, edgeTo, mark, discover, reachMet, reachPart}
-use Rattle.flood_fill.specs.Held.{sizes, nodesAt, foundAt, View, view, onReach, zeros, Fit, Bounds, Bounded, Does, Moves, Discovers, Reaches}
+use Rattle.fill_rules.specs.Fill.{Reach, insert, reachLink}
+use Rattle.flood_fill.specs.Steps.{metAt, edgeTo, mark, push, askSpace, askPlanet, discover, reachMet}
+use Rattle.flood_fill.specs.Held.{sizes, foundAt, View, view, onReach, Fit, Bounded, Does, Moves, Discovers, Reaches}
+use Rattle.flood_fill.specs.Asked.{Linked, Walking, EdgeFits, PushFits, LinkFits}
 use Rattle.flood_fill.specs.declared.Reached.{Reached}
+use Rattle.flood_fill.specs.declared.Slot.{Slot}
 use Rattle.flood_fill.specs.declared.Met.{Met}
 use Rattle.flood_fill.proofs.Does.{does-plain, does-then, does-as}
 use Rattle.flood_fill.proofs.Stores.{owner-at, found-at, nodes-long, queue-long, marked-more, moves-then}
@@ -63,13 +66,36 @@ met-new : (m : Met) (k z id : ℕ) (r : Reach) → eqb (getD (r .found) (m .row)
 unfolding reachMet
 met-new m k z id r t = simp t
 
-module _ (m : Met) (k z id : ℕ) {n e kept : ℕ} {s : Reached} {w area : List ℕ} (h : Fit n e kept s w) (b : Bounded n e z kept (view n e kept s w [] .reach) (s .used) area)
-    (hk : k < e) (hm : m .row < n) (free : getD w k 0 ≡ 0) where
-  unowned : getD (view n e kept s w [] .reach .owner) k 0 ≡ 0
-  unowned = sym (owner-view h [] k hk) ∙ free
+module _ (m : Met) (k id : ℕ) {n e : ℕ} {slot : Slot} {s : Reached} {w area : List ℕ} (at-link : Walking n e slot s w area) (fits : LinkFits n e m k w) where
+  abbrev z : ℕ
+  z = slot .z
 
-  pub edge-asks : Fit n e kept s w × ((k < e) × ((m .row < n) × ((z < n) × (kept + s .nodes < n + e))))
-  edge-asks = (h, (hk, (hm, (b .zone, omega (arith, node-room m k z id n e kept (view n e kept s w [] .reach) b hk hm unowned, nodes-length h [])))))
+  abbrev kept : ℕ
+  kept = slot .kept
+
+  h : Fit n e kept s w
+  h = at-link .fit
+
+  b : Bounded n e z kept (view n e kept s w [] .reach) (s .used) area
+  b = at-link .bounds
+
+  hk : k < e
+  hk = fits .link
+
+  hm : m .row < n
+  hm = fits .row
+
+  unowned : getD (view n e kept s w [] .reach .owner) k 0 ≡ 0
+  unowned = sym (owner-view h [] k hk) ∙ fits .free
+
+  pub edge-asks : EdgeFits n e slot m k s w
+  edge-asks = record {
+    fit = h;
+    link = hk;
+    row = hm;
+    zone = b .zone;
+    room = omega (arith, node-room m k z id n e kept (view n e kept s w [] .reach) b hk hm unowned, nodes-length h []);
+  }
 
   module _ {t : Reached} {w₁ : List ℕ} (d : Moves n e kept (edgeTo m k z) s t w w₁) (at : ℕ) (ea : at ≡ foundAt n e + m .row) where
     both : Moves n e kept (λ r. mark (m .row) (edgeTo m k z r)) s t w (set w₁ at 1)
@@ -101,16 +127,14 @@ module _ (m : Met) (k z id : ℕ) {n e kept : ℕ} {s : Reached} {w area : List 
       unfolding mark edgeTo
       same-queue = ap (λ (v : View). length (v .reach .queue)) (both .same [])
 
-      pub discover-asks : Fit n e kept t (set w₁ at 1) × ((m .row < n) × ((t .queued < n) × (t .used + 16 ≤ length area)))
+      pub discover-asks : PushFits n e slot m t (set w₁ at 1) × (t .used + 16 ≤ length area)
       discover-asks = (
-        both .fit,
-        (
-          hm,
-          (
-            omega (arith, queue-length (both .fit) [], same-queue, queue-room m k z id n e kept (view n e kept s w [] .reach) b hk hm (new [])),
-            omega (arith, d .used, bytes-room m k z id n e kept (view n e kept s w [] .reach) b hk hm (new [])),
-          ),
-        ),
+        record {
+          fit = both .fit;
+          row = hm;
+          room = omega (arith, queue-length (both .fit) [], same-queue, queue-room m k z id n e kept (view n e kept s w [] .reach) b hk hm (new []));
+        },
+        omega (arith, d .used, bytes-room m k z id n e kept (view n e kept s w [] .reach) b hk hm (new [])),
       )
 
       pub reach-new : {u : Reached} {w′ area′ : List ℕ} → Discovers n e kept (discover m id) t u (set w₁ at 1) w′ area area′ → Reaches n e z kept (reachMet m k z id) s u w w′ area area′
@@ -127,66 +151,136 @@ module _ (m : Met) (k z id : ℕ) {n e kept : ℕ} {s : Reached} {w area : List 
 
 -- ---- the neighbour that is met
 
-module _ {n e : ℕ} {flags planetary mixtures linkFlags immutable : List ℕ} (t : Rows n e flags planetary mixtures linkFlags immutable) (k a : ℕ) (hk : k < e) (ha : a < n) where
-  pub met-fits : ((a < length flags) × ((a < length planetary) × (k < length linkFlags))) × ((a < length mixtures) × (getD mixtures a 0 < length immutable))
-  met-fits = ((rw (t .flags-n) ha, (rw (t .planetary-n) ha, rw (t .linkFlags-e) hk)), (rw (t .mixtures-n) ha, t .mixed a ha))
+pub met-row : {b : Board} → Linked b → (k : ℕ) → k < linkCount b → (m : Met) → m ≡ metAt b k → m .row < turfCount b
+unfolding metAt
+met-row {b} t k l m e = subst (λ (x : Met). x .row < turfCount b) (sym e) (t .ends k l)
 
-  pub met-row : (m : Met) → m ≡ metAt flags planetary mixtures linkFlags immutable k a → m .row < n
-  unfolding metAt
-  met-row m e = subst (λ (x : Met). x .row < n) (sym e) ha
+module _ (b : Board) (z r k : ℕ) where
+  abbrev a : ℕ
+  a = end b k
 
-pub part-step : (flags planetary mixtures linkFlags immutable near : List ℕ) (from z id i : ℕ) (m : Met) → m ≡ metAt flags planetary mixtures linkFlags immutable (from + i) (getD near i 0)
-    → (r : Reach) → reachMet m (from + i) z id r ≡ reachPart flags planetary mixtures linkFlags immutable near from z id i r
-unfolding reachPart
-part-step flags planetary mixtures linkFlags immutable near from z id i m e r = ap (λ (x : Met). reachMet x (from + i) z id r) e
+  abbrev asks : Bool → Bool → List Event
+  asks x y = cond x (DepressurizeWanted (idOf b r) ∷ []) [] ++ cond y (PlanetWanted (idOf b r) ∷ []) []
+
+  -- the definition's link is the code's
+  link-met : (s : Reach) → reachMet (metAt b k) k z (idOf b r) s ≡ reachLink b z r k s
+  unfolding reachLink reachMet metAt edgeTo mark push askSpace askPlanet discover
+  link-met s = go (eqb (getD (s .found) a 0) 0) (s .ignored)
+    where
+      on : Bool
+      on = enabled b a
+
+      sp : Bool
+      sp = immutable b a
+
+      pl : Bool
+      pl = planetary b a && firelock b k
+
+      same : List ℕ → Bool → List Event → Reach
+      same q ig es = record {
+        found = set (s .found) a 1;
+        queue = q;
+        nodes = cond on (insert a (s .nodes)) (s .nodes);
+        owner = cond on (set (s .owner) k (z + 1)) (s .owner);
+        ignored = ig;
+        events = es;
+      }
+
+      pushed : List ℕ
+      pushed = cond on (snoc (s .queue) a) (s .queue)
+
+      space : List Event
+      space = cond sp (DepressurizeWanted (idOf b r) ∷ []) []
+
+      planet : List Event
+      planet = cond pl (PlanetWanted (idOf b r) ∷ []) []
+
+      go : (t ig : Bool)
+          → cond t (cond ig (same pushed ig (s .events)) (same pushed (ig || sp) ((s .events ++ space) ++ planet))) (same (s .queue) ig (s .events))
+          ≡ same (cond (t && on) (snoc (s .queue) a) (s .queue)) (ig || (t && not ig && sp)) (s .events ++ asks (t && not ig && sp) (t && not ig && pl))
+      go true true = ap (same pushed true) (sym (append-nil (s .events)))
+      go true false = ap (same pushed sp) (append-assoc (s .events) space planet)
+      go false true = ap (same (s .queue) true) (sym (append-nil (s .events)))
+      go false false = ap (same (s .queue) false) (sym (append-nil (s .events)))
 
 -- ---- one link after the other
 
--- the last of the numbers 0, 1, ..
-pub run-last : {S : Type 0} (f : ℕ → S → S) (n : ℕ) (s : S) → run f (upFrom 0 (n + 1)) s ≡ f n (run f (upFrom 0 n) s)
-run-last f n s = run-suc f 0 n s ∙ ap (λ (k : ℕ). f k (run f (upFrom 0 n) s)) (zero-add n)
+-- the code's link k of the turf with this id
+abbrev pub reachBy : Board → ℕ → ℕ → ℕ → Reach → Reach
+reachBy b z id k r = reachMet (metAt b k) k z id r
 
--- i of `count` links are walked: those that are left have no owner
-pub record Walked (n e z kept : ℕ) (f : ℕ → Reach → Reach) (from count i : ℕ) (s s′ : Reached) (w w′ area area′ : List ℕ) : Type 0 where
-  pub done : Reaches n e z kept (λ r. run f (upFrom 0 i) r) s s′ w w′ area area′
-  pub free : (j : ℕ) → i ≤ j → j < count → getD w′ (from + j) 0 ≡ 0
-  pub within : i ≤ count
+pub met-step : (b : Board) (z id k : ℕ) (m : Met) → m ≡ metAt b k → (r : Reach) → reachMet m k z id r ≡ reachBy b z id k r
+met-step b z id k m e r = ap (λ (x : Met). reachMet x k z id r) e
 
-module _ {n e z kept : ℕ} {from count : ℕ} {s : Reached} {w area : List ℕ} where
-  pub walked-start : (f : ℕ → Reach → Reach) → Fit n e kept s w → Bounded n e z kept (view n e kept s w [] .reach) (s .used) area → ((j : ℕ) → j < count → getD w (from + j) 0 ≡ 0)
-      → Walked n e z kept f from count 0 s s w w area area
-  unfolding run upFrom
-  walked-start f h b free = record {
-    done = record { fit = h; bounds = b; does = does-plain (omega (arith, b .bytes)) (λ es. refl) };
-    free = λ j _ l. free j l;
-    within = omega arith;
+-- the links from `from` up to k are walked: those up to `to` that are left have no owner
+pub record Walked (n e z kept : ℕ) (f : ℕ → Reach → Reach) (from to k : ℕ) (s s′ : Reached) (w w′ area area′ : List ℕ) : Type 0 where
+  pub done : Reaches n e z kept (λ r. run f (upFrom from (k - from)) r) s s′ w w′ area area′
+  pub free : (j : ℕ) → k ≤ j → j < to → getD w′ j 0 ≡ 0
+  pub order : from ≤ k
+  pub within : k ≤ to
+
+-- a walk by another name
+reaches-as : {n e z kept : ℕ} {f : Reach → Reach} (g : Reach → Reach) {s s′ : Reached} {w w′ area area′ : List ℕ} → Reaches n e z kept f s s′ w w′ area area′
+    → ((r : Reach) → f r ≡ g r) → Reaches n e z kept g s s′ w w′ area area′
+reaches-as {n} {e} {z} {kept} g {s} {w = w} d q = record {
+  fit = d .fit;
+  bounds = d .bounds;
+  does = does-as (d .does) (λ es. ap (λ (r : Reach). onReach (λ _. r) (view n e kept s w es)) (q (view n e kept s w es .reach)));
+}
+
+module _ {n e z kept : ℕ} (f : ℕ → Reach → Reach) {from to : ℕ} {s : Reached} {w area : List ℕ} where
+  pub walked-start : Fit n e kept s w → Bounded n e z kept (view n e kept s w [] .reach) (s .used) area → from ≤ to → ((j : ℕ) → from ≤ j → j < to → getD w j 0 ≡ 0)
+      → Walked n e z kept f from to from s s w w area area
+  walked-start h b up free = record {
+    done = record {
+      fit = h;
+      bounds = b;
+      does = does-plain (omega (arith, b .bytes)) (λ es. ap (λ (r : Reach). onReach (λ _. r) (view n e kept s w es)) (sym (run-up-end f from from (view n e kept s w es .reach) (omega arith))));
+    };
+    free = free;
+    order = omega arith;
+    within = up;
   }
 
-  module _ (f : ℕ → Reach → Reach) {i : ℕ} {t : Reached} {w₁ area₁ : List ℕ} (v : Walked n e z kept f from count i s t w w₁ area area₁) (l : i < count) (inside : from + count ≤ e) where
-    pub walked-free : getD w₁ (from + i) 0 ≡ 0
-    walked-free = v .free i (omega arith) l
+  module _ {k : ℕ} {t : Reached} {w₁ area₁ : List ℕ} (v : Walked n e z kept f from to k s t w w₁ area area₁) (l : k < to) (inside : to ≤ e) where
+    pub walked-free : getD w₁ k 0 ≡ 0
+    walked-free = v .free k (omega arith) l
 
-    pub walked-next : (m : Met) (id : ℕ) → ((r : Reach) → reachMet m (from + i) z id r ≡ f i r) → {u : Reached} {w₂ area₂ : List ℕ}
-        → Reaches n e z kept (reachMet m (from + i) z id) t u w₁ w₂ area₁ area₂ → Walked n e z kept f from count (i + 1) s u w w₂ area area₂
+    pub walked-next : (m : Met) (id : ℕ) → ((r : Reach) → reachMet m k z id r ≡ f k r) → {u : Reached} {w₂ area₂ : List ℕ}
+        → Reaches n e z kept (reachMet m k z id) t u w₁ w₂ area₁ area₂ → Walked n e z kept f from to (k + 1) s u w w₂ area area₂
     walked-next m id g {u} {w₂} x = record {
       done = record {
         fit = x .fit;
         bounds = x .bounds;
         does = does-as (does-then (v .done .does) (x .does)) (λ es. ap (λ (r : Reach). onReach (λ _. r) (view n e kept s w es)) (step (view n e kept s w es .reach)));
       };
-      free = λ j a c. left j a c;
+      free = left;
+      order = omega (arith, v .order);
       within = omega arith;
     }
       where
-        step : (r : Reach) → reachMet m (from + i) z id (run f (upFrom 0 i) r) ≡ run f (upFrom 0 (i + 1)) r
-        step r = g (run f (upFrom 0 i) r) ∙ sym (run-last f i r)
+        step : (r : Reach) → reachMet m k z id (run f (upFrom from (k - from)) r) ≡ run f (upFrom from (k + 1 - from)) r
+        step r =
+            let here : from + (k - from) ≡ k = omega (arith, v .order) in
+            let more : k - from + 1 ≡ k + 1 - from = omega (arith, v .order) in
+            g (run f (upFrom from (k - from)) r) ∙ ap (λ (i : ℕ). f i (run f (upFrom from (k - from)) r)) (sym here) ∙ sym (run-suc f from (k - from) r)
+            ∙ ap (λ (i : ℕ). run f (upFrom from i) r) more
 
-        left : (j : ℕ) → i + 1 ≤ j → j < count → getD w₂ (from + j) 0 ≡ 0
+        left : (j : ℕ) → k + 1 ≤ j → j < to → getD w₂ j 0 ≡ 0
         left j a c =
-            owner-view (x .fit) [] (from + j) (omega arith) ∙ does-owner n e kept (reachMet m (from + i) z id) t u w₁ w₂ (x .does) (from + j) ∙ met-beside m (from + i) z id (view n e kept t w₁ [] .reach) (from + j) (λ p. omega (arith, p))
-            ∙ sym (owner-view (v .done .fit) [] (from + j) (omega arith)) ∙ v .free j (omega arith) c
+            owner-view (x .fit) [] j (omega arith) ∙ does-owner n e kept (reachMet m k z id) t u w₁ w₂ (x .does) j ∙ met-beside m k z id (view n e kept t w₁ [] .reach) j (λ p. omega (arith, p))
+            ∙ sym (owner-view (v .done .fit) [] j (omega arith)) ∙ v .free j (omega arith) c
 
-pub walked-end : {n e z kept from count i : ℕ} (f : ℕ → Reach → Reach) {s s′ : Reached} {w w′ area area′ : List ℕ} → Walked n e z kept f from count i s s′ w w′ area area′ → count ≤ i
-    → Reaches n e z kept (λ r. run f (upFrom 0 count) r) s s′ w w′ area area′
-walked-end {n} {e} {z} {kept} f {s} {s′} {w} {w′} {area} {area′} v l =
-    subst (λ (k : ℕ). Reaches n e z kept (λ r. run f (upFrom 0 k) r) s s′ w w′ area area′) (omega (arith, v .within)) (v .done)
+  walked-end : {k : ℕ} {s′ : Reached} {w′ area′ : List ℕ} → Walked n e z kept f from to k s s′ w w′ area area′ → to ≤ k → Reaches n e z kept (λ r. run f (upFrom from (to - from)) r) s s′ w w′ area area′
+  walked-end {k} {s′} {w′} {area′} v l =
+      subst (λ (i : ℕ). Reaches n e z kept (λ r. run f (upFrom from (i - from)) r) s s′ w w′ area area′) (omega (arith, v .within)) (v .done)
+
+-- the links of the turf r: the number of gases is read nowhere
+pub links-walked : (rows marks : Slices) (r : ℕ) {n e z kept from to k : ℕ} {s s′ : Reached} {w w′ area area′ : List ℕ}
+    → let b = boardOf rows marks 0 in Walked n e z kept (reachBy b z (idOf b r)) from to k s s′ w w′ area area′ → from ≡ getD (b .starts) r 0 → to ≡ getD (b .starts) (r + 1) 0 → to ≤ k
+    → (gases : ℕ) → Reaches n e z kept (λ q. run (reachLink (boardOf rows marks gases) z r) (linksOf (boardOf rows marks gases) r) q) s s′ w w′ area area′
+unfolding metAt enabled immutable planetary firelock linksOf
+links-walked rows marks r {z = z} {from = from} {to} v ef et l gases =
+    let b : Board = boardOf rows marks gases in
+    reaches-as (λ q. run (reachLink b z r) (linksOf b r) q) (walked-end (reachBy b z (idOf b r)) v l)
+    (λ q. run-same (λ _. Unit {0}) (reachBy b z (idOf b r)) (reachLink b z r) (λ k x _. link-met b z r k x) (λ _ _ _. tt) (upFrom from (to - from)) q tt ∙ rw (ef, et))

@@ -1,19 +1,18 @@
 -- A fill is steps over links: what every link of a turf that stands in the queue keeps, a fill keeps. Assumes nothing.
 use mathlib.Core.Path.{_≡_, refl, sym, subst}
 use mathlib.Core.List.{List, [], _∷_}
-use mathlib.Core.Bool.{Bool, true, false, not, _&&_, _||_, cond}
+use mathlib.Core.Bool.{Bool, true, false, _&&_, _||_, cond}
 use Prim.Native.Nat.{ℕ, _+_}
 use lib.Dec.{T, eqb, ltb, ltb→lt}
-use lib.ListN.{length, getD, set}
+use lib.ListN.{length, getD}
 use lib.Ieee.{Float}
 use Rattle.basics.specs.Loops.{run, member, snoc}
-use Rattle.basics.specs.Floats.{0f}
 use Rattle.basics.proofs.Loops.{All-getD, run-keeps, times-keeps, cond-both, and-right}
 use Rattle.basics.proofs.Lists.{members, member-front}
-use Rattle.board_rules.specs.Board.{Board, turfCount, end, enabled, planetary, immutable, linksOf}
+use Rattle.board_rules.specs.Board.{Board, turfCount, end, enabled, planetary, linksOf}
 use Rattle.event_rules.specs.declared.Event.{Event}
 use Rattle.fill_rules.specs.Fill.{Reach, Fill, isOn, reachLink, expand, endFill, pop, popNext, fill}
-use Rattle.fill_rules.specs.declared.Going.the-variants.{On, Broken, Over}
+use Rattle.fill_rules.specs.declared.Going.the-variants.{Broken, Over}
 use Rattle.flood_fill.specs.Start.{startReach, startFill}
 use Rattle.fill_rules.specs.Worked as worked  -- checked before the laws
 
@@ -60,8 +59,3 @@ module _ (b : Board) (z : ℕ) where
       pub fill-keeps : (r : ℕ) (found owner : List ℕ) (events : List Event) (tests : ℕ) → Q (startReach r found owner events) → Q (fill b gas limit allowance z r found owner events tests .reach)
       unfolding fill
       fill-keeps r found owner events tests q = times-keeps (λ s. Q (s .reach)) (popNext b gas limit allowance z) pop-keeps (turfCount b) (startFill r found owner events tests) q
-
--- the mark of a turf's mixture, read off the tables
-pub marked-immutable : (mixtures marks : List ℕ) (row : ℕ) {r : Bool} → ((b : Board) → b .mixtures ≡ mixtures → b .immutable ≡ marks → r ≡ immutable b row) → r ≡ not (eqb (getD marks (getD mixtures row 0) 0) 0)
-unfolding immutable
-marked-immutable mixtures marks row h = h (record { ids = []; flags = []; planetary = []; mixtures = mixtures; starts = []; neighbours = []; linkFlags = []; immutable = marks; gases = 0 }) refl refl

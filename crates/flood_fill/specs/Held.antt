@@ -155,9 +155,3 @@ pub record Reaches (n e z kept : ℕ) (f : Reach → Reach) (s s′ : Reached) (
   pub fit : Fit n e kept s′ w′
   pub bounds : Bounded n e z kept (view n e kept s′ w′ [] .reach) (s′ .used) area′
   pub does : Does (onReach f) (view n e kept s w) (view n e kept s′ w′) (s .used) (s′ .used) area area′
-
--- a part of the link list that starts at the link `from`: its rows are below n, and none of its links has an owner yet
-pub record Part (n e : ℕ) (near : List ℕ) (from : ℕ) (w : List ℕ) : Type 0 where
-  pub rows : (i : ℕ) → i < length near → getD near i 0 < n
-  pub links : from + length near ≤ e
-  pub free : (i : ℕ) → i < length near → getD w (from + i) 0 ≡ 0

@@ -1,3 +1,4 @@
 pub mod Steps
 pub mod Held
 pub mod Start
+pub mod Asked

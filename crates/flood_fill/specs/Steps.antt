@@ -1,33 +1,23 @@
--- One link of a fill, step by step, over what the code reads of the tables: which neighbour is met.
-use mathlib.Core.List.{List, [], _∷_, _++_}
-use mathlib.Core.Bool.{Bool, true, false, not, _&&_, _||_, cond}
-use Prim.Native.Nat.{ℕ, _+_, _≤_, _<_}
-use mathlib.Core.Path.{_≡_}
+-- One link of a fill, step by step: which neighbour is met, and what it brings.
+use mathlib.Core.List.{[], _∷_, _++_}
+use mathlib.Core.Bool.{_&&_, _||_}
+use Prim.Native.Nat.{ℕ, _+_}
 use lib.Dec.{eqb}
-use lib.ListN.{length, getD, set}
+use lib.ListN.{getD, set}
 use Rattle.basics.specs.Loops.{snoc, if_then_else_}
-use Rattle.board_rules.specs.Board.{Board, anyBit, lockBit}
-use Rattle.event_rules.specs.declared.Event.{Event}
+use Rattle.board_rules.specs.Board.{Board, end, enabled, planetary, immutable, firelock}
 use Rattle.event_rules.specs.declared.Event.the-variants.{DepressurizeWanted, PlanetWanted}
 use Rattle.fill_rules.specs.Fill.{Reach, insert}
 use Rattle.flood_fill.specs.declared.Met.{Met}
 
--- the row a at the end of the link k, read off the tables
-unfoldable pub metAt : List ℕ → List ℕ → List ℕ → List ℕ → List ℕ → ℕ → ℕ → Met
-metAt flags planetary mixtures linkFlags immutable k a = record {
-  row = a;
-  on = anyBit (getD flags a 0);
-  space = not (eqb (getD immutable (getD mixtures a 0) 0) 0);
-  planet = not (eqb (getD planetary a 0) 0) && lockBit (getD linkFlags k 0);
+-- the neighbour at the end of the link k, as the code meets it
+unfoldable pub metAt : Board → ℕ → Met
+metAt b k = record {
+  row = end b k;
+  on = enabled b (end b k);
+  space = immutable b (end b k);
+  planet = planetary b (end b k) && firelock b k;
 }
-
--- the tables fit n rows and e links
-pub record Rows (n e : ℕ) (flags planetary mixtures linkFlags immutable : List ℕ) : Type 0 where
-  pub flags-n : length flags ≡ n
-  pub planetary-n : length planetary ≡ n
-  pub mixtures-n : length mixtures ≡ n
-  pub mixed : (r : ℕ) → r < n → getD mixtures r 0 < length immutable
-  pub linkFlags-e : length linkFlags ≡ e
 
 -- `add_edge` to an enabled neighbour: the link k has an owner, the neighbour is a node
 unfoldable pub edgeTo : Met → ℕ → ℕ → Reach → Reach
@@ -88,8 +78,3 @@ unfoldable pub reachMet : Met → ℕ → ℕ → ℕ → Reach → Reach
 reachMet m k z id s =
     let t = mark (m .row) (edgeTo m k z s) in
     if eqb (getD (s .found) (m .row) 0) 0 then discover m id t else t
-
--- link i of a part of the link list that starts at `from`
-unfoldable pub reachPart : List ℕ → List ℕ → List ℕ → List ℕ → List ℕ → List ℕ → ℕ → ℕ → ℕ → ℕ → Reach → Reach
-reachPart flags planetary mixtures linkFlags immutable near from z id i s =
-    reachMet (metAt flags planetary mixtures linkFlags immutable (from + i) (getD near i 0)) (from + i) z id s

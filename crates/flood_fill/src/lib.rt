@@ -1,18 +1,29 @@
-// `flood_fill_zones`: one zone, from one turf. Its definition stands in specs/Fill.antt; specs/Held.antt says how the work area holds it.
+// `flood_fill_zones`: one zone, from one turf. Its definition stands in crate fill_rules; specs/Held.antt says how the work area holds it.
 use event_rules::Event;
-use fill_rules::Going;
 use turfs::AdjacentFlags;
+use turfs::FLAGS;
+use turfs::IDS;
+use turfs::IMMUTABLE;
+use turfs::LINK_FLAGS;
+use turfs::MIXTURES;
+use turfs::Marks;
+use turfs::NEIGHBOURS;
+use turfs::PLANETARY;
+use turfs::Rows;
+use turfs::STARTS;
 use turfs::SimulationFlags;
 ghost use mathlib.Core.Path.{_≡_};
-ghost use mathlib.Core.Bool.{not, _&&_, _||_, false};
-ghost use mathlib.Core.List.{List, []};
+ghost use mathlib.Core.Bool.{not, _&&_};
 ghost use Prim.Native.Nat.{ℕ, _+_, _≤_, _<_};
-ghost use lib.Dec.{eqb, ltb};
+ghost use lib.Dec.{eqb};
 ghost use lib.ListN.{length, getD};
-ghost use Rattle.basics.specs.Loops.{run, upFrom};
-ghost use Rattle.board_rules.specs.Board.{lockBit};
-ghost use Rattle.flood_fill.specs.Steps.{metAt, Rows, edgeTo, push, askSpace, askPlanet, discover, reachMet, reachPart};
-ghost use Rattle.flood_fill.specs.Held.{foundAt, startsAt, nodesAt, Sizes, view, Fit, Bounded, Part, Moves, Asks, Discovers, Reaches};
+ghost use Rattle.basics.specs.Loops.{run};
+ghost use Rattle.board_rules.specs.Board.{turfCount, linkCount, linksOf, lockBit};
+ghost use Rattle.turfs.specs.Tables.{boardAt};
+ghost use Rattle.fill_rules.specs.Fill.{reachLink};
+ghost use Rattle.flood_fill.specs.Steps.{metAt, edgeTo, push, askSpace, askPlanet, discover, reachMet};
+ghost use Rattle.flood_fill.specs.Held.{foundAt, startsAt, nodesAt, Sizes, Moves, Asks, Discovers, Reaches};
+ghost use Rattle.flood_fill.specs.Asked.{Linked, Walking, EdgeFits, PushFits, LinkFits, TurfFits};
 
 // How far a walk over links has come: rows pushed, nodes of the zone, `ignore_zone`, bytes of events.
 pub struct Reached {
@@ -20,6 +31,12 @@ pub struct Reached {
     pub nodes: usize,
     pub ignored: bool,
     pub used: usize,
+}
+
+// The zone that is filled: its number, and how many nodes the zones kept before it have.
+pub struct Slot {
+    pub z: u32,
+    pub kept: usize,
 }
 
 // The neighbour at the end of a link: its row, whether it is enabled, immutable, planetary across a firelock.
@@ -53,8 +70,9 @@ pub fn nodes_at(n: usize, e: usize) -> usize
 }
 
 // Whether the link k to a planetary turf is across a firelock.
-fn across_firelock(planetary: &[u8], link_flags: &[u8], row: usize, k: usize) -> bool
-    requires { ⌜ (row < length (now planetary)) × (k < length (now «link_flags»)) ⌝ }
+fn across_firelock(row: usize, k: usize, planetary: &[u8], link_flags: &[u8]) -> bool
+    requires { ⌜ row < length (now planetary) ⌝ }
+    requires { ⌜ k < length (now «link_flags») ⌝ }
     ensures { λ r. ⌜ r ≡ (not (eqb (getD (now (planetary .entry)) row 0) 0) && lockBit (getD (now («link_flags» .entry)) k 0)) ⌝ }
 {
     if planetary[row] == 0 {
@@ -63,50 +81,44 @@ fn across_firelock(planetary: &[u8], link_flags: &[u8], row: usize, k: usize) ->
     AdjacentFlags(link_flags[k]).firelock()
 }
 
-// The row at the end of the link k.
-fn meet(
-    k: usize,
-    row: u32,
-    flags: &[u8],
-    planetary: &[u8],
-    mixtures: &[u32],
-    link_flags: &[u8],
-    immutable: &[u8],
-) -> Met
-    requires { ⌜ (row < length (now flags)) × ((row < length (now planetary)) × (k < length (now «link_flags»))) ⌝ }
-    requires { ⌜ (row < length (now mixtures)) × (getD (now mixtures) row 0 < length (now immutable)) ⌝ }
-    ensures { λ r. ⌜ r ≡ metAt (now (flags .entry)) (now (planetary .entry)) (now (mixtures .entry)) (now («link_flags» .entry)) (now (immutable .entry)) k row ⌝ }
+// The neighbour at the end of the link k.
+fn meet(k: usize, rows: &Rows, marks: &Marks) -> Met
+    requires { ⌜ Linked (boardAt rows marks 0) ⌝ }
+    requires { ⌜ k < linkCount (boardAt rows marks 0) ⌝ }
+    ensures { λ r. ⌜ r ≡ metAt (boardAt (rows .entry) (marks .entry) 0) k ⌝ }
 {
+    let neighbours = rows[NEIGHBOURS];
+    let flags = marks[FLAGS];
+    let row = neighbours[k];
     let a = row as usize;
     Met {
         row,
         on: SimulationFlags(flags[a]).enabled(),
-        space: turfs::is_immutable(mixtures, immutable, a),
-        planet: across_firelock(planetary, link_flags, a, k),
+        space: turfs::is_immutable(rows[MIXTURES], marks[IMMUTABLE], a),
+        planet: across_firelock(a, k, marks[PLANETARY], marks[LINK_FLAGS]),
     }
 }
 
-// The link k to an enabled neighbour becomes an edge of zone z, and the neighbour a node.
+// The link k to an enabled neighbour becomes an edge of the zone, and the neighbour a node.
 fn edge_to(
     m: Met,
     k: usize,
-    z: u32,
+    slot: Slot,
     s: Reached,
-    kept: usize,
     n: usize,
     e: usize,
     words: &mut [u32],
 ) -> Reached
-    requires { ⌜ Fit n e kept s (now words) × ((k < e) × ((m .row < n) × ((z < n) × (kept + s .nodes < n + e)))) ⌝ }
-    ensures { λ r. ⌜ Moves n e kept (edgeTo m k z) s r (now (words .entry)) (now (words .exit)) ⌝ }
+    requires { ⌜ EdgeFits n e slot m k s (now words) ⌝ }
+    ensures { λ r. ⌜ Moves n e (slot .kept) (edgeTo m k (slot .z)) s r (now (words .entry)) (now (words .exit)) ⌝ }
 {
     if !m.on {
         return s;
     }
-    words[k] = z + 1;
+    words[k] = slot.z + 1;
     let nodes = s.nodes;
     let places = index_set::places_at(n, e);
-    let first = nodes_at(n, e) + kept;
+    let first = nodes_at(n, e) + slot.kept;
     if index_set::contains(m.row, nodes, n, first, places, words) {
         return s;
     }
@@ -120,9 +132,9 @@ fn edge_to(
 }
 
 // An enabled neighbour that is found now is pushed.
-fn push(m: Met, s: Reached, kept: usize, n: usize, e: usize, words: &mut [u32]) -> Reached
-    requires { ⌜ Fit n e kept s (now words) × ((m .row < n) × (s .queued < n)) ⌝ }
-    ensures { λ r. ⌜ Moves n e kept (push m) s r (now (words .entry)) (now (words .exit)) ⌝ }
+fn push(m: Met, slot: Slot, s: Reached, n: usize, e: usize, words: &mut [u32]) -> Reached
+    requires { ⌜ PushFits n e slot m s (now words) ⌝ }
+    ensures { λ r. ⌜ Moves n e (slot .kept) (push m) s r (now (words .entry)) (now (words .exit)) ⌝ }
 {
     if !m.on {
         return s;
@@ -138,14 +150,14 @@ fn push(m: Met, s: Reached, kept: usize, n: usize, e: usize, words: &mut [u32]) 
 }
 
 // An immutable neighbour asks for a depressurize, and the zone is ignored.
-fn ask_space(m: Met, id: u32, s: Reached, area: &mut [u8]) -> Reached
-    requires { ⌜ s .used + 8 ≤ length (now area) ⌝ }
-    ensures { λ r. ⌜ Asks (askSpace m id) s r (now (area .entry)) (now (area .exit)) ⌝ }
+fn ask_space(m: Met, id: u32, s: Reached, events: &mut [u8]) -> Reached
+    requires { ⌜ s .used + 8 ≤ length (now events) ⌝ }
+    ensures { λ r. ⌜ Asks (askSpace m id) s r (now (events .entry)) (now (events .exit)) ⌝ }
 {
     if !m.space {
         return s;
     }
-    let used = events::append(area, s.used, Event::DepressurizeWanted(id));
+    let used = events::append(events, s.used, Event::DepressurizeWanted(id));
     Reached {
         queued: s.queued,
         nodes: s.nodes,
@@ -155,14 +167,14 @@ fn ask_space(m: Met, id: u32, s: Reached, area: &mut [u8]) -> Reached
 }
 
 // A planetary neighbour across a firelock asks for a planet walk.
-fn ask_planet(m: Met, id: u32, s: Reached, area: &mut [u8]) -> Reached
-    requires { ⌜ s .used + 8 ≤ length (now area) ⌝ }
-    ensures { λ r. ⌜ Asks (askPlanet m id) s r (now (area .entry)) (now (area .exit)) ⌝ }
+fn ask_planet(m: Met, id: u32, s: Reached, events: &mut [u8]) -> Reached
+    requires { ⌜ s .used + 8 ≤ length (now events) ⌝ }
+    ensures { λ r. ⌜ Asks (askPlanet m id) s r (now (events .entry)) (now (events .exit)) ⌝ }
 {
     if !m.planet {
         return s;
     }
-    let used = events::append(area, s.used, Event::PlanetWanted(id));
+    let used = events::append(events, s.used, Event::PlanetWanted(id));
     Reached {
         queued: s.queued,
         nodes: s.nodes,
@@ -175,89 +187,82 @@ fn ask_planet(m: Met, id: u32, s: Reached, area: &mut [u8]) -> Reached
 fn discover(
     m: Met,
     id: u32,
+    slot: Slot,
     s: Reached,
-    kept: usize,
     n: usize,
     e: usize,
     words: &mut [u32],
-    area: &mut [u8],
+    events: &mut [u8],
 ) -> Reached
-    requires { ⌜ Fit n e kept s (now words) × ((m .row < n) × ((s .queued < n) × (s .used + 16 ≤ length (now area)))) ⌝ }
-    ensures { λ r. ⌜ Discovers n e kept (discover m id) s r (now (words .entry)) (now (words .exit)) (now (area .entry)) (now (area .exit)) ⌝ }
+    requires { ⌜ PushFits n e slot m s (now words) ⌝ }
+    requires { ⌜ s .used + 16 ≤ length (now events) ⌝ }
+    ensures { λ r. ⌜ Discovers n e (slot .kept) (discover m id) s r (now (words .entry)) (now (words .exit)) (now (events .entry)) (now (events .exit)) ⌝ }
 {
-    let t = push(m, s, kept, n, e, words);
+    let t = push(m, slot, s, n, e, words);
     if t.ignored {
         return t;
     }
-    let u = ask_space(m, id, t, area);
-    ask_planet(m, id, u, area)
+    let u = ask_space(m, id, t, events);
+    ask_planet(m, id, u, events)
 }
 
-// One link of the turf with this id, over which the neighbour m is met.
+// The link k of the turf with this id, over which the neighbour m is met.
 fn reach(
     m: Met,
     k: usize,
-    z: u32,
     id: u32,
+    slot: Slot,
     s: Reached,
-    kept: usize,
     n: usize,
     e: usize,
     words: &mut [u32],
-    area: &mut [u8],
+    events: &mut [u8],
 ) -> Reached
-    requires { ⌜ Fit n e kept s (now words) × Bounded n e z kept (view n e kept s (now words) [] .reach) (s .used) (now area) ⌝ }
-    requires { ⌜ (k < e) × ((m .row < n) × (getD (now words) k 0 ≡ 0)) ⌝ }
-    ensures { λ r. ⌜ Reaches n e z kept (reachMet m k z id) s r (now (words .entry)) (now (words .exit)) (now (area .entry)) (now (area .exit)) ⌝ }
+    requires { ⌜ Walking n e slot s (now words) (now events) ⌝ }
+    requires { ⌜ LinkFits n e m k (now words) ⌝ }
+    ensures { λ r. ⌜ Reaches n e (slot .z) (slot .kept) (reachMet m k (slot .z) id) s r (now (words .entry)) (now (words .exit)) (now (events .entry)) (now (events .exit)) ⌝ }
 {
-    let t = edge_to(m, k, z, s, kept, n, e, words);
+    let t = edge_to(m, k, slot, s, n, e, words);
     let mark = found_at(n, e) + m.row as usize;
     let found = words[mark];
     words[mark] = 1;
     if found != 0 {
         return t;
     }
-    discover(m, id, t, kept, n, e, words, area)
+    discover(m, id, slot, t, n, e, words, events)
 }
 
-// The links of the turf with this id, handed on as a part of the link list that starts at `from`.
+// The links of the turf at `row`.
 pub fn reach_links(
-    near: &[u32],
-    from: usize,
-    z: u32,
-    id: u32,
+    row: u32,
+    slot: Slot,
     start: Reached,
-    kept: usize,
-    n: usize,
-    e: usize,
-    flags: &[u8],
-    planetary: &[u8],
-    mixtures: &[u32],
-    link_flags: &[u8],
-    immutable: &[u8],
+    rows: &Rows,
+    marks: &Marks,
     words: &mut [u32],
-    area: &mut [u8],
+    events: &mut [u8],
 ) -> Reached
-    requires { ⌜ Fit n e kept start (now words) × Bounded n e z kept (view n e kept start (now words) [] .reach) (start .used) (now area) ⌝ }
-    requires { ⌜ Rows n e (now flags) (now planetary) (now mixtures) (now «link_flags») (now immutable) ⌝ }
-    requires { ⌜ Part n e (now near) from (now words) ⌝ }
-    ensures { λ r. ⌜ Reaches n e z kept (λ s. run (reachPart (now (flags .entry)) (now (planetary .entry)) (now (mixtures .entry)) (now («link_flags» .entry)) (now (immutable .entry)) (now (near .entry)) from z id) (upFrom 0 (length (now (near .entry)))) s) start r (now (words .entry)) (now (words .exit)) (now (area .entry)) (now (area .exit)) ⌝ }
+    requires { ⌜ Linked (boardAt rows marks 0) ⌝ }
+    requires { ⌜ TurfFits (boardAt rows marks 0) row (now words) ⌝ }
+    requires { let b = boardAt rows marks 0 in ⌜ Walking (turfCount b) (linkCount b) slot start (now words) (now events) ⌝ }
+    ensures { λ r. ⌜ ((gases : ℕ) → let b = boardAt (rows .entry) (marks .entry) gases in
+        Reaches (turfCount b) (linkCount b) (slot .z) (slot .kept) (λ s. run (reachLink b (slot .z) row) (linksOf b row) s) start r
+        (now (words .entry)) (now (words .exit)) (now (events .entry)) (now (events .exit))) ⌝ }
 {
+    let ids = rows[IDS];
+    let neighbours = rows[NEIGHBOURS];
+    let n = ids.len();
+    let e = neighbours.len();
+    let at = row as usize;
+    let id = ids[at];
+    let links = turfs::links_of(rows[STARTS], at);
+    let to = links.to;
     let mut s = start;
-    let mut i = 0;
-    while i < near.len() {
-        let k = from + i;
-        let m = meet(
-            k,
-            near[i],
-            flags,
-            planetary,
-            mixtures,
-            link_flags,
-            immutable,
-        );
-        s = reach(m, k, z, id, s, kept, n, e, words, area);
-        i += 1;
+    let mut k = links.from;
+    while k < to {
+        let m = meet(k, rows, marks);
+        s = reach(m, k, id, slot, s, n, e, words, events);
+        k += 1;
     }
     s
 }

@@ -1,29 +1,67 @@
 -- The marks are cleared, and what stands before them stays. Assumes nothing.
-use mathlib.Core.Path.{refl}
-use native.Mathlib.Omega.{arith}
-use denote.Ref.{now}
-use lib.ListN.{length}
+use Rattle.apart.proofs.Pass.{marks-room, pass-asks, pass-tells, tells-gases}
 use Rattle.reverse_links.proofs.Places.{but-cleared}
-use Rattle.apart.proofs.Pass.{laid-kept, tells-after}
+use lib.ListN.{length}
+use Rattle.turfs.specs.Tables.{table}
 use borrow.Author.Needs.{needs}
 use Rattle.apart.proofs.apart.Statement.{statement}
 use Rattle.apart.proofs.apart.Tie as tie
-use Rattle.apart.proofs.apart.Reads as reads
-use Rattle.apart.proofs.apart.Lts as lts
-use Rattle.basics.proofs.clear_part.Reads as clear-part-reads
-use Rattle.apart.proofs.zones_apart.Reads as zones-apart-reads
+
+element-copy-out-ids : tie.Need-element-copy-out-ids
+element-copy-out-ids c = search needs
+
+element-copy-out-neighbours : tie.Need-element-copy-out-neighbours
+element-copy-out-neighbours c = search needs
+
+element-copy-out-immutable : tie.Need-element-copy-out-immutable
+element-copy-out-immutable c = search needs
+
+starts-at-requires : tie.Need-starts-at-requires
+starts-at-requires c κs = search needs
+
+nodes-at-requires : tie.Need-nodes-at-requires
+nodes-at-requires c κs = search needs
+
+add-at : tie.Need-add-at
+add-at c = search needs
+
+add-at-2 : tie.Need-add-at-2
+add-at-2 c = search needs
 
 clear-part-requires : tie.Need-clear-part-requires
 clear-part-requires c κs = search needs
 
 zones-apart-requires : tie.Need-zones-apart-requires
-zones-apart-requires c κs = ((laid-kept (c .before .before .before .before .before .before .before .before .pre .0 .0) (but-cleared (c .before .before .before .before .before .before .before .before .args .at) (length (now (c .before .before .before .before .before .before .before .before .args .immutable))) (now (c .before .before .before .before .before .before .before .before .args .words)) (c .before .before .before .before .before .before .before .before .pre .0 .1 .0) (c .before .before .before .clear-part .ensures) .0), (omega (arith, c .before .before .before .before .before .before .before .before .pre .0 .1 .0, (but-cleared (c .before .before .before .before .before .before .before .before .args .at) (length (now (c .before .before .before .before .before .before .before .before .args .immutable))) (now (c .before .before .before .before .before .before .before .before .args .words)) (c .before .before .before .before .before .before .before .before .pre .0 .1 .0) (c .before .before .before .clear-part .ensures) .0 .len)), c .before .before .before .before .before .before .before .before .pre .0 .1 .1)), (c .before .before .before .before .before .before .before .before .pre .1, (but-cleared (c .before .before .before .before .before .before .before .before .args .at) (length (now (c .before .before .before .before .before .before .before .before .args .immutable))) (now (c .before .before .before .before .before .before .before .before .args .words)) (c .before .before .before .before .before .before .before .before .pre .0 .1 .0) (c .before .before .before .clear-part .ensures) .1)))
+zones-apart-requires c κs =
+    let entry = c .before .before .before .before .before .before .before .before .before .before .before in
+    let cleared = but-cleared _ (length (table (entry .args .marks .now) 3)) (entry .args .words .now) (marks-room (entry .pre) _ _ (c .before .before .before .before .before .before .starts-at .ensures) (c .before .before .before .before .before .nodes-at .ensures)) (c .before .before .before .clear-part .ensures) in
+    let asked = pass-asks (entry .pre) _ _ (c .before .before .before .before .before .before .starts-at .ensures) (c .before .before .before .before .before .nodes-at .ensures) (cleared .0) in
+    (asked .0, (asked .1, cleared .1))
 
 same-length : tie.Need-same-length
 same-length c = search needs
 
 returns : tie.Need-returns
-returns c = tells-after (c .before .before .before .before .before .before .before .before .before .before .before .pre .0 .0) (but-cleared (c .before .before .before .before .before .before .before .before .before .before .before .args .at) (length (now (c .before .before .before .before .before .before .before .before .before .before .before .args .immutable))) (now (c .before .before .before .before .before .before .before .before .before .before .before .args .words)) (c .before .before .before .before .before .before .before .before .before .before .before .pre .0 .1 .0) (c .before .before .before .before .before .before .clear-part .ensures) .0) refl (c .before .before .zones-apart .ensures)
+returns c = λ gases.
+    let entry = c .before .before .before .before .before .before .before .before .before .before .before .before .before .before in
+    let by-starts-at = c .before .before .before .before .before .before .before .before .before .starts-at in
+    let by-nodes-at = c .before .before .before .before .before .before .before .before .nodes-at in
+    let by-clear-part = c .before .before .before .before .before .before .clear-part in
+    let cleared = but-cleared _ (length (table (entry .args .marks .now) 3)) (entry .args .words .now) (marks-room (entry .pre) _ _ (by-starts-at .ensures) (by-nodes-at .ensures)) (by-clear-part .ensures) in
+    tells-gases (entry .args .rows .now) (entry .args .marks .now) gases (pass-tells (entry .pre) _ _ (by-starts-at .ensures) (by-nodes-at .ensures) (cleared .0) (c .before .before .zones-apart .ensures))
 
 pub apart-spec : {M : Type 1} → statement M
-apart-spec = tie.close (tie.spec clear-part-requires zones-apart-requires same-length returns)
+apart-spec =
+    tie.close
+    (tie.spec
+    element-copy-out-ids
+    element-copy-out-neighbours
+    element-copy-out-immutable
+    starts-at-requires
+    nodes-at-requires
+    add-at
+    add-at-2
+    clear-part-requires
+    zones-apart-requires
+    same-length
+    returns)

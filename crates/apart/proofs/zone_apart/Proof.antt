@@ -1,77 +1,87 @@
 -- The loop's invariant: the marks of the nodes that were gone through. Assumes nothing.
-use Prim.Native.Nat.{_+_, _-_, _≤_, _<_}
-use mathlib.Core.Path.{_≡_, refl, sym, _∙_, subst}
+use Rattle.turfs.specs.Tables.{boardOf}
+use Rattle.board_rules.specs.Board.{mixtureCount}
+use Prim.Native.Nat.{_+_, _-_, _≤_}
 use mathlib.Core.List.{List}
 use native.Mathlib.Omega.{arith}
-use lib.ListN.{length}
 use borrow.Author.Tests.{not-true, not-false}
 use borrow.Author.Needs.{needs}
 use Rattle.reverse_links.specs.Words.{But}
 use Rattle.reverse_links.proofs.Places.{but-none}
 use Rattle.finalize_eq.specs.Turns.{Zone}
-use Rattle.apart.specs.Marks.{mixed}
 use Rattle.apart.proofs.Pass.{marked-but, row-now, Going, going-start, going-next, going-fails, going-end}
 use Rattle.apart.proofs.zone_apart.Statement.{statement}
 use Rattle.apart.proofs.zone_apart.Tie as tie
-use Rattle.apart.proofs.zone_apart.Reads as reads
-use Rattle.apart.proofs.zone_apart.Lts as lts
-use Rattle.apart.proofs.node_apart.Reads as node-apart-reads
 
 abbrev Inv-loop : tie.InvT-loop
-Inv-loop zone from to at mixtures immutable words₀ i₀ words i =
-    (((from ≤ i) × (from ≤ to → i ≤ to)) × But at (at + length immutable) words₀ words)
-    × ((zs : List Zone) → Going (mixed mixtures immutable) zs zone from to at i words₀ words)
+Inv-loop zone from to at rows marks words₀ i₀ words i =
+    let b = boardOf rows marks 0 in
+    (((from ≤ i) × (from ≤ to → i ≤ to)) × But at (at + mixtureCount b) words₀ words) × ((zs : List Zone) → Going b zs zone from to at i words₀ words)
 
 abbrev μ-loop : tie.MeasureT-loop
-μ-loop zone from to at mixtures immutable words₀ i₀ words i = to - i
+μ-loop zone from to at rows marks words₀ i₀ words i = to - i
 
--- src/lib.rt:52:5
 loop-holds : tie.Need-loop-holds Inv-loop μ-loop
 loop-holds c = (((omega arith, λ h. h), but-none), λ zs. going-start _ zs _ _ _ _ _)
 
--- src/lib.rt:53:24
 mul-node-apart : tie.Need-mul-node-apart Inv-loop μ-loop
-mul-node-apart c = omega (arith, c .before .before .before .before .before .pre .0, c .loop-test .taken, c .before .before .before .before .before .fits .to, c .before .before .before .before .before .good)
+mul-node-apart c =
+    let entry = c .before .before .before in
+    omega (arith, entry .pre .1 .0, entry .pre .0 .room, c .loop-test .taken, c .before .loop .inv .0 .1 .len, entry .good)
 
--- src/lib.rt:53:24
 slice-read-node-apart : tie.Need-slice-read-node-apart Inv-loop μ-loop
-slice-read-node-apart c = omega (arith, c .before .before .before .before .before .before .pre .0, c .before .loop-test .taken, c .before .before .loop .inv .0 .1 .len)
+slice-read-node-apart c = omega (arith, c .before .before .before .before .pre .1 .0, c .before .before .before .before .pre .0 .room, c .before .loop-test .taken, c .before .before .loop .inv .0 .1 .len)
 
--- src/lib.rt:53:24
 cast-node-apart : tie.Need-cast-node-apart Inv-loop μ-loop
 cast-node-apart c = omega (arith, c .slice-known2 .given (c .before .before .loop .i))
 
--- src/lib.rt:53:13
 node-apart-requires : tie.Need-node-apart-requires Inv-loop μ-loop
-node-apart-requires c κs = (row-now (c .before .before .before .loop .inv .0 .1) (c .before .before .before .before .before .before .before .pre .0 .0) (c .before .before .before .before .before .before .before .pre .1 .0) (c .before .before .before .loop .inv .0 .0 .0) (c .before .before .loop-test .taken), ((c .before .before .before .before .before .before .before .pre .1 .1 _ (row-now (c .before .before .before .loop .inv .0 .1) (c .before .before .before .before .before .before .before .pre .0 .0) (c .before .before .before .before .before .before .before .pre .1 .0) (c .before .before .before .loop .inv .0 .0 .0) (c .before .before .loop-test .taken))), (omega (arith, c .before .before .before .before .before .before .before .pre .0, c .before .before .before .loop .inv .0 .1 .len), (c .before .before .before .before .before .before .before .pre .0 .1 .1 .0, c .before .before .before .before .before .before .before .pre .0 .1 .1 .1))))
+node-apart-requires c κs =
+    let entry = c .before .before .before .before .before in
+    let head = c .before .before .before .loop in
+    let row = row-now (head .inv .0 .1) (entry .pre .1 .0) (entry .pre .1 .1 .1) (head .inv .0 .0 .0) (c .before .before .loop-test .taken) in
+    let fits = entry .pre .0 in
+    (record { turfs = fits .turfs; few = fits .few; room = omega (arith, fits .room, head .inv .0 .1 .len); mixtures = fits .mixtures; mixed = fits .mixed }, (row, entry .pre .1 .1 .0))
 
--- src/lib.rt:54:13
 same-length : tie.Need-same-length Inv-loop μ-loop
 same-length c = search needs
 
--- src/lib.rt:54:13
 returns : tie.Need-returns Inv-loop μ-loop
-returns c = (marked-but (omega arith) (omega (arith, (c .before .before .before .before .before .before .before .before .before .before .before .pre .1 .1 _ (row-now (c .before .before .before .before .before .before .before .loop .inv .0 .1) (c .before .before .before .before .before .before .before .before .before .before .before .pre .0 .0) (c .before .before .before .before .before .before .before .before .before .before .before .pre .1 .0) (c .before .before .before .before .before .before .before .loop .inv .0 .0 .0) (c .before .before .before .before .before .before .loop-test .taken))))) (c .before .before .before .before .before .before .before .loop .inv .0 .1) (c .before .before .before .node-apart .ensures), λ zs. going-fails _ zs _ _ _ _ _ (c .before .before .before .before .before .before .before .loop .inv .0 .0 .0) _ _ _ (c .before .before .before .before .before .before .before .loop .inv .1 zs) (c .before .before .before .before .before .before .before .loop .inv .0 .1) (c .before .before .before .before .before .before .before .before .before .before .before .pre .0 .0) (c .before .before .before .before .before .before .before .before .before .before .before .pre .0 .1 .0) (c .before .before .before .before .before .before .before .before .before .before .before .pre .1 .1 _ (row-now (c .before .before .before .before .before .before .before .loop .inv .0 .1) (c .before .before .before .before .before .before .before .before .before .before .before .pre .0 .0) (c .before .before .before .before .before .before .before .before .before .before .before .pre .1 .0) (c .before .before .before .before .before .before .before .loop .inv .0 .0 .0) (c .before .before .before .before .before .before .loop-test .taken))) _ (c .before .before .before .node-apart .ensures) (c .before .before .before .before .before .before .loop-test .taken) (not-true _ (c .if1 .taken)))
+returns c =
+    let entry = c .before .before .before .before .before .before .before .before .before in
+    let head = c .before .before .before .before .before .before .before .loop in
+    let row = row-now (head .inv .0 .1) (entry .pre .1 .0) (entry .pre .1 .1 .1) (head .inv .0 .0 .0) (c .before .before .before .before .before .before .loop-test .taken) in
+    let fits = entry .pre .0 .mixed _ row in
+    let done = c .before .before .before .node-apart .ensures in (
+      marked-but (omega arith) (omega (arith, fits)) (head .inv .0 .1) done,
+      λ zs. going-fails _ zs _ _ _ _ _ (head .inv .0 .0 .0) _ _ _ (head .inv .1 zs) (head .inv .0 .1) (entry .pre .1 .0) (entry .pre .0 .room) fits _ done (c .before .before .before .before .before .before .loop-test .taken) (not-true _ (c .if1 .taken)),
+    )
 
--- src/lib.rt:56:9
 add-i : tie.Need-add-i Inv-loop μ-loop
-add-i c = omega (arith, c .before .before .before .before .before .before .loop-test .taken, c .before .before .before .before .before .before .before .before .before .before .before .fits .to)
+add-i c = omega (arith, c .before .before .before .before .before .before .loop-test .taken, c .before .before .before .before .before .before .before .before .before .fits .to)
 
--- src/lib.rt:52:5
 loop-less : tie.Need-loop-less Inv-loop μ-loop
 loop-less c = omega (arith, c .before .before .before .before .before .before .loop-test .taken)
 
--- src/lib.rt:52:5
 loop-again : tie.Need-loop-again Inv-loop μ-loop
-loop-again c = (((omega (arith, c .before .before .before .before .before .before .before .loop .inv .0 .0 .0), λ h. omega (arith, c .before .before .before .before .before .before .loop-test .taken)), marked-but (omega arith) (omega (arith, (c .before .before .before .before .before .before .before .before .before .before .before .pre .1 .1 _ (row-now (c .before .before .before .before .before .before .before .loop .inv .0 .1) (c .before .before .before .before .before .before .before .before .before .before .before .pre .0 .0) (c .before .before .before .before .before .before .before .before .before .before .before .pre .1 .0) (c .before .before .before .before .before .before .before .loop .inv .0 .0 .0) (c .before .before .before .before .before .before .loop-test .taken))))) (c .before .before .before .before .before .before .before .loop .inv .0 .1) (c .before .before .before .node-apart .ensures)), λ zs. going-next _ zs _ _ _ _ _ (c .before .before .before .before .before .before .before .loop .inv .0 .0 .0) _ _ _ (c .before .before .before .before .before .before .before .loop .inv .1 zs) (c .before .before .before .before .before .before .before .loop .inv .0 .1) (c .before .before .before .before .before .before .before .before .before .before .before .pre .0 .0) (c .before .before .before .before .before .before .before .before .before .before .before .pre .0 .1 .0) (c .before .before .before .before .before .before .before .before .before .before .before .pre .1 .1 _ (row-now (c .before .before .before .before .before .before .before .loop .inv .0 .1) (c .before .before .before .before .before .before .before .before .before .before .before .pre .0 .0) (c .before .before .before .before .before .before .before .before .before .before .before .pre .1 .0) (c .before .before .before .before .before .before .before .loop .inv .0 .0 .0) (c .before .before .before .before .before .before .loop-test .taken))) _ (c .before .before .before .node-apart .ensures) (c .before .before .before .before .before .before .loop-test .taken) (not-false _ (c .if1 .left)))
+loop-again c =
+    let entry = c .before .before .before .before .before .before .before .before .before in
+    let head = c .before .before .before .before .before .before .before .loop in
+    let by-loop-test = c .before .before .before .before .before .before .loop-test in
+    let row = row-now (head .inv .0 .1) (entry .pre .1 .0) (entry .pre .1 .1 .1) (head .inv .0 .0 .0) (by-loop-test .taken) in
+    let fits = entry .pre .0 .mixed _ row in
+    let done = c .before .before .before .node-apart .ensures in (
+      ((omega (arith, head .inv .0 .0 .0), λ h. omega (arith, by-loop-test .taken)), marked-but (omega arith) (omega (arith, fits)) (head .inv .0 .1) done),
+      λ zs. going-next _ zs _ _ _ _ _ (head .inv .0 .0 .0) _ _ _ (head .inv .1 zs) (head .inv .0 .1) (entry .pre .1 .0) (entry .pre .0 .room) fits _ done (by-loop-test .taken) (not-false _ (c .if1 .left)),
+    )
 
--- src/lib.rt:38:1
 same-length-2 : tie.Need-same-length-2 Inv-loop μ-loop
 same-length-2 c = search needs
 
--- src/lib.rt:38:1
 returns-2 : tie.Need-returns-2 Inv-loop μ-loop
-returns-2 c = (c .before .loop .inv .0 .1, λ zs. going-end _ zs _ _ _ _ _ _ _ (c .before .loop .inv .1 zs) (c .loop-test .left) (c .before .loop .inv .0 .0 .0) (c .before .loop .inv .0 .0 .1))
+returns-2 c =
+    let head = c .before .loop in
+    (head .inv .0 .1, λ zs. going-end _ zs _ _ _ _ _ _ _ (head .inv .1 zs) (c .loop-test .left) (head .inv .0 .0 .0) (head .inv .0 .0 .1))
 
 pub zone-apart-spec : {M : Type 1} → statement M
 zone-apart-spec =

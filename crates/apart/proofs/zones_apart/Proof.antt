@@ -1,6 +1,9 @@
 -- The loop's invariant: the marks of the zones that were gone through. Assumes nothing.
-use Prim.Native.Nat.{ℕ, _+_, _-_, _≤_, _<_}
-use mathlib.Core.Path.{_≡_, refl, sym, _∙_, subst}
+use Rattle.apart.specs.Marks.{Stands, Marks}
+use Rattle.turfs.specs.Tables.{boardOf}
+use Rattle.board_rules.specs.Board.{mixtureCount}
+use Prim.Native.Nat.{_+_, _-_, _≤_}
+use mathlib.Core.Path.{_≡_, sym}
 use mathlib.Core.List.{List}
 use native.Mathlib.Omega.{arith}
 use lib.ListN.{length}
@@ -9,103 +12,95 @@ use borrow.Author.Needs.{needs}
 use Rattle.reverse_links.specs.Words.{But}
 use Rattle.reverse_links.proofs.Places.{but-none, but-then}
 use Rattle.finalize_eq.specs.Turns.{Zone}
-use Rattle.apart.specs.Marks.{mixed, Stands, Marks}
 use Rattle.apart.proofs.Pass.{marks-start, end-before, start-before, rows-now, zone-next, apart-true, apart-false}
 use Rattle.apart.proofs.zones_apart.Statement.{statement}
 use Rattle.apart.proofs.zones_apart.Tie as tie
-use Rattle.apart.proofs.zones_apart.Reads as reads
-use Rattle.apart.proofs.zones_apart.Lts as lts
-use Rattle.apart.proofs.zone_apart.Reads as zone-apart-reads
 
 abbrev Inv-loop : tie.InvT-loop
-Inv-loop zones first nodes at mixtures immutable words₀ z₀ words z =
-    ((z ≤ zones) × But at (at + length immutable) words₀ words)
-    × ((zs : List Zone) → length zs ≡ zones → Stands first nodes zs words₀ → Marks (mixed mixtures immutable) zs z 0 at words)
+Inv-loop zones first nodes at rows marks words₀ z₀ words z =
+    let b = boardOf rows marks 0 in
+    ((z ≤ zones) × But at (at + mixtureCount b) words₀ words) × ((zs : List Zone) → length zs ≡ zones → Stands first nodes zs words₀ → Marks b zs z 0 at words)
 
 abbrev μ-loop : tie.MeasureT-loop
-μ-loop zones first nodes at mixtures immutable words₀ z₀ words z = zones - z
+μ-loop zones first nodes at rows marks words₀ z₀ words z = zones - z
 
--- src/lib.rt:90:5
 loop-holds : tie.Need-loop-holds Inv-loop μ-loop
-loop-holds c = ((omega arith, but-none), λ zs e s. marks-start _ zs _ _ (c .before .before .before .pre .1 .1))
+loop-holds c = ((omega arith, but-none), λ zs e s. marks-start _ zs _ _ (c .before .pre .1 .1))
 
--- src/lib.rt:91:34
 add-from : tie.Need-add-from Inv-loop μ-loop
-add-from c = omega (arith, (c .before .before .before .before .before .pre .0 .0) .starts, (c .before .before .before .before .before .pre .0 .0) .small, (c .loop-test .taken))
+add-from c = omega (arith, (c .before .before .before .pre .1 .0) .starts, (c .before .before .before .pre .1 .0) .small, (c .loop-test .taken))
 
--- src/lib.rt:91:28
 mul-from : tie.Need-mul-from Inv-loop μ-loop
-mul-from c = omega (arith, (c .before .before .before .before .before .pre .0 .0) .starts, (c .before .before .before .before .before .pre .0 .0) .small, (c .loop-test .taken))
+mul-from c = omega (arith, (c .before .before .before .pre .1 .0) .starts, (c .before .before .before .pre .1 .0) .small, (c .loop-test .taken))
 
--- src/lib.rt:91:28
 slice-read-from : tie.Need-slice-read-from Inv-loop μ-loop
-slice-read-from c = omega (arith, (c .before .before .before .before .before .before .pre .0 .0) .starts, (c .before .loop-test .taken), (c .before .before .loop .inv .0 .1) .len, c .before .before .before .before .before .before .pre .0 .1 .0)
+slice-read-from c = omega (arith, (c .before .before .before .before .pre .1 .0) .starts, (c .before .loop-test .taken), (c .before .before .loop .inv .0 .1) .len, c .before .before .before .before .pre .0 .room)
 
--- src/lib.rt:91:28
 cast-from : tie.Need-cast-from Inv-loop μ-loop
-cast-from c = omega (arith, c .slice-known2 .given (c .before .before .before .before .before .before .args .first + c .before .before .loop .z))
+cast-from c = omega (arith, c .slice-known2 .given (c .before .before .before .before .args .first + c .before .before .loop .z))
 
--- src/lib.rt:91:20
 add-from-2 : tie.Need-add-from-2 Inv-loop μ-loop
-add-from-2 c = omega (arith, start-before (c .before .before .before .before .before .before .pre .0 .0) (c .before .before .loop .inv .0 .1) _ (c .before .loop-test .taken), (c .before .before .before .before .before .before .pre .0 .0) .small)
+add-from-2 c = omega (arith, start-before (c .before .before .before .before .pre .1 .0) (c .before .before .loop .inv .0 .1) _ (c .before .loop-test .taken), (c .before .before .before .before .pre .1 .0) .small)
 
--- src/lib.rt:92:32
 add-to : tie.Need-add-to Inv-loop μ-loop
-add-to c = omega (arith, (c .before .before .before .before .before .before .pre .0 .0) .starts, (c .before .before .before .before .before .before .pre .0 .0) .small, (c .before .loop-test .taken))
+add-to c = omega (arith, (c .before .before .before .before .pre .1 .0) .starts, (c .before .before .before .before .pre .1 .0) .small, (c .before .loop-test .taken))
 
--- src/lib.rt:92:32
 add-to-2 : tie.Need-add-to-2 Inv-loop μ-loop
-add-to-2 c = omega (arith, (c .before .before .before .before .before .before .pre .0 .0) .starts, (c .before .before .before .before .before .before .pre .0 .0) .small, (c .before .loop-test .taken))
+add-to-2 c = omega (arith, (c .before .before .before .before .pre .1 .0) .starts, (c .before .before .before .before .pre .1 .0) .small, (c .before .loop-test .taken))
 
--- src/lib.rt:92:26
 mul-to : tie.Need-mul-to Inv-loop μ-loop
-mul-to c = omega (arith, (c .before .before .before .before .before .before .pre .0 .0) .starts, (c .before .before .before .before .before .before .pre .0 .0) .small, (c .before .loop-test .taken))
+mul-to c = omega (arith, (c .before .before .before .before .pre .1 .0) .starts, (c .before .before .before .before .pre .1 .0) .small, (c .before .loop-test .taken))
 
--- src/lib.rt:92:26
 slice-read-to : tie.Need-slice-read-to Inv-loop μ-loop
-slice-read-to c = omega (arith, (c .before .before .before .before .before .before .before .pre .0 .0) .starts, (c .before .before .loop-test .taken), (c .before .before .before .loop .inv .0 .1) .len, c .before .before .before .before .before .before .before .pre .0 .1 .0)
+slice-read-to c = omega (arith, (c .before .before .before .before .before .pre .1 .0) .starts, (c .before .before .loop-test .taken), (c .before .before .before .loop .inv .0 .1) .len, c .before .before .before .before .before .pre .0 .room)
 
--- src/lib.rt:92:26
 cast-to : tie.Need-cast-to Inv-loop μ-loop
-cast-to c = omega (arith, c .slice-known3 .given (c .before .before .before .before .before .before .before .args .first + c .before .before .before .loop .z + 1))
+cast-to c = omega (arith, c .slice-known3 .given (c .before .before .before .before .before .args .first + c .before .before .before .loop .z + 1))
 
--- src/lib.rt:92:18
 add-to-3 : tie.Need-add-to-3 Inv-loop μ-loop
-add-to-3 c = omega (arith, end-before (c .before .before .before .before .before .before .before .pre .0 .0) (c .before .before .before .loop .inv .0 .1) _ (c .before .before .loop-test .taken), (c .before .before .before .before .before .before .before .pre .0 .0) .small)
+add-to-3 c = omega (arith, end-before (c .before .before .before .before .before .pre .1 .0) (c .before .before .before .loop .inv .0 .1) _ (c .before .before .loop-test .taken), (c .before .before .before .before .before .pre .1 .0) .small)
 
--- src/lib.rt:93:24
 cast-zone-apart : tie.Need-cast-zone-apart Inv-loop μ-loop
-cast-zone-apart c = omega (arith, (c .before .before .before .before .before .before .before .pre .0 .0) .few, (c .before .before .loop-test .taken))
+cast-zone-apart c = omega (arith, (c .before .before .before .before .before .pre .1 .0) .few, (c .before .before .loop-test .taken))
 
--- src/lib.rt:93:13
 zone-apart-requires : tie.Need-zone-apart-requires Inv-loop μ-loop
-zone-apart-requires c κs = ((end-before (c .before .before .before .before .before .before .before .before .pre .0 .0) (c .before .before .before .before .loop .inv .0 .1) _ (c .before .before .before .loop-test .taken), (omega (arith, c .before .before .before .before .before .before .before .before .pre .0 .1 .0, (c .before .before .before .before .loop .inv .0 .1) .len), (omega (arith, (c .before .before .before .before .before .before .before .before .pre .0 .0) .few, (c .before .before .before .loop-test .taken)), c .before .before .before .before .before .before .before .before .pre .0 .1 .1))), (rows-now (c .before .before .before .before .before .before .before .before .pre .0 .0) (c .before .before .before .before .loop .inv .0 .1) _ (c .before .before .before .loop-test .taken), c .before .before .before .before .before .before .before .before .pre .1 .0))
+zone-apart-requires c κs =
+    let entry = c .before .before .before .before .before .before in
+    let head = c .before .before .before .before .loop in
+    let by-loop-test = c .before .before .before .loop-test in
+    let fits = entry .pre .0 in (
+      record { turfs = fits .turfs; few = fits .few; room = omega (arith, fits .room, head .inv .0 .1 .len); mixtures = fits .mixtures; mixed = fits .mixed },
+      (end-before (entry .pre .1 .0) (head .inv .0 .1) _ (by-loop-test .taken), (omega (arith, entry .pre .1 .0 .few, by-loop-test .taken), rows-now (entry .pre .1 .0) (head .inv .0 .1) _ (by-loop-test .taken))),
+    )
 
--- src/lib.rt:94:13
 same-length : tie.Need-same-length Inv-loop μ-loop
 same-length c = search needs
 
--- src/lib.rt:94:13
 returns : tie.Need-returns Inv-loop μ-loop
-returns c = record { words = but-then (omega arith) (omega arith) (c .before .before .before .before .before .before .before .before .loop .inv .0 .1) (c .before .before .before .zone-apart .ensures .0); answer = λ zs e s. sym (apart-false _ zs _ (omega (arith, e, (c .before .before .before .before .before .before .before .loop-test .taken))) (zone-next (c .before .before .before .before .before .before .before .before .before .before .before .before .pre .0 .0) (c .before .before .before .before .before .before .before .before .loop .inv .0 .1) _ (c .before .before .before .before .before .before .before .loop-test .taken) _ zs s e (c .before .before .before .before .before .before .before .before .loop .inv .1 zs e s) (c .before .before .before .zone-apart .ensures .1 zs) .1 (not-true _ (c .if1 .taken)))) }
+returns c =
+    let entry = c .before .before .before .before .before .before .before .before .before .before in
+    let head = c .before .before .before .before .before .before .before .before .loop in
+    let by-loop-test = c .before .before .before .before .before .before .before .loop-test in
+    let by-zone-apart = c .before .before .before .zone-apart in
+    record { words = but-then (omega arith) (omega arith) (head .inv .0 .1) (by-zone-apart .ensures .0); answer = λ zs e s. sym (apart-false _ zs _ (omega (arith, e, (by-loop-test .taken))) (zone-next (entry .pre .1 .0) (head .inv .0 .1) _ (by-loop-test .taken) _ zs s e (head .inv .1 zs e s) (by-zone-apart .ensures .1 zs) .1 (not-true _ (c .if1 .taken)))) }
 
--- src/lib.rt:96:9
 add-z : tie.Need-add-z Inv-loop μ-loop
-add-z c = omega (arith, (c .before .before .before .before .before .before .before .loop-test .taken), (c .before .before .before .before .before .before .before .before .before .before .before .before .pre .0 .0) .few)
+add-z c = omega (arith, (c .before .before .before .before .before .before .before .loop-test .taken), (c .before .before .before .before .before .before .before .before .before .before .pre .1 .0) .few)
 
--- src/lib.rt:90:5
 loop-less : tie.Need-loop-less Inv-loop μ-loop
 loop-less c = omega (arith, (c .before .before .before .before .before .before .before .loop-test .taken))
 
--- src/lib.rt:90:5
 loop-again : tie.Need-loop-again Inv-loop μ-loop
-loop-again c = ((omega (arith, (c .before .before .before .before .before .before .before .loop-test .taken)), but-then (omega arith) (omega arith) (c .before .before .before .before .before .before .before .before .loop .inv .0 .1) (c .before .before .before .zone-apart .ensures .0)), λ zs e s. zone-next (c .before .before .before .before .before .before .before .before .before .before .before .before .pre .0 .0) (c .before .before .before .before .before .before .before .before .loop .inv .0 .1) _ (c .before .before .before .before .before .before .before .loop-test .taken) _ zs s e (c .before .before .before .before .before .before .before .before .loop .inv .1 zs e s) (c .before .before .before .zone-apart .ensures .1 zs) .0 (not-false _ (c .if1 .left)))
+loop-again c =
+    let entry = c .before .before .before .before .before .before .before .before .before .before in
+    let head = c .before .before .before .before .before .before .before .before .loop in
+    let by-loop-test = c .before .before .before .before .before .before .before .loop-test in
+    let by-zone-apart = c .before .before .before .zone-apart in
+    ((omega (arith, (by-loop-test .taken)), but-then (omega arith) (omega arith) (head .inv .0 .1) (by-zone-apart .ensures .0)), λ zs e s. zone-next (entry .pre .1 .0) (head .inv .0 .1) _ (by-loop-test .taken) _ zs s e (head .inv .1 zs e s) (by-zone-apart .ensures .1 zs) .0 (not-false _ (c .if1 .left)))
 
--- src/lib.rt:75:1
 same-length-2 : tie.Need-same-length-2 Inv-loop μ-loop
 same-length-2 c = search needs
 
--- src/lib.rt:75:1
 returns-2 : tie.Need-returns-2 Inv-loop μ-loop
 returns-2 c = record { words = c .before .loop .inv .0 .1; answer = λ zs e s. sym (apart-true _ zs _ _ _ (omega (arith, e, c .loop-test .left)) (c .before .loop .inv .1 zs e s)) }
 

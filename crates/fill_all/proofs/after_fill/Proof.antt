@@ -5,41 +5,28 @@ use mathlib.Core.Path.{refl, sym, _∙_}
 use borrow.Author.Needs.{needs}
 use Rattle.fill_all.proofs.after_fill.Statement.{statement}
 use Rattle.fill_all.proofs.after_fill.Tie as tie
-use Rattle.fill_all.proofs.after_fill.Reads as reads
-use Rattle.fill_all.proofs.after_fill.Lts as lts
-use Rattle.fill_all.proofs.ignore.Reads as ignore-reads
-use Rattle.fill_all.proofs.is_over.Reads as is-over-reads
-use Rattle.fill_all.proofs.keep_zone.Reads as keep-zone-reads
 
--- src/lib.rt:188:9
 keep-zone-requires : tie.Need-keep-zone-requires
 keep-zone-requires c κs = search needs
 
--- src/lib.rt:188:9
 same-length : tie.Need-same-length
 same-length c = search needs
 
--- src/lib.rt:188:9
 same-length-2 : tie.Need-same-length-2
 same-length-2 c = search needs
 
--- src/lib.rt:188:9
 returns : tie.Need-returns
 returns c = record { keeps = λ i. c .before .before .before .before .keep-zone .ensures; drops = λ i. absurd (differ (sym i ∙ not-true _ (c .before .before .before .before .before .before .before .if1 .taken))) }
 
--- src/lib.rt:190:5
 ignore-requires : tie.Need-ignore-requires
 ignore-requires c κs = search needs
 
--- src/lib.rt:192:9
 is-over-requires : tie.Need-is-over-requires
 is-over-requires c κs = search needs
 
--- src/lib.rt:172:1
 same-length-3 : tie.Need-same-length-3
 same-length-3 c = search needs
 
--- src/lib.rt:172:1
 returns-2 : tie.Need-returns-2
 returns-2 c = record { keeps = λ i. absurd (differ (sym (not-false _ (c .before .before .before .before .before .if1 .left)) ∙ i)); drops = λ i. record { answer = rw (c .is-over .ensures); words = c .before .before .before .ignore .ensures; long = c .before .before .before .ignore .kept .1 .1 .1 .1 .0; floats = refl } }
 

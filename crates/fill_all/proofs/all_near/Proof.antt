@@ -1,72 +1,73 @@
--- The loop's invariant: the turfs left, from here on, are near exactly when all are. Assumes nothing.
-use Rattle.mixture_rules.specs.Mixture.{total}
-use Rattle.board_rules.specs.Board.{Board}
-use Rattle.basics.proofs.Tests.{every-next, every-fails, every-end}
-use Rattle.basics.specs.Floats.{abs, _-f_}
-use Rattle.basics.specs.Loops.{every}
-use borrow.Author.Tests.{not-true, not-false}
-use lib.Ieee.{Float, lt}
-use lib.ListN.{length, drop}
-use mathlib.Core.Path.{_≡_, refl, ap, sym, _∙_}
-use Prim.Native.Nat.{_-_, _≤_}
-use native.Mathlib.Omega.{arith}
+-- The loop's invariant: the links left, from here on, are near exactly when all are. Assumes nothing.
 use borrow.Author.Needs.{needs}
+use native.Mathlib.Omega.{arith}
+use Prim.Native.Nat.{_-_}
+use mathlib.Core.Path.{_≡_, refl, sym, _∙_}
+use borrow.Author.Tests.{not-true, not-false}
+use Rattle.basics.specs.Loops.{every, upFrom}
+use Rattle.basics.proofs.Tests.{every-up-next, every-up-fails, every-up-end}
+use Rattle.turfs.specs.Tables.{boardOf, boardAt}
+use Rattle.fill_zone.proofs.Boards.{gas-holds}
+use Rattle.fill_all.proofs.Near.{nearAt, near-told}
 use Rattle.fill_all.proofs.all_near.Statement.{statement}
 use Rattle.fill_all.proofs.all_near.Tie as tie
-use Rattle.fill_all.proofs.all_near.Reads as reads
-use Rattle.fill_all.proofs.all_near.Lts as lts
-use Rattle.fill_all.proofs.nearer.Reads as nearer-reads
-use Rattle.mixture.proofs.total.Reads as total-reads
 
 abbrev Inv-loop : tie.InvT-loop
-Inv-loop rows mine threshold mixtures gases gas i₀ i = (i ≤ length rows) × ((b : Board) → b .mixtures ≡ mixtures → b .gases ≡ gases → every (λ a. lt (abs (total b gas a -f mine)) threshold) (drop i rows) ≡ every (λ a. lt (abs (total b gas a -f mine)) threshold) rows)
+Inv-loop mine threshold rows marks gases gas mixtures neighbours to k₀ k =
+    let near = nearAt (boardOf rows marks gases) gas mine threshold in
+    every near (upFrom k (to - k)) ≡ every near (upFrom k₀ (to - k₀))
 
 abbrev μ-loop : tie.MeasureT-loop
-μ-loop rows mine threshold mixtures gases gas i₀ i = length rows - i
+μ-loop mine threshold rows marks gases gas mixtures neighbours to k₀ k = to - k
 
--- src/lib.rt:70:5
+element-copy-out-mixtures : tie.Need-element-copy-out-mixtures Inv-loop μ-loop
+element-copy-out-mixtures c = search needs
+
+element-copy-out-neighbours : tie.Need-element-copy-out-neighbours Inv-loop μ-loop
+element-copy-out-neighbours c = search needs
+
 loop-holds : tie.Need-loop-holds Inv-loop μ-loop
-loop-holds c = (omega arith, λ b m g. refl)
+loop-holds c = refl
 
--- src/lib.rt:71:58
 mul-total : tie.Need-mul-total Inv-loop μ-loop
-mul-total c = search needs
+mul-total c = omega (arith, c .loop-test .taken, c .before .before .before .before .before .pre .1 .1, c .before .before .before .before .before .pre .0 .links)
 
--- src/lib.rt:71:58
 shared-slice-read-total : tie.Need-shared-slice-read-total Inv-loop μ-loop
-shared-slice-read-total c = search needs
+shared-slice-read-total c = omega (arith, c .before .loop-test .taken, c .before .before .before .before .before .before .pre .1 .1)
 
--- src/lib.rt:71:58
 cast-total : tie.Need-cast-total Inv-loop μ-loop
-cast-total c = omega (arith, c .shared-slice-known4 .given (c .before .before .loop .i))
+cast-total c = omega (arith, c .shared-slice-known2 .given (c .before .before .loop .k))
 
--- src/lib.rt:71:13
 total-requires : tie.Need-total-requires Inv-loop μ-loop
-total-requires c κs = c .before .before .before .before .before .before .pre .1 _ (c .before .loop-test .taken)
+total-requires c κs =
+    let entry = c .before .before .before .before .before .before in
+    (rw (entry .pre .0 .mixes) (entry .pre .0 .ends (c .before .before .loop .k)), gas-holds (entry .pre .0) (entry .args .gas .now) refl _)
 
--- src/lib.rt:72:13
 nearer-requires : tie.Need-nearer-requires Inv-loop μ-loop
-nearer-requires c κs = c .before .before .before .before .before .before .before .pre .0
+nearer-requires c κs = c .before .before .before .before .before .before .before .pre .1 .0
 
--- src/lib.rt:73:13
 returns : tie.Need-returns Inv-loop μ-loop
-returns c = λ b m g. sym (sym (c .before .before .before .before .before .loop .inv .1 b m g) ∙ every-fails _ (c .before .before .before .before .before .before .before .before .before .args .rows .now) 0 _ (c .before .before .before .before .loop-test .taken) (ap (λ (x : Float). lt (abs (x -f c .before .before .before .before .before .before .before .before .before .args .mine)) (c .before .before .before .before .before .before .before .before .before .args .threshold)) (sym (c .before .before .total .ensures b m g)) ∙ sym (c .before .nearer .ensures) ∙ not-true _ (c .if1 .taken)))
+returns c =
+    let entry = c .before .before .before .before .before .before .before .before .before in
+    let b = boardAt (entry .args .rows) (entry .args .marks) (entry .args .gases) in
+    let near = near-told b (entry .args .gas .now) (entry .args .mine) (entry .args .threshold) (c .before .before .before .before .before .loop .k) _ (c .before .before .total .ensures b refl refl) (c .before .nearer .ensures) in
+    sym (sym (c .before .before .before .before .before .loop .inv) ∙ every-up-fails _ _ _ (c .before .before .before .before .loop-test .taken) (near ∙ not-true _ (c .if1 .taken)))
 
--- src/lib.rt:75:9
-add-i : tie.Need-add-i Inv-loop μ-loop
-add-i c = search needs
+add-k : tie.Need-add-k Inv-loop μ-loop
+add-k c = omega (arith, c .before .before .before .before .loop-test .taken, c .before .before .before .before .before .before .before .before .before .pre .1 .1, c .before .before .before .before .before .before .before .before .before .pre .0 .links)
 
--- src/lib.rt:70:5
 loop-less : tie.Need-loop-less Inv-loop μ-loop
-loop-less c = search needs
+loop-less c = omega (arith, c .before .before .before .before .loop-test .taken)
 
--- src/lib.rt:70:5
 loop-again : tie.Need-loop-again Inv-loop μ-loop
-loop-again c = (omega (arith, c .before .before .before .before .loop-test .taken), λ b m g. sym (every-next _ (c .before .before .before .before .before .before .before .before .before .args .rows .now) 0 _ (c .before .before .before .before .loop-test .taken) (ap (λ (x : Float). lt (abs (x -f c .before .before .before .before .before .before .before .before .before .args .mine)) (c .before .before .before .before .before .before .before .before .before .args .threshold)) (sym (c .before .before .total .ensures b m g)) ∙ sym (c .before .nearer .ensures) ∙ not-false _ (c .if1 .left))) ∙ c .before .before .before .before .before .loop .inv .1 b m g)
+loop-again c =
+    let entry = c .before .before .before .before .before .before .before .before .before in
+    let b = boardAt (entry .args .rows) (entry .args .marks) (entry .args .gases) in
+    let near = near-told b (entry .args .gas .now) (entry .args .mine) (entry .args .threshold) (c .before .before .before .before .before .loop .k) _ (c .before .before .total .ensures b refl refl) (c .before .nearer .ensures) in
+    sym (every-up-next _ _ _ (c .before .before .before .before .loop-test .taken) (near ∙ not-false _ (c .if1 .left))) ∙ c .before .before .before .before .before .loop .inv
 
--- src/lib.rt:57:1
 returns-2 : tie.Need-returns-2 Inv-loop μ-loop
-returns-2 c = λ b m g. sym (sym (c .before .loop .inv .1 b m g) ∙ every-end _ (c .before .before .before .before .before .args .rows .now) 0 _ (c .loop-test .left))
+returns-2 c = sym (sym (c .before .loop .inv) ∙ every-up-end _ _ _ (c .loop-test .left))
 
 pub all-near-spec : {M : Type 1} → statement M
 all-near-spec =
@@ -74,6 +75,8 @@ all-near-spec =
     (tie.spec
     Inv-loop
     μ-loop
+    element-copy-out-mixtures
+    element-copy-out-neighbours
     loop-holds
     mul-total
     shared-slice-read-total
@@ -81,7 +84,7 @@ all-near-spec =
     total-requires
     nearer-requires
     returns
-    add-i
+    add-k
     loop-less
     loop-again
     returns-2)

@@ -1,16 +1,11 @@
 -- The loop's invariant: the rows so far gave their links back. Assumes nothing.
-use Prim.Native.Nat.{ℕ, _<_}
+use Prim.Native.Nat.{ℕ, _<_, _-_}
 use mathlib.Core.Path.{sym, subst}
 use Rattle.fill_all.proofs.Stores.{Backing, backing-start, back-row, back-asks, backing-next, backing-end}
-use Prim.Native.Nat.{_-_}
 use native.Mathlib.Omega.{arith}
 use borrow.Author.Needs.{needs}
 use Rattle.fill_all.proofs.ignore.Statement.{statement}
 use Rattle.fill_all.proofs.ignore.Tie as tie
-use Rattle.fill_all.proofs.ignore.Reads as reads
-use Rattle.fill_all.proofs.ignore.Lts as lts
-use Rattle.fill_all.proofs.give_back.Reads as give-back-reads
-use Rattle.index_set.proofs.queue_at.Reads as queue-at-reads
 
 abbrev Inv-loop : tie.InvT-loop
 Inv-loop queued n e starts words₀ queue i₀ words i = Backing n e starts queued i words₀ words
@@ -18,51 +13,56 @@ Inv-loop queued n e starts words₀ queue i₀ words i = Backing n e starts queu
 abbrev μ-loop : tie.MeasureT-loop
 μ-loop queued n e starts words₀ queue i₀ words i = queued - i
 
--- src/lib.rt:125:9
 queue-at-requires : tie.Need-queue-at-requires Inv-loop μ-loop
-queue-at-requires c κs = (c .before .before .pre .0 .0 .links, c .before .before .pre .0 .0 .turfs)
+queue-at-requires c κs = (c .before .before .pre .0 .sizes .links, c .before .before .pre .0 .sizes .turfs)
 
--- src/lib.rt:127:5
 loop-holds : tie.Need-loop-holds Inv-loop μ-loop
 loop-holds c = backing-start _ _ _ _ _
 
--- src/lib.rt:128:25
 add-give-back : tie.Need-add-give-back Inv-loop μ-loop
-add-give-back c = omega (arith, c .before .before .queue-at .ensures, c .before .before .before .before .before .pre .0 .0 .turfs, c .before .before .before .before .before .pre .0 .0 .links, c .loop-test .taken, c .before .before .before .before .before .pre .0 .1 .1 .0)
+add-give-back c =
+    let entry = c .before .before .before .before .before in
+    omega (arith, c .before .before .queue-at .ensures, entry .pre .0 .sizes .turfs, entry .pre .0 .sizes .links, c .loop-test .taken, entry .pre .0 .few)
 
--- src/lib.rt:128:19
 mul-give-back : tie.Need-mul-give-back Inv-loop μ-loop
-mul-give-back c = omega (arith, c .before .before .queue-at .ensures, c .before .before .before .before .before .pre .0 .0 .turfs, c .before .before .before .before .before .pre .0 .0 .links, c .loop-test .taken, c .before .before .before .before .before .pre .0 .1 .1 .0)
+mul-give-back c =
+    let entry = c .before .before .before .before .before in
+    omega (arith, c .before .before .queue-at .ensures, entry .pre .0 .sizes .turfs, entry .pre .0 .sizes .links, c .loop-test .taken, entry .pre .0 .few)
 
--- src/lib.rt:128:19
 slice-read-give-back : tie.Need-slice-read-give-back Inv-loop μ-loop
-slice-read-give-back c = omega (arith, c .before .before .before .queue-at .ensures, c .before .before .before .before .before .before .pre .0 .1 .0, c .before .loop-test .taken, c .before .before .before .before .before .before .pre .0 .1 .1 .0, c .before .before .loop .inv .long)
+slice-read-give-back c = omega (arith, c .before .before .before .queue-at .ensures, c .before .before .before .before .before .before .pre .0 .words, c .before .loop-test .taken, c .before .before .before .before .before .before .pre .0 .few, c .before .before .loop .inv .long)
 
--- src/lib.rt:128:19
 cast-give-back : tie.Need-cast-give-back Inv-loop μ-loop
-cast-give-back c = omega (arith, back-row (c .before .before .loop .inv) (c .before .before .before .before .before .before .pre .0 .1 .0) (c .before .before .before .before .before .before .pre .0 .1 .1 .0) (c .before .loop-test .taken) _ (c .before .before .before .queue-at .ensures), c .before .before .before .before .before .before .pre .0 .1 .1 .1 _ (c .before .loop-test .taken), c .before .before .before .before .before .before .pre .0 .0 .turfs)
+cast-give-back c =
+    let entry = c .before .before .before .before .before .before in
+    omega (arith, back-row (c .before .before .loop .inv) (entry .pre .0 .words) (entry .pre .0 .few) (c .before .loop-test .taken) _ (c .before .before .before .queue-at .ensures), entry .pre .0 .rows _ (c .before .loop-test .taken), entry .pre .0 .sizes .turfs)
 
--- src/lib.rt:128:9
 give-back-requires : tie.Need-give-back-requires Inv-loop μ-loop
-give-back-requires c κs = back-asks (c .before .before .before .before .before .before .before .args .starts .now) (c .before .before .before .loop .words) (c .before .before .before .before .before .before .before .pre .1) (rw (c .before .before .before .loop .inv .long) (c .before .before .before .before .before .before .before .pre .0 .1 .0)) _ (subst (λ (x : ℕ). x < c .before .before .before .before .before .before .before .args .n) (sym (back-row (c .before .before .before .loop .inv) (c .before .before .before .before .before .before .before .pre .0 .1 .0) (c .before .before .before .before .before .before .before .pre .0 .1 .1 .0) (c .before .before .loop-test .taken) _ (c .before .before .before .before .queue-at .ensures))) (c .before .before .before .before .before .before .before .pre .0 .1 .1 .1 _ (c .before .before .loop-test .taken)))
+give-back-requires c κs =
+    let entry = c .before .before .before .before .before .before .before in
+    let by-queue-at = c .before .before .before .before .queue-at in
+    let head = c .before .before .before .loop in
+    back-asks (head .words) (entry .pre .1) (rw (head .inv .long) (entry .pre .0 .words)) _ (subst (λ (x : ℕ). x < entry .args .n) (sym (back-row (head .inv) (entry .pre .0 .words) (entry .pre .0 .few) (c .before .before .loop-test .taken) _ (by-queue-at .ensures))) (entry .pre .0 .rows _ (c .before .before .loop-test .taken)))
 
--- src/lib.rt:129:9
 add-i : tie.Need-add-i Inv-loop μ-loop
-add-i c = omega (arith, c .before .before .before .before .before .loop-test .taken, c .before .before .before .before .before .before .before .before .before .before .pre .0 .1 .1 .0, c .before .before .before .before .before .before .before .before .before .before .pre .0 .0 .turfs)
+add-i c = omega (arith, c .before .before .before .before .before .loop-test .taken, c .before .before .before .before .before .before .before .before .before .before .pre .0 .few, c .before .before .before .before .before .before .before .before .before .before .pre .0 .sizes .turfs)
 
--- src/lib.rt:127:5
 loop-less : tie.Need-loop-less Inv-loop μ-loop
 loop-less c = search needs
 
--- src/lib.rt:127:5
 loop-again : tie.Need-loop-again Inv-loop μ-loop
-loop-again c = backing-next (c .before .before .before .before .before .before .loop .inv) (c .before .before .before .before .before .before .before .before .before .before .pre .0 .1 .0) (c .before .before .before .before .before .before .before .before .before .before .pre .0 .1 .1 .0) (c .before .before .before .before .before .loop-test .taken) _ (c .before .before .before .before .before .before .before .queue-at .ensures) _ (back-row (c .before .before .before .before .before .before .loop .inv) (c .before .before .before .before .before .before .before .before .before .before .pre .0 .1 .0) (c .before .before .before .before .before .before .before .before .before .before .pre .0 .1 .1 .0) (c .before .before .before .before .before .loop-test .taken) _ (c .before .before .before .before .before .before .before .queue-at .ensures)) (c .before .before .before .before .before .before .before .before .before .before .pre .1 .1 .0 _ (subst (λ (x : ℕ). x < c .before .before .before .before .before .before .before .before .before .before .args .n) (sym (back-row (c .before .before .before .before .before .before .loop .inv) (c .before .before .before .before .before .before .before .before .before .before .pre .0 .1 .0) (c .before .before .before .before .before .before .before .before .before .before .pre .0 .1 .1 .0) (c .before .before .before .before .before .loop-test .taken) _ (c .before .before .before .before .before .before .before .queue-at .ensures))) (c .before .before .before .before .before .before .before .before .before .before .pre .0 .1 .1 .1 _ (c .before .before .before .before .before .loop-test .taken)))) (c .before .before .before .before .before .before .before .before .before .before .pre .1 .1 .1 _ (subst (λ (x : ℕ). x < c .before .before .before .before .before .before .before .before .before .before .args .n) (sym (back-row (c .before .before .before .before .before .before .loop .inv) (c .before .before .before .before .before .before .before .before .before .before .pre .0 .1 .0) (c .before .before .before .before .before .before .before .before .before .before .pre .0 .1 .1 .0) (c .before .before .before .before .before .loop-test .taken) _ (c .before .before .before .before .before .before .before .queue-at .ensures))) (c .before .before .before .before .before .before .before .before .before .before .pre .0 .1 .1 .1 _ (c .before .before .before .before .before .loop-test .taken)))) (c .before .before .give-back .ensures)
+loop-again c =
+    let entry = c .before .before .before .before .before .before .before .before .before .before in
+    let by-queue-at = c .before .before .before .before .before .before .before .queue-at in
+    let head = c .before .before .before .before .before .before .loop in
+    let by-loop-test = c .before .before .before .before .before .loop-test in
+    let row = back-row (head .inv) (entry .pre .0 .words) (entry .pre .0 .few) (by-loop-test .taken) _ (by-queue-at .ensures) in
+    let turf = subst (λ (x : ℕ). x < entry .args .n) (sym row) (entry .pre .0 .rows _ (by-loop-test .taken)) in
+    backing-next (head .inv) (entry .pre .0 .words) (entry .pre .0 .few) (by-loop-test .taken) _ (by-queue-at .ensures) _ row (entry .pre .1 .rise _ turf) (entry .pre .1 .end _ turf) (c .before .before .give-back .ensures)
 
--- src/lib.rt:120:1
 same-length : tie.Need-same-length Inv-loop μ-loop
 same-length c = c .before .loop .inv .long
 
--- src/lib.rt:120:1
 returns : tie.Need-returns Inv-loop μ-loop
 returns c = backing-end (c .before .loop .inv) (c .loop-test .left)
 

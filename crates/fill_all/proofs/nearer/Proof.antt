@@ -2,14 +2,10 @@
 use Rattle.fill_all.proofs.Near.{near-here, near-not}
 use Rattle.fill_all.proofs.nearer.Statement.{statement}
 use Rattle.fill_all.proofs.nearer.Tie as tie
-use Rattle.fill_all.proofs.nearer.Reads as reads
-use Rattle.fill_all.proofs.nearer.Lts as lts
 
--- src/lib.rt:51:9
 returns : tie.Need-returns
 returns c = near-here _ _ (c .before .pre) (c .if1 .taken)
 
--- src/lib.rt:45:1
 returns-2 : tie.Need-returns-2
 returns-2 c = near-not _ _ (c .before .pre) (c .if1 .left)
 

@@ -1,75 +1,62 @@
 -- No links, few moles, or all neighbours near. Assumes nothing.
-use Rattle.fill_all.proofs.Near.{none-linked, few-moles, all-tested, near-asks}
-use Rattle.mixture.specs.Moves.{Holds}
-use Rattle.mixture_rules.specs.Mixture.{total}
-use Rattle.basics.specs.Floats.{abs, _-f_}
-use Rattle.basics.specs.Loops.{every}
-use lib.Ieee.{Float, lt}
-use lib.ListN.{length, getD, take, drop}
-use mathlib.Core.List.{List}
-use mathlib.Core.Path.{ap, ap₂, sym, _∙_}
-use Prim.Native.Nat.{ℕ, _+_, _-_}
+use mathlib.Core.Path.{refl}
+use Rattle.turfs.specs.Tables.{boardAt}
+use Rattle.fill_zone.proofs.Boards.{parts, gas-holds}
+use Rattle.fill_all.proofs.Near.{none-linked, few-moles, all-tested}
 use native.Mathlib.Omega.{arith}
 use borrow.Author.Needs.{needs}
 use Rattle.fill_all.proofs.unshareable.Statement.{statement}
 use Rattle.fill_all.proofs.unshareable.Tie as tie
-use Rattle.fill_all.proofs.unshareable.Reads as reads
-use Rattle.fill_all.proofs.unshareable.Lts as lts
-use Rattle.fill_all.proofs.all_near.Reads as all-near-reads
-use Rattle.mixture.proofs.total.Reads as total-reads
-use Rattle.turfs.proofs.links_of.Reads as links-of-reads
 
--- src/lib.rt:95:9
+element-copy-out-links-of : tie.Need-element-copy-out-links-of
+element-copy-out-links-of c = search needs
+
 links-of-requires : tie.Need-links-of-requires
 links-of-requires c κs = search needs
 
--- src/lib.rt:99:9
 returns : tie.Need-returns
-returns c = λ b em es en eg q et. none-linked b _ q _ _ _ (c .before .links-of .ensures .0 ∙ ap (λ (l : List ℕ). getD l (c .before .before .before .before .before .before .args .row) 0) (sym es)) (c .before .links-of .ensures .1 ∙ ap (λ (l : List ℕ). getD l (c .before .before .before .before .before .before .args .row + 1) 0) (sym es)) (c .if1 .taken)
+returns c = λ q et.
+    let entry = c .before .before .before .before .before in
+    none-linked (boardAt (entry .args .rows) (entry .args .marks) (entry .args .gases)) _ q _ _ _ (c .before .before .links-of .ensures .0) (c .before .before .links-of .ensures .1) (c .if1 .taken)
 
--- src/lib.rt:101:9
+element-copy-out-total : tie.Need-element-copy-out-total
+element-copy-out-total c = search needs
+
 total-requires : tie.Need-total-requires
-total-requires c κs = (c .before .before .before .before .before .before .pre .0 .1 .0, c .before .before .before .before .before .before .pre .1 .1 _ (c .before .before .before .before .before .before .pre .0 .1 .0))
+total-requires c κs =
+    let entry = c .before .before .before .before .before .before in
+    (rw (entry .pre .0 .mixes) (entry .pre .1 .1), gas-holds (entry .pre .0) (entry .args .gas .now) refl (entry .args .row))
 
--- src/lib.rt:103:9
 returns-2 : tie.Need-returns-2
-returns-2 c = λ b em es en eg q et. few-moles b _ q _ _ _ (c .before .before .before .links-of .ensures .0 ∙ ap (λ (l : List ℕ). getD l (c .before .before .before .before .before .before .before .before .args .row) 0) (sym es)) (c .before .before .before .links-of .ensures .1 ∙ ap (λ (l : List ℕ). getD l (c .before .before .before .before .before .before .before .before .args .row + 1) 0) (sym es)) (c .before .before .if1 .left) (omega (arith, c .before .before .before .before .before .before .before .before .pre .0 .1 .1 .rise _ (c .before .before .before .before .before .before .before .before .pre .0 .1 .0), c .before .before .before .before .before .before .before .before .pre .0 .1 .1 .end _ (c .before .before .before .before .before .before .before .before .pre .0 .1 .0), c .before .before .before .links-of .ensures .0, c .before .before .before .links-of .ensures .1)) _ (c .before .total .ensures b em eg) (c .if2 .taken)
+returns-2 c = λ q et.
+    let entry = c .before .before .before .before .before .before .before .before in
+    let b = boardAt (entry .args .rows) (entry .args .marks) (entry .args .gases) in
+    let ends = c .before .before .before .before .before .links-of .ensures in
+    let rise = parts (entry .pre .0) .rise _ (entry .pre .1 .1) in
+    few-moles b _ q _ _ _ (ends .0) (ends .1) (c .before .before .before .if1 .left) (omega arith) _ (c .before .total .ensures b refl refl) (c .if2 .taken)
 
--- src/lib.rt:105:14
-mul-all-near : tie.Need-mul-all-near
-mul-all-near c = omega (arith, c .before .before .before .before .before .before .before .before .pre .0 .1 .1 .rise _ (c .before .before .before .before .before .before .before .before .pre .0 .1 .0), c .before .before .before .before .before .before .before .before .pre .0 .1 .1 .end _ (c .before .before .before .before .before .before .before .before .pre .0 .1 .0), c .before .before .before .links-of .ensures .0, c .before .before .before .links-of .ensures .1, c .before .before .before .before .before .shared-slice-known3 .given 0)
-
--- src/lib.rt:105:14
-sub-all-near : tie.Need-sub-all-near
-sub-all-near c = omega (arith, c .before .before .before .before .before .before .before .before .pre .0 .1 .1 .rise _ (c .before .before .before .before .before .before .before .before .pre .0 .1 .0), c .before .before .before .before .before .before .before .before .pre .0 .1 .1 .end _ (c .before .before .before .before .before .before .before .before .pre .0 .1 .0), c .before .before .before .links-of .ensures .0, c .before .before .before .links-of .ensures .1)
-
--- src/lib.rt:105:14
-part-all-near-start : tie.Need-part-all-near-start
-part-all-near-start c = omega (arith, c .before .before .before .before .before .before .before .before .pre .0 .1 .1 .rise _ (c .before .before .before .before .before .before .before .before .pre .0 .1 .0), c .before .before .before .before .before .before .before .before .pre .0 .1 .1 .end _ (c .before .before .before .before .before .before .before .before .pre .0 .1 .0), c .before .before .before .links-of .ensures .0, c .before .before .before .links-of .ensures .1)
-
--- src/lib.rt:105:14
-part-all-near-end : tie.Need-part-all-near-end
-part-all-near-end c = omega (arith, c .before .before .before .before .before .before .before .before .pre .0 .1 .1 .rise _ (c .before .before .before .before .before .before .before .before .pre .0 .1 .0), c .before .before .before .before .before .before .before .before .pre .0 .1 .1 .end _ (c .before .before .before .before .before .before .before .before .pre .0 .1 .0), c .before .before .before .links-of .ensures .0, c .before .before .before .links-of .ensures .1)
-
--- src/lib.rt:105:5
 all-near-requires : tie.Need-all-near-requires
-all-near-requires c κs = (c .before .before .before .before .before .before .before .before .before .pre .0 .0, near-asks (c .before .before .before .before .before .before .before .before .before .args .neighbours .now) (c .before .before .before .before .before .before .before .before .before .args .mixtures .now) (λ x. Holds (c .before .before .before .before .before .before .before .before .before .args .gas .now) (c .before .before .before .before .before .before .before .before .before .args .gases) x) (c .before .before .before .before .links-of .result .from) (c .before .before .before .before .links-of .result .to) (c .before .before .before .before .before .before .before .before .before .pre .1 .0) (c .before .before .before .before .before .before .before .before .before .pre .1 .1))
+all-near-requires c κs =
+    let entry = c .before .before .before .before .before .before .before .before in
+    (entry .pre .0, (entry .pre .1 .0, omega (arith, parts (entry .pre .0) .end _ (entry .pre .1 .1), c .before .before .before .before .before .links-of .ensures .1)))
 
--- src/lib.rt:81:1
 returns-3 : tie.Need-returns-3
-returns-3 c = λ b em es en eg q et. all-tested b _ q _ _ _ (c .before .before .before .before .before .links-of .ensures .0 ∙ ap (λ (l : List ℕ). getD l (c .before .before .before .before .before .before .before .before .before .before .args .row) 0) (sym es)) (c .before .before .before .before .before .links-of .ensures .1 ∙ ap (λ (l : List ℕ). getD l (c .before .before .before .before .before .before .before .before .before .before .args .row + 1) 0) (sym es)) (c .before .before .before .before .if1 .left) (omega (arith, c .before .before .before .before .before .before .before .before .before .before .pre .0 .1 .1 .rise _ (c .before .before .before .before .before .before .before .before .before .before .pre .0 .1 .0), c .before .before .before .before .before .before .before .before .before .before .pre .0 .1 .1 .end _ (c .before .before .before .before .before .before .before .before .before .before .pre .0 .1 .0), c .before .before .before .before .before .links-of .ensures .0, c .before .before .before .before .before .links-of .ensures .1)) _ (c .before .before .before .total .ensures b em eg) (c .before .before .if2 .left) (omega (arith, c .before .before .before .before .before .before .before .before .before .before .pre .0 .1 .1 .rise _ (c .before .before .before .before .before .before .before .before .before .before .pre .0 .1 .0), c .before .before .before .before .before .before .before .before .before .before .pre .0 .1 .1 .end _ (c .before .before .before .before .before .before .before .before .before .before .pre .0 .1 .0), c .before .before .before .before .before .links-of .ensures .0, c .before .before .before .before .before .links-of .ensures .1, ap length en)) _ (c .all-near .ensures b em eg ∙ ap₂ (λ (x : Float) (l : List ℕ). every (λ a. lt (abs (total b (c .before .before .before .before .before .before .before .before .before .before .args .gas .now) a -f c .before .before .before .total .result)) x) (take (c .before .before .before .before .before .links-of .result .to - c .before .before .before .before .before .links-of .result .from) (drop (c .before .before .before .before .before .links-of .result .from) l))) (sym et) (sym en))
+returns-3 c = λ q et.
+    let entry = c .before .before .before .before .before .before .before .before .before in
+    let b = boardAt (entry .args .rows) (entry .args .marks) (entry .args .gases) in
+    let ends = c .before .before .before .before .before .before .links-of .ensures in
+    let rise = parts (entry .pre .0) .rise _ (entry .pre .1 .1) in
+    all-tested b _ q _ _ _ (ends .0) (ends .1) (c .before .before .before .before .if1 .left) (omega arith) _ (c .before .before .total .ensures b refl refl) (c .before .if2 .left) _ et _ (c .all-near .ensures)
 
 pub unshareable-spec : {M : Type 1} → statement M
 unshareable-spec =
     tie.close
     (tie.spec
+    element-copy-out-links-of
     links-of-requires
     returns
+    element-copy-out-total
     total-requires
     returns-2
-    mul-all-near
-    sub-all-near
-    part-all-near-start
-    part-all-near-end
     all-near-requires
     returns-3)

@@ -1,88 +1,53 @@
 -- The turf's part of the link list, and its total. Assumes nothing.
+use Rattle.fill_zone.proofs.Boards.{gas-holds, linked-of}
+use Rattle.turfs.specs.Tables.{boardAt}
 use Rattle.fill_zone.proofs.Pops.{floods-expand}
-use Rattle.fill_zone.proofs.Boards.{parts, rows-of, gas-holds, part-fits}
 use mathlib.Core.Path.{refl}
 use native.Mathlib.Omega.{arith}
 use borrow.Author.Needs.{needs}
 use Rattle.fill_zone.proofs.expand.Statement.{statement}
 use Rattle.fill_zone.proofs.expand.Tie as tie
-use Rattle.fill_zone.proofs.expand.Reads as reads
-use Rattle.fill_zone.proofs.expand.Lts as lts
-use Rattle.flood_fill.proofs.reach_links.Reads as reach-links-reads
-use Rattle.mixture.proofs.total.Reads as total-reads
-use Rattle.turfs.proofs.links_of.Reads as links-of-reads
 
--- src/lib.rt:88:9
-links-of-requires : tie.Need-links-of-requires
-links-of-requires c κs = search needs
+element-copy-out-total : tie.Need-element-copy-out-total
+element-copy-out-total c = search needs
 
--- src/lib.rt:91:9
 total-requires : tie.Need-total-requires
-total-requires c κs = (rw (c .before .before .before .before .before .before .before .before .before .before .before .before .pre .0 .mixes) (c .before .before .before .before .before .before .before .before .before .before .before .before .pre .1 .1 .0), gas-holds (c .before .before .before .before .before .before .before .before .before .before .before .before .pre .0) (c .before .before .before .before .before .before .before .before .before .before .before .before .args .gas .now) refl (c .before .before .before .before .before .before .before .before .before .before .before .before .args .row))
+total-requires c κs =
+    let entry = c .before .before .before .before in
+    (rw (entry .pre .0 .mixes) (entry .pre .1 .turf .row), gas-holds (entry .pre .0) (entry .args .gas .now) refl (entry .args .row))
 
--- src/lib.rt:94:9
-mul-reach-links : tie.Need-mul-reach-links
-mul-reach-links c = omega (arith, parts (c .before .before .before .before .before .before .before .before .before .before .before .before .before .before .pre .0) .rise _ (c .before .before .before .before .before .before .before .before .before .before .before .before .before .before .pre .1 .1 .0), parts (c .before .before .before .before .before .before .before .before .before .before .before .before .before .before .pre .0) .end _ (c .before .before .before .before .before .before .before .before .before .before .before .before .before .before .pre .1 .1 .0), c .before .before .links-of .ensures .0, c .before .before .links-of .ensures .1, c .before .before .before .before .before .before .before .before .before .before .before .before .before .before .pre .0 .links)
-
--- src/lib.rt:94:9
-sub-reach-links : tie.Need-sub-reach-links
-sub-reach-links c = omega (arith, parts (c .before .before .before .before .before .before .before .before .before .before .before .before .before .before .pre .0) .rise _ (c .before .before .before .before .before .before .before .before .before .before .before .before .before .before .pre .1 .1 .0), parts (c .before .before .before .before .before .before .before .before .before .before .before .before .before .before .pre .0) .end _ (c .before .before .before .before .before .before .before .before .before .before .before .before .before .before .pre .1 .1 .0), c .before .before .links-of .ensures .0, c .before .before .links-of .ensures .1, c .before .before .before .before .before .before .before .before .before .before .before .before .before .before .pre .0 .links)
-
--- src/lib.rt:94:9
-part-reach-links-start : tie.Need-part-reach-links-start
-part-reach-links-start c = omega (arith, parts (c .before .before .before .before .before .before .before .before .before .before .before .before .before .before .pre .0) .rise _ (c .before .before .before .before .before .before .before .before .before .before .before .before .before .before .pre .1 .1 .0), parts (c .before .before .before .before .before .before .before .before .before .before .before .before .before .before .pre .0) .end _ (c .before .before .before .before .before .before .before .before .before .before .before .before .before .before .pre .1 .1 .0), c .before .before .links-of .ensures .0, c .before .before .links-of .ensures .1, c .before .before .before .before .before .before .before .before .before .before .before .before .before .before .pre .0 .links)
-
--- src/lib.rt:94:9
-part-reach-links-end : tie.Need-part-reach-links-end
-part-reach-links-end c = omega (arith, parts (c .before .before .before .before .before .before .before .before .before .before .before .before .before .before .pre .0) .rise _ (c .before .before .before .before .before .before .before .before .before .before .before .before .before .before .pre .1 .1 .0), parts (c .before .before .before .before .before .before .before .before .before .before .before .before .before .before .pre .0) .end _ (c .before .before .before .before .before .before .before .before .before .before .before .before .before .before .pre .1 .1 .0), c .before .before .links-of .ensures .0, c .before .before .links-of .ensures .1, c .before .before .before .before .before .before .before .before .before .before .before .before .before .before .pre .0 .links)
-
--- src/lib.rt:97:9
-mul-reach-links-2 : tie.Need-mul-reach-links-2
-mul-reach-links-2 c = search needs
-
--- src/lib.rt:97:9
-shared-slice-read-reach-links : tie.Need-shared-slice-read-reach-links
-shared-slice-read-reach-links c = search needs
-
--- src/lib.rt:93:9
 reach-links-requires : tie.Need-reach-links-requires
-reach-links-requires c κs = (c .before .before .before .before .before .before .before .before .before .before .before .before .before .before .before .before .before .before .pre .1 .0, (rows-of (c .before .before .before .before .before .before .before .before .before .before .before .before .before .before .before .before .before .before .pre .0), part-fits (c .before .before .before .before .before .before .before .before .before .before .before .before .before .before .before .before .before .before .pre .0) _ (c .before .before .before .before .before .before .before .before .before .before .before .before .before .before .before .before .before .before .pre .1 .1 .0) _ _ (c .before .before .before .before .before .before .links-of .ensures .0) (c .before .before .before .before .before .before .links-of .ensures .1) _ (c .before .before .before .before .before .before .before .before .before .before .before .before .before .before .before .before .before .before .pre .1 .1 .1 .1 .1)))
+reach-links-requires c κs =
+    let entry = c .before .before .before .before .before .before .before .before in
+    (linked-of (entry .args .rows .now) (entry .args .marks .now) (entry .args .gases) (entry .pre .0), (record { row = entry .pre .1 .turf .row; free = entry .pre .1 .turf .free }, entry .pre .1 .walking))
 
--- src/lib.rt:112:17
-add-t25 : tie.Need-add-t25
-add-t25 c = omega (arith, c .before .before .before .before .before .before .before .before .before .before .before .before .before .before .before .before .before .before .before .before .before .before .before .before .pre .1 .1 .1 .0)
+add-t17 : tie.Need-add-t17
+add-t17 c = search needs
 
--- src/lib.rt:115:16
-add-t34 : tie.Need-add-t34
-add-t34 c = omega (arith, c .before .before .before .before .before .before .before .before .before .before .before .before .before .before .before .before .before .before .before .before .before .before .before .before .before .before .pre .1 .1 .1 .1 .0)
+add-t23 : tie.Need-add-t23
+add-t23 c = omega (arith, c .before .before .before .before .before .before .before .before .before .before .before .before .before .before .before .before .pre .1 .tests)
 
--- src/lib.rt:63:1
 same-length : tie.Need-same-length
 same-length c = search needs
 
--- src/lib.rt:63:1
 same-length-2 : tie.Need-same-length-2
 same-length-2 c = search needs
 
--- src/lib.rt:63:1
 returns : tie.Need-returns
-returns c = λ limit allowance. floods-expand (c .before .before .before .before .before .before .before .before .before .before .before .before .before .before .before .before .before .before .before .before .before .before .before .before .before .before .pre .0) _ limit allowance _ _ _ _ _ _ _ _ _ (c .before .before .before .before .before .before .before .before .before .before .before .before .before .before .before .before .before .before .before .before .before .before .before .before .before .before .pre .1 .1 .0) (c .before .before .before .before .before .before .before .before .before .before .before .before .before .before .links-of .ensures .0) (c .before .before .before .before .before .before .before .before .before .before .before .before .before .before .links-of .ensures .1) (c .before .before .before .before .before .before .before .before .before .before .before .before .before .total .ensures _ refl refl) _ (c .before .before .before .before .before .before .before .reach-links .ensures) refl
+returns c = λ limit allowance.
+    let entry = c .before .before .before .before .before .before .before .before .before .before .before .before .before .before .before .before in
+    let b = boardAt (entry .args .rows) (entry .args .marks) (entry .args .gases) in
+    floods-expand b _ limit allowance _ _ _ _ _ _ _ (c .before .before .before .before .before .before .before .before .before .before .before .total .ensures b refl refl) _ (c .before .before .before .before .before .before .before .reach-links .ensures _) refl
 
 pub expand-spec : {M : Type 1} → statement M
 expand-spec =
     tie.close
     (tie.spec
-    links-of-requires
+    element-copy-out-total
     total-requires
-    mul-reach-links
-    sub-reach-links
-    part-reach-links-start
-    part-reach-links-end
-    mul-reach-links-2
-    shared-slice-read-reach-links
     reach-links-requires
-    add-t25
-    add-t34
+    add-t17
+    add-t23
     same-length
     same-length-2
     returns)

@@ -2,30 +2,22 @@
 use borrow.Author.Needs.{needs}
 use Rattle.fill_zone.proofs.goes_on.Statement.{statement}
 use Rattle.fill_zone.proofs.goes_on.Tie as tie
-use Rattle.fill_zone.proofs.goes_on.Reads as reads
-use Rattle.fill_zone.proofs.goes_on.Lts as lts
 
--- src/lib.rt:169:22
 enum-told : tie.Need-enum-told
 enum-told c = search needs
 
--- src/lib.rt:170:26
 enum-told-2 : tie.Need-enum-told-2
 enum-told-2 c = search needs
 
--- src/lib.rt:171:24
 enum-told-3 : tie.Need-enum-told-3
 enum-told-3 c = search needs
 
--- src/lib.rt:163:1
 returns : tie.Need-returns
 returns c = rw (c .before .before .enum-told .given .1)
 
--- src/lib.rt:163:1
 returns-2 : tie.Need-returns-2
 returns-2 c = search needs
 
--- src/lib.rt:163:1
 returns-3 : tie.Need-returns-3
 returns-3 c = search needs
 

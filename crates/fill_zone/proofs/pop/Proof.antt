@@ -1,6 +1,7 @@
 -- Past the clock, broken off at the limit, or expanded. Assumes nothing.
+use Rattle.flood_fill.specs.Asked.{Free}
+use Rattle.turfs.specs.Tables.{table}
 use Rattle.fill_zone.proofs.Pops.{row-below, pop-over, pop-broken, pop-on}
-use Rattle.fill_zone.specs.Held.{Free}
 use lib.ListN.{getD}
 use Prim.Native.Nat.{ℕ, _+_}
 use mathlib.Core.Path.{sym, subst, _∙_}
@@ -8,90 +9,113 @@ use native.Mathlib.Omega.{arith}
 use borrow.Author.Needs.{needs}
 use Rattle.fill_zone.proofs.pop.Statement.{statement}
 use Rattle.fill_zone.proofs.pop.Tie as tie
-use Rattle.fill_zone.proofs.pop.Reads as reads
-use Rattle.fill_zone.proofs.pop.Lts as lts
-use Rattle.fill_zone.proofs.breaks.Reads as breaks-reads
-use Rattle.fill_zone.proofs.ended.Reads as ended-reads
-use Rattle.fill_zone.proofs.expand.Reads as expand-reads
-use Rattle.fill_zone.proofs.is_planet.Reads as is-planet-reads
-use Rattle.index_set.proofs.queue_at.Reads as queue-at-reads
 
--- src/lib.rt:147:21
+element-copy-out-ids : tie.Need-element-copy-out-ids
+element-copy-out-ids c = search needs
+
+element-copy-out-neighbours : tie.Need-element-copy-out-neighbours
+element-copy-out-neighbours c = search needs
+
+element-copy-out-planetary : tie.Need-element-copy-out-planetary
+element-copy-out-planetary c = search needs
+
 queue-at-requires : tie.Need-queue-at-requires
 queue-at-requires c κs = search needs
 
--- src/lib.rt:147:21
 add-row : tie.Need-add-row
 add-row c = search needs
 
--- src/lib.rt:147:15
 mul-row : tie.Need-mul-row
 mul-row c = search needs
 
--- src/lib.rt:147:15
 slice-read-row : tie.Need-slice-read-row
 slice-read-row c = search needs
 
--- src/lib.rt:148:31
+cast-if1 : tie.Need-cast-if1
+cast-if1 c = search needs
+
 add-if1 : tie.Need-add-if1
 add-if1 c = search needs
 
--- src/lib.rt:149:9
 ended-requires : tie.Need-ended-requires
 ended-requires c κs = search needs
 
--- src/lib.rt:149:9
 returns : tie.Need-returns
-returns c = pop-over _ _ _ _ _ _ (c .before .before .before .before .before .before .before .before .before .before .before .before .before .before .before .before .args .t) (c .before .before .before .before .before .before .before .before .before .before .before .before .before .before .before .before .pre .1 .0 .0) (c .before .before .before .before .before .before .before .before .before .before .before .before .before .before .before .before .pre .1 .0 .1) (c .before .before .before .before .before .before .before .before .before .before .before .before .before .before .before .before .pre .1 .1 .0) (c .before .before .before .before .before .before .before .before .before .before .before .before .before .before .before .before .pre .1 .1 .1 .0) (c .before .if1 .taken) _ (c .ended .ensures)
+returns c =
+    let entry = c .before .before .before .before .before .before .before .before .before .before .before .before in
+    pop-over _ _ _ _ _ _ (entry .args .t) (entry .pre .1 .walking .fit) (entry .pre .1 .walking .bounds) (entry .pre .1 .on) (entry .pre .1 .left) (c .before .if1 .taken) _ (c .ended .ensures)
 
--- src/lib.rt:151:48
 cast-is-planet : tie.Need-cast-is-planet
-cast-is-planet c = omega (arith, row-below (c .before .before .before .before .before .before .before .before .before .before .before .before .before .before .before .pre .1 .0 .0) (c .before .before .before .before .before .before .before .before .before .before .before .before .before .before .before .pre .1 .0 .1) _ (c .before .before .before .before .before .before .before .before .before .before .before .before .before .before .before .pre .1 .1 .1 .0) _ (c .before .before .before .queue-at .ensures), c .before .before .before .before .before .before .before .before .before .before .before .before .before .before .before .pre .0 .turfs)
+cast-is-planet c =
+    let entry = c .before .before .before .before .before .before .before .before .before .before .before in
+    omega (arith, row-below (entry .pre .1 .walking .fit) (entry .pre .1 .walking .bounds) _ (entry .pre .1 .left) _ (c .before .before .before .before .queue-at .ensures), entry .pre .0 .turfs)
 
--- src/lib.rt:151:38
 shared-slice-read-is-planet : tie.Need-shared-slice-read-is-planet
-shared-slice-read-is-planet c = rw (c .before .before .before .before .before .before .before .before .before .before .before .before .before .before .before .before .pre .0 .planets) (row-below (c .before .before .before .before .before .before .before .before .before .before .before .before .before .before .before .before .pre .1 .0 .0) (c .before .before .before .before .before .before .before .before .before .before .before .before .before .before .before .before .pre .1 .0 .1) _ (c .before .before .before .before .before .before .before .before .before .before .before .before .before .before .before .before .pre .1 .1 .1 .0) _ (c .before .before .before .before .queue-at .ensures))
+shared-slice-read-is-planet c =
+    let entry = c .before .before .before .before .before .before .before .before .before .before .before .before in
+    rw (entry .pre .0 .planets) (row-below (entry .pre .1 .walking .fit) (entry .pre .1 .walking .bounds) _ (entry .pre .1 .left) _ (c .before .before .before .before .before .queue-at .ensures))
 
--- src/lib.rt:151:9
 is-planet-requires : tie.Need-is-planet-requires
 is-planet-requires c κs = search needs
 
--- src/lib.rt:153:8
 breaks-requires : tie.Need-breaks-requires
 breaks-requires c κs = search needs
 
--- src/lib.rt:154:9
 ended-requires-2 : tie.Need-ended-requires-2
-ended-requires-2 c κs = (omega (arith, c .before .before .before .before .before .before .before .before .before .before .before .before .before .before .before .before .before .before .before .before .pre .1 .1 .1 .0, c .before .before .before .before .before .before .before .before .before .before .before .before .before .before .before .before .before .before .before .before .pre .1 .0 .0 .queue, c .before .before .before .before .before .before .before .before .before .before .before .before .before .before .before .before .before .before .before .before .pre .0 .turfs), omega (arith, c .before .before .before .before .before .before .before .before .before .before .before .before .before .before .before .before .before .before .before .before .pre .1 .1 .1 .1 .0, c .before .before .before .before .before .before .before .before .before .before .before .before .before .before .before .before .before .before .before .before .fits .allowance))
+ended-requires-2 c κs = search needs
 
--- src/lib.rt:154:9
 returns-2 : tie.Need-returns-2
-returns-2 c = pop-broken _ _ _ _ _ _ (c .before .before .before .before .before .before .before .before .before .before .before .before .before .before .before .before .before .before .before .before .before .args .t) (c .before .before .before .before .before .before .before .before .before .before .before .before .before .before .before .before .before .before .before .before .before .pre .1 .0 .0) (c .before .before .before .before .before .before .before .before .before .before .before .before .before .before .before .before .before .before .before .before .before .pre .1 .0 .1) (c .before .before .before .before .before .before .before .before .before .before .before .before .before .before .before .before .before .before .before .before .before .pre .1 .1 .0) (c .before .before .before .before .before .before .before .before .before .before .before .before .before .before .before .before .before .before .before .before .before .pre .1 .1 .1 .0) _ (c .before .before .before .before .before .before .before .before .before .queue-at .ensures) (c .before .before .before .before .before .before .if1 .left) _ (c .before .before .before .before .is-planet .ensures) (sym (c .before .if2 .taken) ∙ c .before .before .breaks .ensures) _ (c .ended2 .ensures)
+returns-2 c =
+    let entry = c .before .before .before .before .before .before .before .before .before .before .before .before .before .before .before .before .before in
+    let by-queue-at = c .before .before .before .before .before .before .before .before .before .before .queue-at in
+    let by-if1 = c .before .before .before .before .before .before .if1 in
+    let by-is-planet = c .before .before .before .before .is-planet in
+    pop-broken _ _ _ _ _ _ (entry .args .t) (entry .pre .1 .walking .fit) (entry .pre .1 .walking .bounds) (entry .pre .1 .on) (entry .pre .1 .left) _ (by-queue-at .ensures) (by-if1 .left) _ (by-is-planet .ensures) (sym (c .before .if2 .taken) ∙ c .before .before .breaks .ensures) _ (c .ended2 .ensures)
 
--- src/lib.rt:156:5
 expand-requires : tie.Need-expand-requires
-expand-requires c κs = (c .before .before .before .before .before .before .before .before .before .before .before .before .before .before .before .before .before .before .before .before .before .before .pre .0, (c .before .before .before .before .before .before .before .before .before .before .before .before .before .before .before .before .before .before .before .before .before .before .pre .1 .0, (row-below (c .before .before .before .before .before .before .before .before .before .before .before .before .before .before .before .before .before .before .before .before .before .before .pre .1 .0 .0) (c .before .before .before .before .before .before .before .before .before .before .before .before .before .before .before .before .before .before .before .before .before .before .pre .1 .0 .1) _ (c .before .before .before .before .before .before .before .before .before .before .before .before .before .before .before .before .before .before .before .before .before .before .pre .1 .1 .1 .0) _ (c .before .before .before .before .before .before .before .before .before .before .queue-at .ensures), (omega (arith, c .before .before .before .before .before .before .before .before .before .before .before .before .before .before .before .before .before .before .before .before .before .before .pre .1 .1 .1 .0, c .before .before .before .before .before .before .before .before .before .before .before .before .before .before .before .before .before .before .before .before .before .before .pre .1 .0 .0 .queue, c .before .before .before .before .before .before .before .before .before .before .before .before .before .before .before .before .before .before .before .before .before .before .pre .0 .turfs), (omega (arith, c .before .before .before .before .before .before .before .before .before .before .before .before .before .before .before .before .before .before .before .before .before .before .pre .1 .1 .1 .1 .0, c .before .before .before .before .before .before .before .before .before .before .before .before .before .before .before .before .before .before .before .before .before .before .fits .allowance), subst (λ (x : ℕ). Free (c .before .before .before .before .before .before .before .before .before .before .before .before .before .before .before .before .before .before .before .before .before .before .args .starts .now) (getD (c .before .before .before .before .before .before .before .before .before .before .before .before .before .before .before .before .before .before .before .before .before .before .args .words .now) (x + c .before .before .before .before .before .before .before .before .before .before .before .before .before .before .before .before .before .before .before .before .before .before .args .t .popped) 0) (c .before .before .before .before .before .before .before .before .before .before .before .before .before .before .before .before .before .before .before .before .before .before .args .words .now)) (sym (c .before .before .before .before .before .before .before .before .before .before .queue-at .ensures)) (c .before .before .before .before .before .before .before .before .before .before .before .before .before .before .before .before .before .before .before .before .before .before .pre .1 .1 .1 .1 .1))))))
+expand-requires c κs =
+    let entry = c .before .before .before .before .before .before .before .before .before .before .before .before .before .before .before .before .before .before in (
+      entry .pre .0,
+      record {
+        walking = entry .pre .1 .walking;
+        turf = record {
+          row = row-below (entry .pre .1 .walking .fit) (entry .pre .1 .walking .bounds) _ (entry .pre .1 .left) _ (c .before .before .before .before .before .before .before .before .before .before .before .queue-at .ensures);
+          free = subst (λ (x : ℕ). Free (table (entry .args .rows .now) 2) (getD (entry .args .words .now) (x + entry .args .t .popped) 0) (entry .args .words .now)) (sym (c .before .before .before .before .before .before .before .before .before .before .before .queue-at .ensures)) (entry .pre .1 .free);
+        };
+        popped = omega (arith, entry .pre .1 .left, entry .pre .1 .walking .fit .queue, entry .pre .0 .turfs);
+        tests = omega (arith, entry .pre .1 .clock, entry .good);
+      },
+    )
 
--- src/lib.rt:121:1
 same-length : tie.Need-same-length
 same-length c = search needs
 
--- src/lib.rt:121:1
 same-length-2 : tie.Need-same-length-2
 same-length-2 c = search needs
 
--- src/lib.rt:121:1
 returns-3 : tie.Need-returns-3
-returns-3 c = pop-on _ _ _ _ _ _ (c .before .before .before .before .before .before .before .before .before .before .before .before .before .before .before .before .before .before .before .before .before .before .before .before .before .before .before .args .t) (c .before .before .before .before .before .before .before .before .before .before .before .before .before .before .before .before .before .before .before .before .before .before .before .before .before .before .before .pre .1 .0 .0) (c .before .before .before .before .before .before .before .before .before .before .before .before .before .before .before .before .before .before .before .before .before .before .before .before .before .before .before .pre .1 .0 .1) (c .before .before .before .before .before .before .before .before .before .before .before .before .before .before .before .before .before .before .before .before .before .before .before .before .before .before .before .pre .1 .1 .0) (c .before .before .before .before .before .before .before .before .before .before .before .before .before .before .before .before .before .before .before .before .before .before .before .before .before .before .before .pre .1 .1 .1 .0) _ (c .before .before .before .before .before .before .before .before .before .before .before .before .before .before .before .queue-at .ensures) (c .before .before .before .before .before .before .before .before .before .before .before .before .if1 .left) _ (c .before .before .before .before .before .before .before .before .before .before .is-planet .ensures) (sym (c .before .before .before .before .before .before .before .if2 .left) ∙ c .before .before .before .before .before .before .before .before .breaks .ensures) (c .before .before .before .before .expand .ensures _ _)
+returns-3 c =
+    let entry = c .before .before .before .before .before .before .before .before .before .before .before .before .before .before .before .before .before .before .before .before .before .before .before in
+    let by-queue-at = c .before .before .before .before .before .before .before .before .before .before .before .before .before .before .before .before .queue-at in
+    let by-if1 = c .before .before .before .before .before .before .before .before .before .before .before .before .if1 in
+    let by-is-planet = c .before .before .before .before .before .before .before .before .before .before .is-planet in
+    let by-breaks = c .before .before .before .before .before .before .before .before .breaks in
+    let by-if2 = c .before .before .before .before .before .before .before .if2 in
+    let by-expand = c .before .before .before .before .expand in
+    pop-on _ _ _ _ _ _ (entry .args .t) (entry .pre .1 .walking .fit) (entry .pre .1 .walking .bounds) (entry .pre .1 .on) (entry .pre .1 .left) _ (by-queue-at .ensures) (by-if1 .left) _ (by-is-planet .ensures) (sym (by-if2 .left) ∙ by-breaks .ensures) (by-expand .ensures _ _)
 
 pub pop-spec : {M : Type 1} → statement M
 pop-spec =
     tie.close
     (tie.spec
+    element-copy-out-ids
+    element-copy-out-neighbours
+    element-copy-out-planetary
     queue-at-requires
     add-row
     mul-row
     slice-read-row
+    cast-if1
     add-if1
     ended-requires
     returns

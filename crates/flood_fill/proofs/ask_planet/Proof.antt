@@ -1,28 +1,21 @@
 -- By whether the neighbour is planetary across a firelock. Assumes nothing.
 use borrow.Author.Tests.{not-true, not-false}
 use native.Mathlib.Omega.{arith}
-use Rattle.flood_fill.proofs.Asks.{planet-none, planet-one, planet-size}
+use Rattle.flood_fill.proofs.Asks.{planet-none, planet-one}
 use borrow.Author.Needs.{needs}
 use Rattle.events.proofs.Areas.{one-added}
 use Rattle.flood_fill.proofs.ask_planet.Statement.{statement}
 use Rattle.flood_fill.proofs.ask_planet.Tie as tie
-use Rattle.flood_fill.proofs.ask_planet.Reads as reads
-use Rattle.flood_fill.proofs.ask_planet.Lts as lts
-use Rattle.events.proofs.append.Reads as append-reads
 
--- src/lib.rt:190:9
 returns : tie.Need-returns
 returns c = planet-none _ _ _ _ (c .before .before .before .pre) (not-true _ (c .if1 .taken))
 
--- src/lib.rt:192:9
 append-requires : tie.Need-append-requires
 append-requires c κs = (tt, omega (arith, c .before .before .before .before .pre))
 
--- src/lib.rt:185:1
 same-length : tie.Need-same-length
 same-length c = search needs
 
--- src/lib.rt:185:1
 returns-2 : tie.Need-returns-2
 returns-2 c = planet-one _ _ _ _ (not-false _ (c .before .before .before .before .if1 .left)) (one-added _ (c .before .before .append .ensures))
 

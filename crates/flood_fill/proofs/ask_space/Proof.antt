@@ -1,28 +1,21 @@
 -- By whether the neighbour is immutable. Assumes nothing.
 use borrow.Author.Tests.{not-true, not-false}
 use native.Mathlib.Omega.{arith}
-use Rattle.flood_fill.proofs.Asks.{space-none, space-one, space-size}
+use Rattle.flood_fill.proofs.Asks.{space-none, space-one}
 use borrow.Author.Needs.{needs}
 use Rattle.events.proofs.Areas.{one-added}
 use Rattle.flood_fill.proofs.ask_space.Statement.{statement}
 use Rattle.flood_fill.proofs.ask_space.Tie as tie
-use Rattle.flood_fill.proofs.ask_space.Reads as reads
-use Rattle.flood_fill.proofs.ask_space.Lts as lts
-use Rattle.events.proofs.append.Reads as append-reads
 
--- src/lib.rt:173:9
 returns : tie.Need-returns
 returns c = space-none _ _ _ _ (c .before .before .before .pre) (not-true _ (c .if1 .taken))
 
--- src/lib.rt:175:9
 append-requires : tie.Need-append-requires
 append-requires c κs = (tt, omega (arith, c .before .before .before .before .pre))
 
--- src/lib.rt:168:1
 same-length : tie.Need-same-length
 same-length c = search needs
 
--- src/lib.rt:168:1
 returns-2 : tie.Need-returns-2
 returns-2 c = space-one _ _ _ _ (not-false _ (c .before .before .before .before .if1 .left)) (one-added _ (c .before .before .append .ensures))
 

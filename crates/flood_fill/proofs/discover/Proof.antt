@@ -3,43 +3,35 @@ use Rattle.flood_fill.proofs.Asks.{found-ignored, found-asks}
 use borrow.Author.Needs.{needs}
 use Rattle.flood_fill.proofs.discover.Statement.{statement}
 use Rattle.flood_fill.proofs.discover.Tie as tie
-use Rattle.flood_fill.proofs.discover.Reads as reads
-use Rattle.flood_fill.proofs.discover.Lts as lts
-use Rattle.flood_fill.proofs.ask_planet.Reads as ask-planet-reads
-use Rattle.flood_fill.proofs.ask_space.Reads as ask-space-reads
-use Rattle.flood_fill.proofs.push.Reads as push-reads
 
--- src/lib.rt:215:9
 push-requires : tie.Need-push-requires
 push-requires c κs = search needs
 
--- src/lib.rt:217:9
 same-length : tie.Need-same-length
 same-length c = search needs
 
--- src/lib.rt:217:9
 returns : tie.Need-returns
-returns c = found-ignored _ _ (c .before .before .before .push .ensures) _ (c .before .before .before .before .before .before .before .pre .1 .1 .1) (c .if1 .taken)
+returns c = found-ignored _ _ (c .before .before .before .push .ensures) _ (c .before .before .before .before .before .before .before .pre .1) (c .if1 .taken)
 
--- src/lib.rt:219:9
 ask-space-requires : tie.Need-ask-space-requires
 ask-space-requires c κs = search needs
 
--- src/lib.rt:220:5
 ask-planet-requires : tie.Need-ask-planet-requires
 ask-planet-requires c κs = search needs
 
--- src/lib.rt:202:1
 same-length-2 : tie.Need-same-length-2
 same-length-2 c = search needs
 
--- src/lib.rt:202:1
 same-length-3 : tie.Need-same-length-3
 same-length-3 c = search needs
 
--- src/lib.rt:202:1
 returns-2 : tie.Need-returns-2
-returns-2 c = found-asks _ _ (c .before .before .before .before .before .before .before .before .before .before .before .push .ensures) _ (c .before .before .before .before .before .before .before .before .before .before .before .before .before .before .before .pre .1 .1 .1) (c .before .before .before .before .before .before .before .before .if1 .left) (c .before .before .before .before .before .before .ask-space .ensures) (c .before .before .ask-planet .ensures)
+returns-2 c =
+    let entry = c .before .before .before .before .before .before .before .before .before .before .before .before .before .before .before in
+    let by-push = c .before .before .before .before .before .before .before .before .before .before .before .push in
+    let by-if1 = c .before .before .before .before .before .before .before .before .if1 in
+    let by-ask-space = c .before .before .before .before .before .before .ask-space in
+    found-asks _ _ (by-push .ensures) _ (entry .pre .1) (by-if1 .left) (by-ask-space .ensures) (c .before .before .ask-planet .ensures)
 
 pub discover-spec : {M : Type 1} → statement M
 discover-spec =

@@ -1,74 +1,72 @@
 -- A disabled neighbour, one that is a node already, or a new node at the end of the line. Assumes nothing.
 use lib.ListN.{length-set}
 use borrow.Author.Tests.{not-true, not-false}
-use native.Mathlib.Omega.{arith}
-use mathlib.Core.Path.{refl, sym, _∙_}
+use mathlib.Core.Path.{sym, _∙_}
 use Rattle.flood_fill.proofs.Stores.{edge-none, edge-holds, edge-room, edge-old, edge-more}
 use borrow.Author.Needs.{needs}
 use Rattle.flood_fill.proofs.edge_to.Statement.{statement}
 use Rattle.flood_fill.proofs.edge_to.Tie as tie
-use Rattle.flood_fill.proofs.edge_to.Reads as reads
-use Rattle.flood_fill.proofs.edge_to.Lts as lts
-use Rattle.flood_fill.proofs.nodes_at.Reads as nodes-at-reads
-use Rattle.index_set.proofs.places_at.Reads as places-at-reads
-use Rattle.index_set.proofs.contains.Reads as contains-reads
-use Rattle.index_set.proofs.insert.Reads as insert-reads
 
--- src/lib.rt:131:9
 returns : tie.Need-returns
-returns c = edge-none _ _ _ _ _ _ _ _ (c .before .before .before .pre .0) (c .before .before .before .pre .1 .0) (not-true _ (c .if1 .taken))
+returns c = edge-none _ _ _ _ _ _ _ _ (c .before .before .before .pre .fit) (c .before .before .before .pre .link) (not-true _ (c .if1 .taken))
 
--- src/lib.rt:133:16
 add-words : tie.Need-add-words
 add-words c = search needs
 
--- src/lib.rt:133:5
 mul-words : tie.Need-mul-words
 mul-words c = search needs
 
--- src/lib.rt:133:5
 slice-write-words : tie.Need-slice-write-words
 slice-write-words c = search needs
 
--- src/lib.rt:135:9
 places-at-requires : tie.Need-places-at-requires
 places-at-requires c κs = search needs
 
--- src/lib.rt:136:17
 nodes-at-requires : tie.Need-nodes-at-requires
 nodes-at-requires c κs = search needs
 
--- src/lib.rt:136:17
 add-first : tie.Need-add-first
 add-first c = search needs
 
--- src/lib.rt:137:8
 contains-requires : tie.Need-contains-requires
-contains-requires c κs = (edge-holds (c .before .before .before .before .before .before .args .m) _ _ _ _ _ _ _ (c .before .before .before .before .before .before .pre .0) (c .before .before .before .before .before .before .pre .1 .0) (not-false _ (c .before .before .before .if1 .left)) _ _ (c .before .nodes-at .ensures) (c .before .before .places-at .ensures), c .before .before .before .before .before .before .pre .1 .1 .0)
+contains-requires c κs =
+    let entry = c .before .before .before .before .before .before .before .before in
+    (edge-holds (entry .args .m) _ _ _ _ _ _ _ (entry .pre .fit) (entry .pre .link) (not-false _ (c .before .before .before .before .before .if1 .left)) _ _ (c .before .before .nodes-at .ensures) (c .before .before .before .places-at .ensures), entry .pre .row)
 
--- src/lib.rt:138:9
 same-length : tie.Need-same-length
 same-length c = search needs
 
--- src/lib.rt:138:9
 returns-2 : tie.Need-returns-2
-returns-2 c = edge-old _ _ _ _ _ _ _ _ (c .before .before .before .before .before .before .before .before .pre .0) (c .before .before .before .before .before .before .before .before .pre .1 .0) (not-false _ (c .before .before .before .before .before .if1 .left)) _ _ (c .before .before .before .nodes-at .ensures) (c .before .before .before .before .places-at .ensures) (sym (c .if2 .taken) ∙ c .before .contains .ensures)
+returns-2 c =
+    let entry = c .before .before .before .before .before .before .before .before .before .before in
+    let by-if1 = c .before .before .before .before .before .before .before .if1 in
+    let by-places-at = c .before .before .before .before .before .places-at in
+    let by-nodes-at = c .before .before .before .before .nodes-at in
+    edge-old _ _ _ _ _ _ _ _ (entry .pre .fit) (entry .pre .link) (not-false _ (by-if1 .left)) _ _ (by-nodes-at .ensures) (by-places-at .ensures) (sym (c .if2 .taken) ∙ c .before .contains .ensures)
 
--- src/lib.rt:140:5
 insert-requires : tie.Need-insert-requires
-insert-requires c κs = edge-room (c .before .before .before .before .before .before .before .before .before .args .m) _ _ _ _ _ _ _ (c .before .before .before .before .before .before .before .before .before .pre .0) (c .before .before .before .before .before .before .before .before .before .pre .1 .0) (not-false _ (c .before .before .before .before .before .before .if1 .left)) _ _ (c .before .before .before .before .nodes-at .ensures) (c .before .before .before .before .before .places-at .ensures) (c .before .before .before .before .before .before .before .before .before .pre .1 .1 .0) (c .before .before .before .before .before .before .before .before .before .pre .1 .1 .1 .1) (sym (c .before .if2 .left) ∙ c .before .before .contains .ensures)
+insert-requires c κs =
+    let entry = c .before .before .before .before .before .before .before .before .before .before .before in
+    let by-if1 = c .before .before .before .before .before .before .before .before .if1 in
+    let by-places-at = c .before .before .before .before .before .before .places-at in
+    let by-nodes-at = c .before .before .before .before .before .nodes-at in
+    edge-room (entry .args .m) _ _ _ _ _ _ _ (entry .pre .fit) (entry .pre .link) (not-false _ (by-if1 .left)) _ _ (by-nodes-at .ensures) (by-places-at .ensures) (entry .pre .row) (entry .pre .room) (sym (c .before .if2 .left) ∙ c .before .before .contains .ensures)
 
--- src/lib.rt:143:16
-add-t14 : tie.Need-add-t14
-add-t14 c = search needs
+add-t13 : tie.Need-add-t13
+add-t13 c = search needs
 
--- src/lib.rt:126:1
 same-length-2 : tie.Need-same-length-2
 same-length-2 c = c .before .before .insert .kept .1 .1 .1 .1 .0 ∙ simp length-set
 
--- src/lib.rt:126:1
 returns-3 : tie.Need-returns-3
-returns-3 c = edge-more _ _ _ _ _ _ _ _ (c .before .before .before .before .before .before .before .before .before .before .before .before .pre .0) (c .before .before .before .before .before .before .before .before .before .before .before .before .pre .1 .0) (not-false _ (c .before .before .before .before .before .before .before .before .before .if1 .left)) _ _ (c .before .before .before .before .before .before .before .nodes-at .ensures) (c .before .before .before .before .before .before .before .before .places-at .ensures) (c .before .before .before .before .before .before .before .before .before .before .before .before .pre .1 .1 .0) (c .before .before .before .before .before .before .before .before .before .before .before .before .pre .1 .1 .1 .1) (sym (c .before .before .before .before .if2 .left) ∙ c .before .before .before .before .before .contains .ensures) _ (c .before .before .insert .ensures)
+returns-3 c =
+    let entry = c .before .before .before .before .before .before .before .before .before .before .before .before .before .before in
+    let by-if1 = c .before .before .before .before .before .before .before .before .before .before .before .if1 in
+    let by-places-at = c .before .before .before .before .before .before .before .before .before .places-at in
+    let by-nodes-at = c .before .before .before .before .before .before .before .before .nodes-at in
+    let by-contains = c .before .before .before .before .before .contains in
+    let by-if2 = c .before .before .before .before .if2 in
+    edge-more _ _ _ _ _ _ _ _ (entry .pre .fit) (entry .pre .link) (not-false _ (by-if1 .left)) _ _ (by-nodes-at .ensures) (by-places-at .ensures) (entry .pre .row) (entry .pre .room) (sym (by-if2 .left) ∙ by-contains .ensures) _ (c .before .before .insert .ensures)
 
 pub edge-to-spec : {M : Type 1} → statement M
 edge-to-spec =
@@ -85,6 +83,6 @@ edge-to-spec =
     same-length
     returns-2
     insert-requires
-    add-t14
+    add-t13
     same-length-2
     returns-3)

@@ -5,41 +5,30 @@ use Rattle.flood_fill.proofs.Stores.{push-none, push-more}
 use borrow.Author.Needs.{needs}
 use Rattle.flood_fill.proofs.push.Statement.{statement}
 use Rattle.flood_fill.proofs.push.Tie as tie
-use Rattle.flood_fill.proofs.push.Reads as reads
-use Rattle.flood_fill.proofs.push.Lts as lts
-use Rattle.index_set.proofs.queue_at.Reads as queue-at-reads
 
--- src/lib.rt:155:9
 returns : tie.Need-returns
-returns c = push-none _ _ _ _ _ _ (c .before .before .before .pre .0) (not-true _ (c .if1 .taken))
+returns c = push-none _ _ _ _ _ _ (c .before .before .before .pre .fit) (not-true _ (c .if1 .taken))
 
--- src/lib.rt:158:11
 queue-at-requires : tie.Need-queue-at-requires
 queue-at-requires c κs = search needs
 
--- src/lib.rt:158:11
 add-words : tie.Need-add-words
 add-words c = search needs
 
--- src/lib.rt:158:5
 mul-words : tie.Need-mul-words
 mul-words c = search needs
 
--- src/lib.rt:158:5
 slice-write-words : tie.Need-slice-write-words
 slice-write-words c = search needs
 
--- src/lib.rt:160:17
 add-t9 : tie.Need-add-t9
 add-t9 c = search needs
 
--- src/lib.rt:150:1
 same-length : tie.Need-same-length
 same-length c = search needs
 
--- src/lib.rt:150:1
 returns-2 : tie.Need-returns-2
-returns-2 c = push-more _ _ _ _ _ _ (c .before .before .before .before .pre .0) (not-false _ (c .before .if1 .left)) (c .before .before .before .before .pre .1 .1) _ (c .queue-at .ensures) _ refl
+returns-2 c = push-more _ _ _ _ _ _ (c .before .before .before .before .pre .fit) (not-false _ (c .before .if1 .left)) (c .before .before .before .before .pre .room) _ (c .queue-at .ensures) _ refl
 
 pub push-spec : {M : Type 1} → statement M
 push-spec =

@@ -6,67 +6,60 @@ use Rattle.flood_fill.proofs.Links.{edge-asks, reach-old, discover-asks
 use borrow.Author.Needs.{needs}
 use Rattle.flood_fill.proofs.reach.Statement.{statement}
 use Rattle.flood_fill.proofs.reach.Tie as tie
-use Rattle.flood_fill.proofs.reach.Reads as reads
-use Rattle.flood_fill.proofs.reach.Lts as lts
-use Rattle.flood_fill.proofs.discover.Reads as discover-reads
-use Rattle.flood_fill.proofs.edge_to.Reads as edge-to-reads
-use Rattle.flood_fill.proofs.found_at.Reads as found-at-reads
 
--- src/lib.rt:240:9
 edge-to-requires : tie.Need-edge-to-requires
-edge-to-requires c κs = edge-asks (c .before .before .before .args .m) (c .before .before .before .args .k) (c .before .before .before .args .z) (c .before .before .before .args .id) (c .before .before .before .pre .0 .0) (c .before .before .before .pre .0 .1) (c .before .before .before .pre .1 .0) (c .before .before .before .pre .1 .1 .0) (c .before .before .before .pre .1 .1 .1)
+edge-to-requires c κs =
+    let entry = c .before .before .before in
+    edge-asks (entry .args .m) (entry .args .k) (entry .args .id) (entry .pre .0) (entry .pre .1)
 
--- src/lib.rt:241:16
 found-at-requires : tie.Need-found-at-requires
 found-at-requires c κs = search needs
 
--- src/lib.rt:241:33
 cast-mark : tie.Need-cast-mark
 cast-mark c = search needs
 
--- src/lib.rt:241:16
 add-mark : tie.Need-add-mark
 add-mark c = search needs
 
--- src/lib.rt:242:17
 mul-found : tie.Need-mul-found
 mul-found c = search needs
 
--- src/lib.rt:242:17
 slice-read-found : tie.Need-slice-read-found
 slice-read-found c = search needs
 
--- src/lib.rt:243:5
 mul-words : tie.Need-mul-words
 mul-words c = search needs
 
--- src/lib.rt:243:5
 slice-write-words : tie.Need-slice-write-words
 slice-write-words c = search needs
 
--- src/lib.rt:245:9
 same-length : tie.Need-same-length
 same-length c = search needs
 
--- src/lib.rt:245:9
 returns : tie.Need-returns
-returns c = reach-old (c .before .before .before .before .before .before .before .before .before .before .args .m) (c .before .before .before .before .before .before .before .before .before .before .args .k) (c .before .before .before .before .before .before .before .before .before .before .args .z) (c .before .before .before .before .before .before .before .before .before .before .args .id) (c .before .before .before .before .before .before .before .before .before .before .pre .0 .0) (c .before .before .before .before .before .before .before .before .before .before .pre .0 .1) (c .before .before .before .before .before .before .before .before .before .before .pre .1 .0) (c .before .before .before .before .before .before .before .before .before .before .pre .1 .1 .0) (c .before .before .before .before .before .before .before .before .before .before .pre .1 .1 .1) (c .before .before .before .before .before .before .edge-to .ensures) _ (ap (λ (x : ℕ). x + c .before .before .before .before .before .before .before .before .before .before .args .m .row) (c .before .before .before .found-at .ensures)) (c .if1 .taken)
+returns c =
+    let entry = c .before .before .before .before .before .before .before .before .before .before in
+    reach-old (entry .args .m) (entry .args .k) (entry .args .id) (entry .pre .0) (entry .pre .1) (c .before .before .before .before .before .before .edge-to .ensures) _ (ap (λ (x : ℕ). x + entry .args .m .row) (c .before .before .before .found-at .ensures)) (c .if1 .taken)
 
--- src/lib.rt:247:5
 discover-requires : tie.Need-discover-requires
-discover-requires c κs = discover-asks (c .before .before .before .before .before .before .before .before .before .before .before .before .args .m) (c .before .before .before .before .before .before .before .before .before .before .before .before .args .k) (c .before .before .before .before .before .before .before .before .before .before .before .before .args .z) (c .before .before .before .before .before .before .before .before .before .before .before .before .args .id) (c .before .before .before .before .before .before .before .before .before .before .before .before .pre .0 .0) (c .before .before .before .before .before .before .before .before .before .before .before .before .pre .0 .1) (c .before .before .before .before .before .before .before .before .before .before .before .before .pre .1 .0) (c .before .before .before .before .before .before .before .before .before .before .before .before .pre .1 .1 .0) (c .before .before .before .before .before .before .before .before .before .before .before .before .pre .1 .1 .1) (c .before .before .before .before .before .before .before .before .edge-to .ensures) _ (ap (λ (x : ℕ). x + c .before .before .before .before .before .before .before .before .before .before .before .before .args .m .row) (c .before .before .before .before .before .found-at .ensures)) (c .before .before .if1 .left)
+discover-requires c κs =
+    let entry = c .before .before .before .before .before .before .before .before .before .before .before .before in
+    discover-asks (entry .args .m) (entry .args .k) (entry .args .id) (entry .pre .0) (entry .pre .1) (c .before .before .before .before .before .before .before .before .edge-to .ensures) _ (ap (λ (x : ℕ). x + entry .args .m .row) (c .before .before .before .before .before .found-at .ensures)) (c .before .before .if1 .left)
 
--- src/lib.rt:224:1
 same-length-2 : tie.Need-same-length-2
-same-length-2 c = c .before .before .before .before .discover .kept .1 .1 .1 .1 .1 .1 .0 ∙ simp length-set (c .before .before .before .before .before .before .before .before .before .before .before .before .before .edge-to .kept .1 .1 .1 .1 .1 .1 .1 .0)
+same-length-2 c = c .before .before .before .before .discover .kept .1 .1 .1 .1 .1 .1 .0 ∙ simp length-set (c .before .before .before .before .before .before .before .before .before .before .before .before .before .edge-to .kept .1 .1 .1 .1 .1 .1 .0)
 
--- src/lib.rt:224:1
 same-length-3 : tie.Need-same-length-3
 same-length-3 c = search needs
 
--- src/lib.rt:224:1
 returns-2 : tie.Need-returns-2
-returns-2 c = reach-new (c .before .before .before .before .before .before .before .before .before .before .before .before .before .before .before .before .before .args .m) (c .before .before .before .before .before .before .before .before .before .before .before .before .before .before .before .before .before .args .k) (c .before .before .before .before .before .before .before .before .before .before .before .before .before .before .before .before .before .args .z) (c .before .before .before .before .before .before .before .before .before .before .before .before .before .before .before .before .before .args .id) (c .before .before .before .before .before .before .before .before .before .before .before .before .before .before .before .before .before .pre .0 .0) (c .before .before .before .before .before .before .before .before .before .before .before .before .before .before .before .before .before .pre .0 .1) (c .before .before .before .before .before .before .before .before .before .before .before .before .before .before .before .before .before .pre .1 .0) (c .before .before .before .before .before .before .before .before .before .before .before .before .before .before .before .before .before .pre .1 .1 .0) (c .before .before .before .before .before .before .before .before .before .before .before .before .before .before .before .before .before .pre .1 .1 .1) (c .before .before .before .before .before .before .before .before .before .before .before .before .before .edge-to .ensures) _ (ap (λ (x : ℕ). x + c .before .before .before .before .before .before .before .before .before .before .before .before .before .before .before .before .before .args .m .row) (c .before .before .before .before .before .before .before .before .before .before .found-at .ensures)) (c .before .before .before .before .before .before .before .if1 .left) (c .before .before .before .before .discover .ensures)
+returns-2 c =
+    let entry = c .before .before .before .before .before .before .before .before .before .before .before .before .before .before .before .before .before in
+    let by-edge-to = c .before .before .before .before .before .before .before .before .before .before .before .before .before .edge-to in
+    let by-found-at = c .before .before .before .before .before .before .before .before .before .before .found-at in
+    let by-if1 = c .before .before .before .before .before .before .before .if1 in
+    let by-discover = c .before .before .before .before .discover in
+    reach-new (entry .args .m) (entry .args .k) (entry .args .id) (entry .pre .0) (entry .pre .1) (by-edge-to .ensures) _ (ap (λ (x : ℕ). x + entry .args .m .row) (by-found-at .ensures)) (by-if1 .left) (by-discover .ensures)
 
 pub reach-spec : {M : Type 1} → statement M
 reach-spec =

@@ -1,75 +1,94 @@
--- The loop's invariant: the links left, from here on, come to all links from the start. Assumes nothing.
-use borrow.Author.Needs.{needs}
-use native.Mathlib.Omega.{arith}
-use Prim.Native.Nat.{_-_}
-use mathlib.Core.Path.{_≡_, refl, _∙_, sym}
-use lib.ListN.{length}
+use Rattle.flood_fill.proofs.Links.{reachBy, met-row, met-step, Walked, walked-start, walked-free, walked-next, links-walked}
 use Rattle.events.proofs.Areas.{wrote-length}
-use Rattle.flood_fill.specs.Steps.{reachPart}
-use Rattle.flood_fill.proofs.Links.{met-fits, met-row, part-step, Walked, walked-start, walked-free, walked-next, walked-end}
+use Rattle.turfs.specs.Tables.{boardOf}
+use lib.ListN.{length}
+use mathlib.Core.Path.{_≡_, refl, _∙_}
+use Prim.Native.Nat.{_-_}
+use native.Mathlib.Omega.{arith}
+use borrow.Author.Needs.{needs}
 use Rattle.flood_fill.proofs.reach_links.Statement.{statement}
 use Rattle.flood_fill.proofs.reach_links.Tie as tie
-use Rattle.flood_fill.proofs.reach_links.Reads as reads
-use Rattle.flood_fill.proofs.reach_links.Lts as lts
-use Rattle.flood_fill.proofs.meet.Reads as meet-reads
-use Rattle.flood_fill.proofs.reach.Reads as reach-reads
 
 abbrev Inv-loop : tie.InvT-loop
-Inv-loop near from z id kept n e flags planetary mixtures link-flags immutable words₀ area₀ s₀ i₀ words area s i =
-    Walked n e z kept (reachPart flags planetary mixtures link-flags immutable near from z id) from (length near) i s₀ s words₀ words area₀ area
-    × (length words ≡ length words₀)
+Inv-loop row slot rows marks words₀ events₀ n e at id to s₀ k₀ words events s k =
+    Walked n e (slot .z) (slot .kept) (reachBy (boardOf rows marks 0) (slot .z) id) k₀ to k s₀ s words₀ words events₀ events × (length words ≡ length words₀)
 
 abbrev μ-loop : tie.MeasureT-loop
-μ-loop near from z id kept n e flags planetary mixtures link-flags immutable words₀ area₀ s₀ i₀ words area s i =
-    length near - i
+μ-loop row slot rows marks words₀ events₀ n e at id to s₀ k₀ words events s k = to - k
 
--- src/lib.rt:275:5
+element-copy-out-ids : tie.Need-element-copy-out-ids Inv-loop μ-loop
+element-copy-out-ids c = search needs
+
+element-copy-out-neighbours : tie.Need-element-copy-out-neighbours Inv-loop μ-loop
+element-copy-out-neighbours c = search needs
+
+mul-id : tie.Need-mul-id Inv-loop μ-loop
+mul-id c = search needs
+
+shared-slice-read-id : tie.Need-shared-slice-read-id Inv-loop μ-loop
+shared-slice-read-id c = c .before .before .before .before .before .pre .1 .0 .row
+
+element-copy-out-links-of : tie.Need-element-copy-out-links-of Inv-loop μ-loop
+element-copy-out-links-of c = search needs
+
+links-of-requires : tie.Need-links-of-requires Inv-loop μ-loop
+links-of-requires c κs = omega (arith, c .before .before .before .before .before .before .pre .0 .parts .count, c .before .before .before .before .before .before .pre .1 .0 .row)
+
 loop-holds : tie.Need-loop-holds Inv-loop μ-loop
-loop-holds c = (walked-start _ (c .before .before .before .before .before .before .before .before .pre .0 .0) (c .before .before .before .before .before .before .before .before .pre .0 .1) (c .before .before .before .before .before .before .before .before .pre .1 .1 .free), refl)
+loop-holds c =
+    let entry = c .before .before .before .before .before .before .before in
+    let rise = entry .pre .0 .parts .rise _ (entry .pre .1 .0 .row) in
+    let ends = c .links-of .ensures in
+    (walked-start _ (entry .pre .1 .1 .fit) (entry .pre .1 .1 .bounds) (omega arith) (λ j a l. entry .pre .1 .0 .free j (omega arith) (omega arith)), refl)
 
--- src/lib.rt:276:17
-add-k : tie.Need-add-k Inv-loop μ-loop
-add-k c = omega (arith, c .before .before .before .before .before .before .before .before .before .before .pre .1 .1 .links)
-
--- src/lib.rt:277:25
-mul-meet : tie.Need-mul-meet Inv-loop μ-loop
-mul-meet c = search needs
-
--- src/lib.rt:277:25
-shared-slice-read-meet : tie.Need-shared-slice-read-meet Inv-loop μ-loop
-shared-slice-read-meet c = search needs
-
--- src/lib.rt:277:13
 meet-requires : tie.Need-meet-requires Inv-loop μ-loop
-meet-requires c κs = met-fits (c .before .before .before .before .before .before .before .before .before .before .before .pre .1 .0) _ _ (omega (arith, c .before .before .before .before .before .before .before .before .before .before .before .pre .1 .1 .links, c .before .loop-test .taken)) (c .before .before .before .before .before .before .before .before .before .before .before .pre .1 .1 .rows _ (c .before .loop-test .taken))
+meet-requires c κs =
+    let entry = c .before .before .before .before .before .before .before .before .before in
+    (entry .pre .0, omega (arith, c .loop-test .taken, c .before .before .links-of .ensures .1, entry .pre .0 .parts .end _ (entry .pre .1 .0 .row)))
 
--- src/lib.rt:278:9
 reach-requires : tie.Need-reach-requires Inv-loop μ-loop
-reach-requires c κs = ((c .before .before .before .before .before .loop .inv .0 .done .fit, c .before .before .before .before .before .loop .inv .0 .done .bounds), (omega (arith, c .before .before .before .before .before .before .before .before .before .before .before .before .before .before .pre .1 .1 .links, c .before .before .before .before .loop-test .taken), (met-row (c .before .before .before .before .before .before .before .before .before .before .before .before .before .before .pre .1 .0) _ _ (omega (arith, c .before .before .before .before .before .before .before .before .before .before .before .before .before .before .pre .1 .1 .links, c .before .before .before .before .loop-test .taken)) (c .before .before .before .before .before .before .before .before .before .before .before .before .before .before .pre .1 .1 .rows _ (c .before .before .before .before .loop-test .taken)) _ (c .before .before .meet .ensures), walked-free _ (c .before .before .before .before .before .loop .inv .0) (c .before .before .before .before .loop-test .taken) (c .before .before .before .before .before .before .before .before .before .before .before .before .before .before .pre .1 .1 .links))))
+reach-requires c κs =
+    let entry = c .before .before .before .before .before .before .before .before .before .before .before .before in
+    let head = c .before .before .before .before .loop in
+    let by-loop-test = c .before .before .before .loop-test in
+    let inside = entry .pre .0 .parts .end _ (entry .pre .1 .0 .row) in
+    let to = c .before .before .before .before .before .links-of .ensures .1 in (
+      record { fit = head .inv .0 .done .fit; bounds = head .inv .0 .done .bounds },
+      record {
+        link = omega (arith, by-loop-test .taken);
+        row = met-row (entry .pre .0) _ (omega (arith, by-loop-test .taken)) _ (c .before .before .meet .ensures);
+        free = walked-free _ (head .inv .0) (by-loop-test .taken) (omega arith);
+      },
+    )
 
--- src/lib.rt:279:9
-add-i : tie.Need-add-i Inv-loop μ-loop
-add-i c = omega (arith, c .before .before .before .before .before .before .before .before .before .loop-test .taken, c .before .before .before .before .before .before .before .before .before .before .loop .inv .0 .within, c .before .before .before .before .before .before .before .before .before .before .before .before .before .before .before .before .before .before .before .pre .1 .1 .links, c .before .before .before .before .before .before .before .before .before .before .before .before .before .before .before .before .before .before .before .pre .0 .0 .sizes .links)
+add-k : tie.Need-add-k Inv-loop μ-loop
+add-k c =
+    let entry = c .before .before .before .before .before .before .before .before .before .before .before .before .before .before .before .before .before in
+    omega (arith, c .before .before .before .before .before .before .before .before .loop-test .taken, c .before .before .before .before .before .before .before .before .before .before .links-of .ensures .1, entry .pre .0 .parts .end _ (entry .pre .1 .0 .row), entry .pre .0 .links)
 
--- src/lib.rt:275:5
 loop-less : tie.Need-loop-less Inv-loop μ-loop
-loop-less c = search needs
+loop-less c = omega (arith, c .before .before .before .before .before .before .before .before .loop-test .taken)
 
--- src/lib.rt:275:5
 loop-again : tie.Need-loop-again Inv-loop μ-loop
-loop-again c = (walked-next _ (c .before .before .before .before .before .before .before .before .before .before .loop .inv .0) (c .before .before .before .before .before .before .before .before .before .loop-test .taken) (c .before .before .before .before .before .before .before .before .before .before .before .before .before .before .before .before .before .before .before .pre .1 .1 .links) _ _ (part-step _ _ _ _ _ _ _ _ _ _ _ (c .before .before .before .before .before .before .before .meet .ensures)) (c .before .before .before .before .reach .ensures), c .before .before .before .before .reach .kept .1 .1 .1 .1 .1 .1 .1 .1 .0 ∙ c .before .before .before .before .before .before .before .before .before .before .loop .inv .1)
+loop-again c =
+    let entry = c .before .before .before .before .before .before .before .before .before .before .before .before .before .before .before .before .before in
+    let inside = entry .pre .0 .parts .end _ (entry .pre .1 .0 .row) in
+    let to = c .before .before .before .before .before .before .before .before .before .before .links-of .ensures .1 in
+    let step = met-step (boardOf (entry .args .rows .now) (entry .args .marks .now) 0) _ _ _ _ (c .before .before .before .before .before .before .before .meet .ensures) in (
+      walked-next _ (c .before .before .before .before .before .before .before .before .before .loop .inv .0) (c .before .before .before .before .before .before .before .before .loop-test .taken) (omega arith) _ _ step (c .before .before .before .before .reach .ensures),
+      c .before .before .before .before .reach .kept .1 .1 .1 .1 .1 .1 .1 .0 ∙ c .before .before .before .before .before .before .before .before .before .loop .inv .1,
+    )
 
--- src/lib.rt:251:1
 same-length : tie.Need-same-length Inv-loop μ-loop
 same-length c = c .before .loop .inv .1
 
--- src/lib.rt:251:1
 same-length-2 : tie.Need-same-length-2 Inv-loop μ-loop
 same-length-2 c = wrote-length (c .before .loop .inv .0 .done .does .wrote)
 
--- src/lib.rt:251:1
 returns : tie.Need-returns Inv-loop μ-loop
-returns c = walked-end _ (c .before .loop .inv .0) (c .loop-test .left)
+returns c = λ gases.
+    let entry = c .before .before .before .before .before .before .before .before .before in
+    links-walked (entry .args .rows .now) (entry .args .marks .now) (entry .args .row) (c .before .loop .inv .0) (c .before .before .links-of .ensures .0) (c .before .before .links-of .ensures .1) (c .loop-test .left) gases
 
 pub reach-links-spec : {M : Type 1} → statement M
 reach-links-spec =
@@ -77,13 +96,16 @@ reach-links-spec =
     (tie.spec
     Inv-loop
     μ-loop
+    element-copy-out-ids
+    element-copy-out-neighbours
+    mul-id
+    shared-slice-read-id
+    element-copy-out-links-of
+    links-of-requires
     loop-holds
-    add-k
-    mul-meet
-    shared-slice-read-meet
     meet-requires
     reach-requires
-    add-i
+    add-k
     loop-less
     loop-again
     same-length
