@@ -1,17 +1,18 @@
 -- What the code of a call hands to the refusals, and what it knows once none was met.
-use mathlib.Core.List.{List, [], _++_}
-use Prim.Native.Nat.{ℕ, _≤_}
+use mathlib.Core.List.{List, _++_}
+use Prim.Native.Nat.{ℕ, _+_, _*_, _≤_}
 use lib.ListN.{length, drop, replicate}
 use lib.Ieee.{Float}
-use Rattle.board_rules.specs.Board.{Board}
-use Rattle.turfs.specs.Tables.{board}
+use Rattle.board_rules.specs.Board.{Board, turfCount, linkCount}
+use Rattle.turfs.specs.Tables.{Small}
 use Rattle.mixture.specs.Accepted.{Accepted}
 use Rattle.lent_rules.specs.Lent.{Lent, Extra, wordsRoom, floatsRoom}
 use Rattle.lent.specs.declared.ExtraTests.{ExtraTests}
+use Rattle.lent.specs.declared.Room.{Room}
 
--- a board of which no more than the counts is looked at
-abbrev pub counted : List ℕ → List ℕ → List ℕ → Board
-counted ids neighbours immutable = board ids [] [] [] [] neighbours [] immutable 0
+-- the event bytes that a call may write over a board
+abbrev pub roomOf : Board → Room → ℕ
+roomOf b room = room .«per_link» * linkCount b + room .«per_turf» * turfCount b
 
 -- the first n cells hold z, the rest is as it was
 abbrev pub cleared : {A : Type 0} → A → ℕ → List A → List A
@@ -24,6 +25,12 @@ lent gas area words floats = record { gas = gas; area = area; words = words; flo
 -- the code's answers to what only equalize is lent
 abbrev pub extraOf : ExtraTests → Extra
 extraOf x = record { sizes = x .sizes; threshold = x .threshold; hot = x .hot }
+
+-- the scratch is long enough for a board within its limits
+pub record Roomy (b : Board) (ws : List ℕ) (fs : List Float) : Type 0 where
+  pub small : Small b
+  pub words : wordsRoom b ≤ length ws
+  pub floats : floatsRoom b ≤ length fs
 
 -- a call that is not refused
 pub record Given (b : Board) (l : Lent) (room : ℕ) : Type 0 where

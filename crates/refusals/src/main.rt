@@ -1,5 +1,6 @@
 // Board A lent with one thing wrong at a time, once with two: a line for each, with the number of its refusal.
 use lent::ExtraTests;
+use lent::Room;
 use libc::STDOUT_FILENO;
 
 // What may differ from board A: the second turf's id, its neighbour, where its links start; the gases; the amounts; the event bytes for a turf.
@@ -25,6 +26,40 @@ fn board_a() -> Wrong {
     }
 }
 
+// The number that a call with these tables and areas of its own is answered; no turf is planetary, no link a firelock, no mixture immutable.
+fn asked<'a>(
+    ids: &'a [u32],
+    mixtures: &'a [u32],
+    starts: &'a [u32],
+    neighbours: &'a [u32],
+    flags: &'a [u8],
+    zeros: &'a [u8],
+    gases: u32,
+    gas: &[f32],
+    per_turf: u8,
+) -> u32 {
+    let rows = [ids, mixtures, starts, neighbours];
+    let marks = [flags, zeros, zeros, zeros];
+    let events = [0u8; 72];
+    let words = [7u32; 60];
+    let floats = [7.0f32; 12];
+    let room = Room {
+        per_turf,
+        per_link: 20,
+    };
+    lent::refusal(
+        &rows,
+        &marks,
+        gases,
+        gas,
+        &words,
+        &floats,
+        &events,
+        room,
+        ExtraTests::none(),
+    )
+}
+
 fn number(w: Wrong) -> u32 {
     let ids = [10, w.id];
     let flags = [2u8, 2];
@@ -32,27 +67,17 @@ fn number(w: Wrong) -> u32 {
     let mixtures = [0u32, 1];
     let starts = [0, w.start, 2];
     let neighbours = [1, w.neighbour];
-    let amounts = [w.first, w.second];
-    let events = [0u8; 72];
-    let words = [7u32; 60];
-    let floats = [7.0f32; 12];
-    lent::refusal(
+    let gas = [w.first, w.second];
+    asked(
         &ids,
-        &flags,
-        &zeros,
         &mixtures,
         &starts,
         &neighbours,
-        &zeros,
+        &flags,
         &zeros,
         w.gases,
-        &amounts,
-        &events,
-        &words,
-        &floats,
+        &gas,
         w.per_turf,
-        20,
-        ExtraTests::none(),
     )
 }
 

@@ -14,16 +14,24 @@ ghost use Rattle.turfs.specs.Tables.{Bracket};
 
 // A board's tables of numbers, as they travel through a call.
 pub type Rows<'a> = [&'a [u32]; 4];
+
 pub const IDS: usize = 0;
+
 pub const MIXTURES: usize = 1;
+
 pub const STARTS: usize = 2;
+
 pub const NEIGHBOURS: usize = 3;
 
 // Its tables of bytes.
 pub type Marks<'a> = [&'a [u8]; 4];
+
 pub const FLAGS: usize = 0;
+
 pub const PLANETARY: usize = 1;
+
 pub const LINK_FLAGS: usize = 2;
+
 pub const IMMUTABLE: usize = 3;
 
 // A turf's flags; bits that have no name here are ignored.

@@ -1,4 +1,14 @@
-// The tests of the refusals 1 to 4: each answers the Bool of its definition. A table that a test doesn't look at is empty in its contract.
+// The tests of the refusals 1 to 4: each answers the Bool of its definition.
+use super::FLAGS;
+use super::IDS;
+use super::IMMUTABLE;
+use super::LINK_FLAGS;
+use super::MIXTURES;
+use super::Marks;
+use super::NEIGHBOURS;
+use super::PLANETARY;
+use super::Rows;
+use super::STARTS;
 ghost use mathlib.Core.Path.{_≡_};
 ghost use mathlib.Core.Bool.{not, _&&_};
 ghost use mathlib.Core.List.{[]};
@@ -6,7 +16,8 @@ ghost use Prim.Native.Nat.{_+_, _≤_};
 ghost use lib.Dec.{ltb};
 ghost use lib.ListN.{length};
 ghost use Rattle.basics.specs.Loops.{every, member, upFrom};
-ghost use Rattle.turfs.specs.Tables.{board, Parts};
+ghost use Rattle.board_rules.specs.Board.{turfCount, linkCount};
+ghost use Rattle.turfs.specs.Tables.{boardOf, boardAt, Parts, Small, Sizes};
 ghost use Rattle.board_rules.specs.Refuse.{within, ascending, rising, distinct, rowFits, sizesFit, tablesFit, linksFit};
 
 fn within(lo: usize, hi: usize, n: usize) -> bool
@@ -19,53 +30,43 @@ fn within(lo: usize, hi: usize, n: usize) -> bool
 }
 
 // Refusal 1.
-pub fn sizes_fit(ids: &[u32], neighbours: &[u32], immutable: &[u8], gases: u32) -> bool
-    ensures { λ r. ⌜ r ≡ sizesFit (board (now (ids .entry)) [] [] [] [] (now (neighbours .entry)) [] (now (immutable .entry)) gases) ⌝ }
+pub fn sizes_fit(rows: &Rows, marks: &Marks, gases: u32) -> bool
+    ensures { λ r. ⌜ r ≡ sizesFit (boardAt (rows .entry) (marks .entry) gases) ⌝ }
 {
-    if !within(1, 4096, ids.len()) {
+    if !within(1, 4096, rows[IDS].len()) {
         return false;
     }
-    if !within(1, 4096, immutable.len()) {
+    if !within(1, 4096, marks[IMMUTABLE].len()) {
         return false;
     }
-    if neighbours.len() > 24576 {
+    if rows[NEIGHBOURS].len() > 24576 {
         return false;
     }
     within(1, 64, gases as usize)
 }
 
-// Refusal 2.
-pub fn tables_fit(
-    ids: &[u32],
-    flags: &[u8],
-    planetary: &[u8],
-    mixtures: &[u32],
-    starts: &[u32],
-    neighbours: &[u32],
-    link_flags: &[u8],
-    immutable: &[u8],
-    gases: u32,
-    amounts: usize,
-) -> bool
-    requires { ⌜ (length (now ids) ≤ 4096) × ((length (now immutable) ≤ 4096) × (gases ≤ 64)) ⌝ }
-    ensures { λ r. ⌜ r ≡ tablesFit (board (now (ids .entry)) (now (flags .entry)) (now (planetary .entry)) (now (mixtures .entry)) (now (starts .entry)) (now (neighbours .entry)) (now («link_flags» .entry)) (now (immutable .entry)) gases) amounts ⌝ }
+// Refusal 2, of so many amounts.
+pub fn tables_fit(rows: &Rows, marks: &Marks, gases: u32, amounts: usize) -> bool
+    requires { ⌜ Sizes (boardAt rows marks gases) ⌝ }
+    ensures { λ r. ⌜ r ≡ tablesFit (boardAt (rows .entry) (marks .entry) gases) amounts ⌝ }
 {
-    if flags.len() != ids.len() {
+    let n = rows[IDS].len();
+    if marks[FLAGS].len() != n {
         return false;
     }
-    if planetary.len() != ids.len() {
+    if marks[PLANETARY].len() != n {
         return false;
     }
-    if mixtures.len() != ids.len() {
+    if rows[MIXTURES].len() != n {
         return false;
     }
-    if starts.len() != ids.len() + 1 {
+    if rows[STARTS].len() != n + 1 {
         return false;
     }
-    if link_flags.len() != neighbours.len() {
+    if marks[LINK_FLAGS].len() != rows[NEIGHBOURS].len() {
         return false;
     }
-    amounts == immutable.len() * gases as usize
+    amounts == marks[IMMUTABLE].len() * gases as usize
 }
 
 // Strictly ascending? Refusal 3 of the ids, refusal 6 of the hot ids.
@@ -151,12 +152,16 @@ fn row_fits(row: u32, neighbours: &[u32]) -> bool
 }
 
 // The neighbours of every turf.
-fn rows_fit(ids: &[u32], starts: &[u32], neighbours: &[u32]) -> bool
-    requires { ⌜ Parts (length (now ids)) (now starts) (now neighbours) ⌝ }
-    ensures { λ r. ⌜ r ≡ every (rowFits (board (now (ids .entry)) [] [] [] (now (starts .entry)) (now (neighbours .entry)) [] [] 0)) (upFrom 0 (length (now (ids .entry)))) ⌝ }
+fn rows_fit(rows: &Rows) -> bool
+    requires { let b = boardOf (now rows) [] 0 in ⌜ Parts (turfCount b) (b .starts) (b .neighbours) ⌝ }
+    requires { ⌜ linkCount (boardOf (now rows) [] 0) ≤ 24576 ⌝ }
+    ensures { λ r. let b = boardOf (now (rows .entry)) [] 0 in ⌜ r ≡ every (rowFits b) (upFrom 0 (turfCount b)) ⌝ }
 {
+    let starts = rows[STARTS];
+    let neighbours = rows[NEIGHBOURS];
+    let n = rows[IDS].len();
     let mut row = 0;
-    while row < ids.len() {
+    while row < n {
         let links = super::links_of(starts, row);
         let from = links.from;
         let to = links.to;
@@ -169,31 +174,27 @@ fn rows_fit(ids: &[u32], starts: &[u32], neighbours: &[u32]) -> bool
 }
 
 // Refusal 4.
-pub fn links_fit(
-    ids: &[u32],
-    mixtures: &[u32],
-    starts: &[u32],
-    neighbours: &[u32],
-    immutable: &[u8],
-) -> bool
-    requires { ⌜ (length (now ids) ≤ 4096) × (length (now starts) ≡ length (now ids) + 1) ⌝ }
-    ensures { λ r. ⌜ r ≡ linksFit (board (now (ids .entry)) [] [] (now (mixtures .entry)) (now (starts .entry)) (now (neighbours .entry)) [] (now (immutable .entry)) 0) ⌝ }
+pub fn links_fit(rows: &Rows, marks: &Marks) -> bool
+    requires { ⌜ Small (boardAt rows marks 0) ⌝ }
+    requires { let b = boardAt rows marks 0 in ⌜ length (b .starts) ≡ turfCount b + 1 ⌝ }
+    ensures { λ r. ⌜ r ≡ linksFit (boardAt (rows .entry) (marks .entry) 0) ⌝ }
 {
+    let starts = rows[STARTS];
     if !rising(starts) {
         return false;
     }
     if starts[0] != 0 {
         return false;
     }
-    let n = ids.len();
-    if starts[n] as usize != neighbours.len() {
+    let n = rows[IDS].len();
+    if starts[n] as usize != rows[NEIGHBOURS].len() {
         return false;
     }
-    if !all_below(neighbours, n) {
+    if !all_below(rows[NEIGHBOURS], n) {
         return false;
     }
-    if !all_below(mixtures, immutable.len()) {
+    if !all_below(rows[MIXTURES], marks[IMMUTABLE].len()) {
         return false;
     }
-    rows_fit(ids, starts, neighbours)
+    rows_fit(rows)
 }

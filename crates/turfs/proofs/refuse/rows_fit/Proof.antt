@@ -10,46 +10,59 @@ use borrow.Author.Needs.{needs}
 use borrow.Author.Tests.{not-true, not-false}
 use Rattle.basics.specs.Loops.{every, upFrom}
 use Rattle.basics.proofs.Tests.{every-up-next, every-up-fails, every-up-end}
-use Rattle.turfs.specs.Tables.{board}
+use Rattle.turfs.specs.Tables.{boardOf}
 use Rattle.board_rules.specs.Refuse.{rowFits}
 use Rattle.turfs.proofs.Refused.{row-test}
 use Rattle.turfs.proofs.refuse.rows_fit.Statement.{statement}
 use Rattle.turfs.proofs.refuse.rows_fit.Tie as tie
+use Rattle.turfs.proofs.refuse.rows_fit.Reads as reads
+use Rattle.turfs.proofs.refuse.rows_fit.Lts as lts
+use Rattle.turfs.proofs.links_of.Reads as links-of-reads
+use Rattle.turfs.proofs.refuse.row_fits.Reads as row-fits-reads
 
 abbrev Inv-loop : tie.InvT-loop
-Inv-loop ids starts neighbours row₀ row = (row ≤ length ids) × (every (rowFits (board ids [] [] [] starts neighbours [] [] 0)) (upFrom row (length ids - row)) ≡ every (rowFits (board ids [] [] [] starts neighbours [] [] 0)) (upFrom 0 (length ids)))
+Inv-loop rows starts neighbours n row₀ row = (row ≤ n) × (every (rowFits (boardOf rows [] 0)) (upFrom row (n - row)) ≡ every (rowFits (boardOf rows [] 0)) (upFrom 0 n))
 
 abbrev μ-loop : tie.MeasureT-loop
-μ-loop ids starts neighbours row₀ row = length ids - row
+μ-loop rows starts neighbours n row₀ row = n - row
+
+element-copy-out-starts : tie.Need-element-copy-out-starts Inv-loop μ-loop
+element-copy-out-starts c = search needs
+
+element-copy-out-neighbours : tie.Need-element-copy-out-neighbours Inv-loop μ-loop
+element-copy-out-neighbours c = search needs
+
+element-copy-out-n : tie.Need-element-copy-out-n Inv-loop μ-loop
+element-copy-out-n c = search needs
 
 loop-holds : tie.Need-loop-holds Inv-loop μ-loop
 loop-holds c = (search needs, rw sub-zero)
 
 links-of-requires : tie.Need-links-of-requires Inv-loop μ-loop
-links-of-requires c κs = let p = c .before .before .before .before .before .pre .count in omega arith
+links-of-requires c κs = let p = c .before .before .before .before .pre .0 .count in omega arith
 
 cast-row-fits : tie.Need-cast-row-fits Inv-loop μ-loop
-cast-row-fits c = let p = c .before .before .before .before .before .before .pre .rows in omega arith
+cast-row-fits c = let p = c .before .before .before .before .before .pre .0 .rows in omega arith
 
 mul-row-fits : tie.Need-mul-row-fits Inv-loop μ-loop
-mul-row-fits c = omega (arith, c .before .before .before .before .before .before .pre .rise (c .before .before .loop .row) (omega arith), c .before .before .before .before .before .before .pre .end (c .before .before .loop .row) (omega arith), c .before .before .before .before .before .before .good)
+mul-row-fits c = omega (arith, c .before .before .before .before .before .pre .0 .rise (c .before .before .loop .row) (omega arith), c .before .before .before .before .before .pre .0 .end (c .before .before .loop .row) (omega arith))
 
 sub-row-fits : tie.Need-sub-row-fits Inv-loop μ-loop
-sub-row-fits c = omega (arith, c .before .before .before .before .before .before .pre .rise (c .before .before .loop .row) (omega arith))
+sub-row-fits c = omega (arith, c .before .before .before .before .before .pre .0 .rise (c .before .before .loop .row) (omega arith))
 
 part-row-fits-start : tie.Need-part-row-fits-start Inv-loop μ-loop
-part-row-fits-start c = omega (arith, c .before .before .before .before .before .before .pre .rise (c .before .before .loop .row) (omega arith))
+part-row-fits-start c = omega (arith, c .before .before .before .before .before .pre .0 .rise (c .before .before .loop .row) (omega arith))
 
 part-row-fits-end : tie.Need-part-row-fits-end Inv-loop μ-loop
-part-row-fits-end c = omega (arith, c .before .before .before .before .before .before .pre .end (c .before .before .loop .row) (omega arith))
+part-row-fits-end c = omega (arith, c .before .before .before .before .before .pre .0 .end (c .before .before .loop .row) (omega arith))
 
 row-fits-requires : tie.Need-row-fits-requires Inv-loop μ-loop
 row-fits-requires c κs = search needs
 
 returns : tie.Need-returns Inv-loop μ-loop
 returns c =
-    let s = c .before .before .before .before .before .before .before .before .before .args in
-    sym (every-up-fails _ _ _ (c .before .before .before .before .loop-test .taken) (row-test (board (now (s .ids)) [] [] [] (now (s .starts)) (now (s .neighbours)) [] [] 0) (c .before .before .before .before .before .loop .row) (c .before .before .before .links-of .result .from) (c .before .before .before .links-of .result .to) _ (c .before .row-fits .ensures) (c .before .before .before .links-of .ensures .0) (c .before .before .before .links-of .ensures .1) ∙ not-true _ (c .if1 .taken))) ∙ c .before .before .before .before .before .loop .inv .1
+    let s = c .before .before .before .before .before .before .before .before .args in
+    sym (every-up-fails _ _ _ (c .before .before .before .before .loop-test .taken) (row-test (boardOf (now (s .rows)) [] 0) (c .before .before .before .before .before .loop .row) (c .before .before .before .links-of .result .from) (c .before .before .before .links-of .result .to) _ (c .before .row-fits .ensures) (c .before .before .before .links-of .ensures .0) (c .before .before .before .links-of .ensures .1) ∙ not-true _ (c .if1 .taken))) ∙ c .before .before .before .before .before .loop .inv .1
 
 add-row : tie.Need-add-row Inv-loop μ-loop
 add-row c = search needs
@@ -59,8 +72,8 @@ loop-less c = search needs
 
 loop-again : tie.Need-loop-again Inv-loop μ-loop
 loop-again c =
-    let s = c .before .before .before .before .before .before .before .before .before .args in
-    (search needs, sym (every-up-next _ _ _ (c .before .before .before .before .loop-test .taken) (row-test (board (now (s .ids)) [] [] [] (now (s .starts)) (now (s .neighbours)) [] [] 0) (c .before .before .before .before .before .loop .row) (c .before .before .before .links-of .result .from) (c .before .before .before .links-of .result .to) _ (c .before .row-fits .ensures) (c .before .before .before .links-of .ensures .0) (c .before .before .before .links-of .ensures .1) ∙ not-false _ (c .if1 .left))) ∙ c .before .before .before .before .before .loop .inv .1)
+    let s = c .before .before .before .before .before .before .before .before .args in
+    (search needs, sym (every-up-next _ _ _ (c .before .before .before .before .loop-test .taken) (row-test (boardOf (now (s .rows)) [] 0) (c .before .before .before .before .before .loop .row) (c .before .before .before .links-of .result .from) (c .before .before .before .links-of .result .to) _ (c .before .row-fits .ensures) (c .before .before .before .links-of .ensures .0) (c .before .before .before .links-of .ensures .1) ∙ not-false _ (c .if1 .left))) ∙ c .before .before .before .before .before .loop .inv .1)
 
 returns-2 : tie.Need-returns-2 Inv-loop μ-loop
 returns-2 c = sym (every-up-end _ (c .before .loop .row) _ (c .loop-test .left)) ∙ c .before .loop .inv .1
@@ -71,6 +84,9 @@ rows-fit-spec =
     (tie.spec
     Inv-loop
     μ-loop
+    element-copy-out-starts
+    element-copy-out-neighbours
+    element-copy-out-n
     loop-holds
     links-of-requires
     cast-row-fits

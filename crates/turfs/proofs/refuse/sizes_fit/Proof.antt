@@ -7,6 +7,12 @@ use Rattle.board_rules.specs.Refuse.{sizesFit}
 use borrow.Author.Needs.{needs}
 use Rattle.turfs.proofs.refuse.sizes_fit.Statement.{statement}
 use Rattle.turfs.proofs.refuse.sizes_fit.Tie as tie
+use Rattle.turfs.proofs.refuse.sizes_fit.Reads as reads
+use Rattle.turfs.proofs.refuse.sizes_fit.Lts as lts
+use Rattle.turfs.proofs.refuse.within.Reads as within-reads
+
+element-copy-out-within : tie.Need-element-copy-out-within
+element-copy-out-within c = search needs
 
 within-requires : tie.Need-within-requires
 within-requires c κs = search needs
@@ -15,12 +21,18 @@ returns : tie.Need-returns
 unfolding sizesFit
 returns c = sym (one-fails _ 0 (no _ (c .before .within .ensures) (c .if1 .taken)))
 
+element-copy-out-within-2 : tie.Need-element-copy-out-within-2
+element-copy-out-within-2 c = search needs
+
 within-requires-2 : tie.Need-within-requires-2
 within-requires-2 c κs = search needs
 
 returns-2 : tie.Need-returns-2
 unfolding sizesFit
 returns-2 c = sym (one-fails _ 1 (no _ (c .before .within2 .ensures) (c .if2 .taken)))
+
+element-copy-out-if3 : tie.Need-element-copy-out-if3
+element-copy-out-if3 c = search needs
 
 returns-3 : tie.Need-returns-3
 unfolding sizesFit
@@ -43,10 +55,13 @@ pub sizes-fit-spec : {M : Type 1} → statement M
 sizes-fit-spec =
     tie.close
     (tie.spec
+    element-copy-out-within
     within-requires
     returns
+    element-copy-out-within-2
     within-requires-2
     returns-2
+    element-copy-out-if3
     returns-3
     within-requires-3
     returns-4)
