@@ -37,16 +37,25 @@ from-id-requires c κs =
 clear-scratch-requires : tie.Need-clear-scratch-requires
 clear-scratch-requires c κs =
     let args = c .before .before .before .before .before .before .before .before .before .before .before .before .before .before .before .before .before .before .before .before .before .before .before .before .before .before .args in
+    let none = c .before .before .before .before .before .before .before .before .before .before .before .before .before .before .before .before .before .before .before .before .before .none in
+    let refusal = c .before .before .before .before .before .before .before .before .before .before .before .before .before .before .before .before .refusal in
+    let if1 = c .before .before .before .before .before .before .before .before .before .before .before .before .before .before .before .if1 in
+    let words = c .before .before .before .before .before .before .before .words in
+    let floats = c .before .before .before .before .before .floats in
     let b = boardAt (args .rows) (args .marks) (args .gases) in
     let l = lent (now (args .gas)) (now (args .events)) (now (args .words)) (now (args .floats)) in
-    roomy b (args .limit) (args .id) l _ _ (c .before .before .before .before .before .before .before .before .before .before .before .before .before .before .before .before .before .before .before .before .before .none .ensures) (c .before .before .before .before .before .before .before .before .before .before .before .before .before .before .before .before .refusal .ensures) (c .before .before .before .before .before .before .before .before .before .before .before .before .before .before .before .if1 .left) _ _ (c .before .before .before .before .before .before .before .words .given) (c .before .before .before .before .before .floats .given)
+    roomy b (args .limit) (args .id) l _ _ (none .ensures) (refusal .ensures) (if1 .left) _ _ (words .given) (floats .given)
 
 cast-t37 : tie.Need-cast-t37
 cast-t37 c =
     let args = c .before .before .before .before .before .before .before .before .before .before .before .before .before .before .before .before .before .before .before .before .before .before .before .before .before .before .before .before .before .before .before .before .args in
+    let none = c .before .before .before .before .before .before .before .before .before .before .before .before .before .before .before .before .before .before .before .before .before .before .before .before .before .before .before .none in
+    let refusal = c .before .before .before .before .before .before .before .before .before .before .before .before .before .before .before .before .before .before .before .before .before .before .refusal in
+    let if1 = c .before .before .before .before .before .before .before .before .before .before .before .before .before .before .before .before .before .before .before .before .before .if1 in
+    let from-id = c .before .before .before .before .before .before .before .before .before .before .before .before .before .before .before .before .from-id in
     let b = boardAt (args .rows) (args .marks) (args .gases) in
     let l = lent (now (args .gas)) (now (args .events)) (now (args .words)) (now (args .floats)) in
-    omega (arith, few b (args .limit) (args .id) l _ _ (c .before .before .before .before .before .before .before .before .before .before .before .before .before .before .before .before .before .before .before .before .before .before .before .before .before .before .before .none .ensures) (c .before .before .before .before .before .before .before .before .before .before .before .before .before .before .before .before .before .before .before .before .before .before .refusal .ensures) (c .before .before .before .before .before .before .before .before .before .before .before .before .before .before .before .before .before .before .before .before .before .if1 .left) _ _ _ _ _ (c .before .before .before .before .before .before .before .before .before .before .before .before .before .before .before .before .from-id .ensures))
+    omega (arith, few b (args .limit) (args .id) l _ _ (none .ensures) (refusal .ensures) (if1 .left) _ _ _ _ _ (from-id .ensures))
 
 same-length-5 : tie.Need-same-length-5
 same-length-5 c = search needs
@@ -62,8 +71,13 @@ same-length-8 c = search needs
 
 returns-2 : tie.Need-returns-2
 returns-2 c =
-    let clear = c .before .before .before .before .before .clear-scratch .ensures in
-    answered _ _ _ _ _ _ (c .before .before .before .before .before .before .before .before .before .before .before .before .before .before .before .before .before .before .before .before .before .before .before .before .before .before .before .none .ensures) (c .before .before .before .before .before .before .before .before .before .before .before .before .before .before .before .before .before .before .before .before .before .before .refusal .ensures) (c .before .before .before .before .before .before .before .before .before .before .before .before .before .before .before .before .before .before .before .before .before .if1 .left) _ _ _ _ _ (c .before .before .before .before .before .before .before .before .before .before .before .before .before .before .before .before .from-id .ensures) _ _ (clear .0) (clear .1)
+    let clear-scratch = c .before .before .before .before .before .clear-scratch in
+    let none = c .before .before .before .before .before .before .before .before .before .before .before .before .before .before .before .before .before .before .before .before .before .before .before .before .before .before .before .none in
+    let refusal = c .before .before .before .before .before .before .before .before .before .before .before .before .before .before .before .before .before .before .before .before .before .before .refusal in
+    let if1 = c .before .before .before .before .before .before .before .before .before .before .before .before .before .before .before .before .before .before .before .before .before .if1 in
+    let from-id = c .before .before .before .before .before .before .before .before .before .before .before .before .before .before .before .before .from-id in
+    let clear = clear-scratch .ensures in
+    answered _ _ _ _ _ _ (none .ensures) (refusal .ensures) (if1 .left) _ _ _ _ _ (from-id .ensures) _ _ (clear .0) (clear .1)
 
 pub depressurize-spec : {M : Type 1} → statement M
 depressurize-spec =

@@ -26,7 +26,12 @@ walk-requires c κs =
     starts _ _ z _ (turf-row _ _ z (c .before .before .before .before .before .before .before .before .before .before .before .args .limit) _ _ (c .before .before .before .before .before .find .ensures _ refl) _ (c .before .before .before .row .given .1))
 
 from-walk-requires : tie.Need-from-walk-requires
-from-walk-requires c κs = walked _ _ (c .before .before .before .before .before .before .before .before .before .before .before .before .before .before .before .before .before .before .before .before .pre) _ _ _ (c .before .before .before .before .before .before .before .before .before .before .before .before .before .before .find .ensures _ refl) _ (c .before .before .before .before .before .before .before .before .before .before .before .before .row .given .1) _ _ _ (c .before .before .before .before .before .before .before .before .walk .ensures)
+from-walk-requires c κs =
+    let pre = c .before .before .before .before .before .before .before .before .before .before .before .before .before .before .before .before .before .before .before .before .pre in
+    let find = c .before .before .before .before .before .before .before .before .before .before .before .before .before .before .find in
+    let row = c .before .before .before .before .before .before .before .before .before .before .before .before .row in
+    let walk = c .before .before .before .before .before .before .before .before .walk in
+    walked _ _ pre _ _ _ (find .ensures _ refl) _ (row .given .1) _ _ _ (walk .ensures)
 
 same-length : tie.Need-same-length
 same-length c = search needs
@@ -41,7 +46,13 @@ same-length-4 : tie.Need-same-length-4
 same-length-4 c = search needs
 
 returns-2 : tie.Need-returns-2
-returns-2 c = from-turf _ _ (c .before .before .before .before .before .before .before .before .before .before .before .before .before .before .before .before .before .before .before .before .before .before .before .before .before .before .before .before .before .pre) _ _ _ (c .before .before .before .before .before .before .before .before .before .before .before .before .before .before .before .before .before .before .before .before .before .before .before .find .ensures _ refl) _ (c .before .before .before .before .before .before .before .before .before .before .before .before .before .before .before .before .before .before .before .before .before .row .given .1) _ _ _ (c .before .before .before .before .before .before .before .before .before .before .before .before .before .before .before .before .before .walk .ensures) _ _ _ _ _ (c .before .before .before .before .before .before .before .before .from-walk .ensures)
+returns-2 c =
+    let pre = c .before .before .before .before .before .before .before .before .before .before .before .before .before .before .before .before .before .before .before .before .before .before .before .before .before .before .before .before .before .pre in
+    let find = c .before .before .before .before .before .before .before .before .before .before .before .before .before .before .before .before .before .before .before .before .before .before .before .find in
+    let row = c .before .before .before .before .before .before .before .before .before .before .before .before .before .before .before .before .before .before .before .before .before .row in
+    let walk = c .before .before .before .before .before .before .before .before .before .before .before .before .before .before .before .before .before .walk in
+    let from-walk = c .before .before .before .before .before .before .before .before .from-walk in
+    from-turf _ _ pre _ _ _ (find .ensures _ refl) _ (row .given .1) _ _ _ (walk .ensures) _ _ _ _ _ (from-walk .ensures)
 
 pub from-id-spec : {M : Type 1} → statement M
 from-id-spec =

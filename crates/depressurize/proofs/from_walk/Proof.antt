@@ -14,7 +14,12 @@ outward-requires : tie.Need-outward-requires
 outward-requires c κs = opens _ _ _ _ _ _ (c .before .before .before .before .before .before .before .before .before .pre)
 
 way-back-requires : tie.Need-way-back-requires
-way-back-requires c κs = back-fits _ _ _ _ _ _ (c .before .before .before .before .before .before .before .before .before .before .before .before .before .before .before .before .before .before .pre) _ (c .before .before .before .before .before .before .before .before .before .before .before .before .before .if1 .left) (c .before .before .before .before .before .before .before .before .before .before .before .if2 .left) _ _ _ (c .before .before .before .before .before .before .before .before .outward .ensures)
+way-back-requires c κs =
+    let pre = c .before .before .before .before .before .before .before .before .before .before .before .before .before .before .before .before .before .before .pre in
+    let if1 = c .before .before .before .before .before .before .before .before .before .before .before .before .before .if1 in
+    let if2 = c .before .before .before .before .before .before .before .before .before .before .before .if2 in
+    let outward = c .before .before .before .before .before .before .before .before .outward in
+    back-fits _ _ _ _ _ _ pre _ (if1 .left) (if2 .left) _ _ _ (outward .ensures)
 
 same-length : tie.Need-same-length
 same-length c = search needs
@@ -29,7 +34,13 @@ same-length-4 : tie.Need-same-length-4
 same-length-4 c = search needs
 
 returns-3 : tie.Need-returns-3
-returns-3 c = ended-done _ _ _ _ _ _ (c .before .before .before .before .before .before .before .before .before .before .before .before .before .before .before .before .before .before .before .before .before .before .before .before .before .before .before .pre) _ (c .before .before .before .before .before .before .before .before .before .before .before .before .before .before .before .before .before .before .before .before .before .before .if1 .left) (c .before .before .before .before .before .before .before .before .before .before .before .before .before .before .before .before .before .before .before .before .if2 .left) _ _ _ (c .before .before .before .before .before .before .before .before .before .before .before .before .before .before .before .before .before .outward .ensures) _ _ _ _ _ (c .before .before .before .before .before .before .before .before .way-back .ensures)
+returns-3 c =
+    let pre = c .before .before .before .before .before .before .before .before .before .before .before .before .before .before .before .before .before .before .before .before .before .before .before .before .before .before .before .pre in
+    let if1 = c .before .before .before .before .before .before .before .before .before .before .before .before .before .before .before .before .before .before .before .before .before .before .if1 in
+    let if2 = c .before .before .before .before .before .before .before .before .before .before .before .before .before .before .before .before .before .before .before .before .if2 in
+    let outward = c .before .before .before .before .before .before .before .before .before .before .before .before .before .before .before .before .before .outward in
+    let way-back = c .before .before .before .before .before .before .before .before .way-back in
+    ended-done _ _ _ _ _ _ pre _ (if1 .left) (if2 .left) _ _ _ (outward .ensures) _ _ _ _ _ (way-back .ensures)
 
 pub from-walk-spec : {M : Type 1} → statement M
 from-walk-spec =

@@ -35,7 +35,11 @@ same-length-2 : tie.Need-same-length-2
 same-length-2 c = search needs
 
 returns-2 : tie.Need-returns-2
-returns-2 c = (from-turf _ _ _ _ (c .before .before .before .before .before .before .before .before .before .before .find .ensures _ refl) _ (c .before .before .before .before .before .before .before .before .row .given .1) (c .before .before .before .before .walk .ensures), c .before .before .before .before .walk .ensures .beyond)
+returns-2 c =
+    let find = c .before .before .before .before .before .before .before .before .before .before .find in
+    let row = c .before .before .before .before .before .before .before .before .row in
+    let walk = c .before .before .before .before .walk in
+    (from-turf _ _ _ _ (find .ensures _ refl) _ (row .given .1) (walk .ensures), walk .ensures .beyond)
 
 pub planet-events-spec : {M : Type 1} → statement M
 planet-events-spec =

@@ -36,16 +36,24 @@ planet-events-requires c κs =
 clear-scratch-requires : tie.Need-clear-scratch-requires
 clear-scratch-requires c κs =
     let args = c .before .before .before .before .before .before .before .before .before .before .before .before .before .before .before .before .before .before .before .args in
+    let none = c .before .before .before .before .before .before .before .before .before .before .before .before .before .before .none in
+    let refusal = c .before .before .before .before .before .before .before .before .before .before .refusal in
+    let if1 = c .before .before .before .before .before .before .before .before .before .if1 in
+    let words = c .before .before .before .before .before .words in
     let b = boardAt (args .rows) (args .marks) (args .gases) in
     let l = lent (now (args .gas)) (now (args .events)) (now (args .words)) (now (args .floats)) in
-    roomy b (args .limit) (args .id) l _ _ (c .before .before .before .before .before .before .before .before .before .before .before .before .before .before .none .ensures) (c .before .before .before .before .before .before .before .before .before .before .refusal .ensures) (c .before .before .before .before .before .before .before .before .before .if1 .left) _ (c .before .before .before .before .before .words .given)
+    roomy b (args .limit) (args .id) l _ _ (none .ensures) (refusal .ensures) (if1 .left) _ (words .given)
 
 cast-t30 : tie.Need-cast-t30
 cast-t30 c =
     let args = c .before .before .before .before .before .before .before .before .before .before .before .before .before .before .before .before .before .before .before .before .before .before .before .before .args in
+    let none = c .before .before .before .before .before .before .before .before .before .before .before .before .before .before .before .before .before .before .before .none in
+    let refusal = c .before .before .before .before .before .before .before .before .before .before .before .before .before .before .before .refusal in
+    let if1 = c .before .before .before .before .before .before .before .before .before .before .before .before .before .before .if1 in
+    let planet-events = c .before .before .before .before .before .before .before .before .before .before .before .planet-events in
     let b = boardAt (args .rows) (args .marks) (args .gases) in
     let l = lent (now (args .gas)) (now (args .events)) (now (args .words)) (now (args .floats)) in
-    omega (arith, few b (args .limit) (args .id) l _ _ (c .before .before .before .before .before .before .before .before .before .before .before .before .before .before .before .before .before .before .before .none .ensures) (c .before .before .before .before .before .before .before .before .before .before .before .before .before .before .before .refusal .ensures) (c .before .before .before .before .before .before .before .before .before .before .before .before .before .before .if1 .left) _ _ (c .before .before .before .before .before .before .before .before .before .before .before .planet-events .ensures .0))
+    omega (arith, few b (args .limit) (args .id) l _ _ (none .ensures) (refusal .ensures) (if1 .left) _ _ (planet-events .ensures .0))
 
 same-length-4 : tie.Need-same-length-4
 same-length-4 c = search needs
@@ -58,9 +66,14 @@ same-length-6 c = search needs
 
 returns-2 : tie.Need-returns-2
 returns-2 c =
-    let walk = c .before .before .before .before .before .before .before .before .before .before .before .planet-events .ensures in
-    let clear = c .before .before .before .before .clear-scratch .ensures in
-    answered _ _ _ _ _ _ (c .before .before .before .before .before .before .before .before .before .before .before .before .before .before .before .before .before .before .before .none .ensures) (c .before .before .before .before .before .before .before .before .before .before .before .before .before .before .before .refusal .ensures) (c .before .before .before .before .before .before .before .before .before .before .before .before .before .before .if1 .left) _ _ (walk .0) _ (walk .1) _ _ (clear .0) (clear .1)
+    let planet-events = c .before .before .before .before .before .before .before .before .before .before .before .planet-events in
+    let clear-scratch = c .before .before .before .before .clear-scratch in
+    let none = c .before .before .before .before .before .before .before .before .before .before .before .before .before .before .before .before .before .before .before .none in
+    let refusal = c .before .before .before .before .before .before .before .before .before .before .before .before .before .before .before .refusal in
+    let if1 = c .before .before .before .before .before .before .before .before .before .before .before .before .before .before .if1 in
+    let walk = planet-events .ensures in
+    let clear = clear-scratch .ensures in
+    answered _ _ _ _ _ _ (none .ensures) (refusal .ensures) (if1 .left) _ _ (walk .0) _ (walk .1) _ _ (clear .0) (clear .1)
 
 pub planet-walk-spec : {M : Type 1} → statement M
 planet-walk-spec =

@@ -40,8 +40,12 @@ same-length-2 c = search needs
 
 returns-3 : tie.Need-returns-3
 returns-3 c =
-    does-as (walking _) (c .before .before .before .before .walk-links .ensures)
-    (λ es. spread-on _ _ _ _ (sym (not-false _ (c .before .before .before .before .before .before .before .before .before .if1 .left)) ∙ c .before .before .before .before .before .before .before .before .before .before .enabled .ensures) (rw (walked-is _ _ es) (c .before .before .before .before .before .before .before .if2 .left)))
+    let walk-links = c .before .before .before .before .walk-links in
+    let if1 = c .before .before .before .before .before .before .before .before .before .if1 in
+    let enabled = c .before .before .before .before .before .before .before .before .before .before .enabled in
+    let if2 = c .before .before .before .before .before .before .before .if2 in
+    does-as (walking _) (walk-links .ensures)
+    (λ es. spread-on _ _ _ _ (sym (not-false _ (if1 .left)) ∙ enabled .ensures) (rw (walked-is _ _ es) (if2 .left)))
 
 pub spread-spec : {M : Type 1} → statement M
 spread-spec =

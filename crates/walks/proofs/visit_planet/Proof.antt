@@ -40,7 +40,13 @@ same-length-2 c = search needs
 
 returns-2 : tie.Need-returns-2
 returns-2 c =
-    planet-on _ _ _ _ _ _ _ (c .before .before .before .before .before .before .before .before .before .before .before .before .before .before .before .before .pre .fit) _ (c .before .before .before .before .before .before .before .before .before .before .before .before .met .ensures _ refl) _ (sym (c .before .before .before .before .before .before .before .before .if1 .left) ∙ c .before .before .before .before .before .before .before .before .before .is-immutable .ensures _ refl refl) (c .before .before .before .before .before .before .before .mark2 .ensures) (c .before .before .before .before .spread .ensures)
+    let pre = c .before .before .before .before .before .before .before .before .before .before .before .before .before .before .before .before .pre in
+    let met = c .before .before .before .before .before .before .before .before .before .before .before .before .met in
+    let if1 = c .before .before .before .before .before .before .before .before .if1 in
+    let is-immutable = c .before .before .before .before .before .before .before .before .before .is-immutable in
+    let mark2 = c .before .before .before .before .before .before .before .mark2 in
+    let spread = c .before .before .before .before .spread in
+    planet-on _ _ _ _ _ _ _ (pre .fit) _ (met .ensures _ refl) _ (sym (if1 .left) ∙ is-immutable .ensures _ refl refl) (mark2 .ensures) (spread .ensures)
 
 pub visit-planet-spec : {M : Type 1} → statement M
 visit-planet-spec =

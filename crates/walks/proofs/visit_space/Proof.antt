@@ -37,7 +37,12 @@ same-length-2 c = search needs
 
 returns-2 : tie.Need-returns-2
 returns-2 c =
-    space-open _ _ _ _ _ _ _ (c .before .before .before .before .before .before .before .before .before .before .before .before .before .before .before .before .pre .0 .fit) (not-planetary _ _ (c .before .before .before .before .before .before .before .before .before .before .before .if1 .left)) (sym (c .before .before .before .before .before .before .before .if2 .taken) ∙ c .before .before .before .before .before .before .before .before .is-immutable .ensures _ refl refl) (c .before .before .before .before .at-space .ensures)
+    let pre = c .before .before .before .before .before .before .before .before .before .before .before .before .before .before .before .before .pre in
+    let if1 = c .before .before .before .before .before .before .before .before .before .before .before .if1 in
+    let if2 = c .before .before .before .before .before .before .before .if2 in
+    let is-immutable = c .before .before .before .before .before .before .before .before .is-immutable in
+    let at-space = c .before .before .before .before .at-space in
+    space-open _ _ _ _ _ _ _ (pre .0 .fit) (not-planetary _ _ (if1 .left)) (sym (if2 .taken) ∙ is-immutable .ensures _ refl refl) (at-space .ensures)
 
 spread-requires : tie.Need-spread-requires
 spread-requires c κs = c .before .before .before .before .before .before .before .before .before .before .before .pre .0
@@ -50,7 +55,12 @@ same-length-4 c = search needs
 
 returns-3 : tie.Need-returns-3
 returns-3 c =
-    space-on _ _ _ _ _ _ _ (c .before .before .before .before .before .before .before .before .before .before .before .before .before .before .before .before .pre .0 .fit) (not-planetary _ _ (c .before .before .before .before .before .before .before .before .before .before .before .if1 .left)) (sym (c .before .before .before .before .before .before .before .if2 .left) ∙ c .before .before .before .before .before .before .before .before .is-immutable .ensures _ refl refl) (c .before .before .before .before .spread .ensures)
+    let pre = c .before .before .before .before .before .before .before .before .before .before .before .before .before .before .before .before .pre in
+    let if1 = c .before .before .before .before .before .before .before .before .before .before .before .if1 in
+    let if2 = c .before .before .before .before .before .before .before .if2 in
+    let is-immutable = c .before .before .before .before .before .before .before .before .is-immutable in
+    let spread = c .before .before .before .before .spread in
+    space-on _ _ _ _ _ _ _ (pre .0 .fit) (not-planetary _ _ (if1 .left)) (sym (if2 .left) ∙ is-immutable .ensures _ refl refl) (spread .ensures)
 
 pub visit-space-spec : {M : Type 1} → statement M
 visit-space-spec =

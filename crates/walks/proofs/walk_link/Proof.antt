@@ -82,7 +82,9 @@ append-requires c κs =
 joined-requires-2 : tie.Need-joined-requires-2
 joined-requires-2 c κs =
     let p = c .before .before .before .before .before .before .before .before .before .before .before .before .before .before .before .before .before .before .before .before .before .before .pre in
-    omega (arith, count-less _ _ _ _ _ (p .0 .fit) (p .0 .ground .neighbour _ (p .1)) (sym (c .before .before .before .before .before .before .before .before .before .before .before .before .before .before .if1 .left) ∙ c .before .before .before .before .before .before .before .before .before .before .before .before .before .before .before .contains .ensures), p .0 .fit .small)
+    let if1 = c .before .before .before .before .before .before .before .before .before .before .before .before .before .before .if1 in
+    let contains = c .before .before .before .before .before .before .before .before .before .before .before .before .before .before .before .contains in
+    omega (arith, count-less _ _ _ _ _ (p .0 .fit) (p .0 .ground .neighbour _ (p .1)) (sym (if1 .left) ∙ contains .ensures), p .0 .fit .small)
 
 same-length-3 : tie.Need-same-length-3
 same-length-3 c = search needs
@@ -93,8 +95,14 @@ same-length-4 c = search needs
 returns-3 : tie.Need-returns-3
 returns-3 c =
     let p = c .before .before .before .before .before .before .before .before .before .before .before .before .before .before .before .before .before .before .before .before .before .before .before .pre in
-    link-locked _ _ _ _ _ _ (p .0 .fit) (p .0 .ground .neighbour _ (p .1)) (sym (c .before .before .before .before .before .before .before .before .before .before .before .before .before .before .before .if1 .left) ∙ c .before .before .before .before .before .before .before .before .before .before .before .before .before .before .before .before .contains .ensures)
-    (sym (not-false _ (c .before .before .before .before .before .before .before .if2 .left)) ∙ c .before .before .before .before .before .before .before .before .firelock .ensures) _ _ _ _ (c .joined2 .ensures) (c .before .before .before .before .before .before .before .before .before .before .before .before .before .insert .ensures) (one-added _ (c .before .before .before .append .ensures))
+    let if1 = c .before .before .before .before .before .before .before .before .before .before .before .before .before .before .before .if1 in
+    let contains = c .before .before .before .before .before .before .before .before .before .before .before .before .before .before .before .before .contains in
+    let if2 = c .before .before .before .before .before .before .before .if2 in
+    let firelock = c .before .before .before .before .before .before .before .before .firelock in
+    let insert = c .before .before .before .before .before .before .before .before .before .before .before .before .before .insert in
+    let append = c .before .before .before .append in
+    link-locked _ _ _ _ _ _ (p .0 .fit) (p .0 .ground .neighbour _ (p .1)) (sym (if1 .left) ∙ contains .ensures)
+    (sym (not-false _ (if2 .left)) ∙ firelock .ensures) _ _ _ _ (c .joined2 .ensures) (insert .ensures) (one-added _ (append .ensures))
 
 pub walk-link-spec : {M : Type 1} → statement M
 walk-link-spec =

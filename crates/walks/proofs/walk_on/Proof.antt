@@ -43,16 +43,24 @@ walk-next-requires c κs =
 loop-less : tie.Need-loop-less Inv-loop μ-loop
 loop-less c =
     let args = c .before .before .before .before .before .before .before .before .before .before .before .before .args in
+    let walk-next = c .before .before .before .before .walk-next in
+    let loop = c .before .before .before .before .before .before .before .before .before .loop in
+    let if1 = c .before .before .before .before .before .before .before .if1 in
+    let goes-on = c .before .before .before .before .before .before .before .before .goes-on in
     let b = boardAt (args .rows) (args .marks) 0 in
-    omega (arith, turn-counts b (args .kind) (args .limit) (turfCount b) _ _ (c .before .before .before .before .walk-next .ensures), on-less (c .before .before .before .before .before .before .before .before .before .loop .t) _ (c .before .before .before .before .before .before .before .if1 .taken) (c .before .before .before .before .before .before .before .before .goes-on .ensures), c .before .before .before .before .before .before .before .before .before .loop .inv .fit .line .few)
+    omega (arith, turn-counts b (args .kind) (args .limit) (turfCount b) _ _ (walk-next .ensures), on-less (loop .t) _ (if1 .taken) (goes-on .ensures), loop .inv .fit .line .few)
 
 loop-again : tie.Need-loop-again Inv-loop μ-loop
 loop-again c =
     let args = c .before .before .before .before .before .before .before .before .before .before .before .before .args in
+    let walk-next = c .before .before .before .before .walk-next in
+    let loop = c .before .before .before .before .before .before .before .before .before .loop in
+    let goes-on = c .before .before .before .before .before .before .before .before .goes-on in
+    let if1 = c .before .before .before .before .before .before .before .if1 in
     let b = boardAt (args .rows) (args .marks) 0 in
-    let turn = c .before .before .before .before .walk-next .ensures in
-    going-next (walking _) _ _ (c .before .before .before .before .before .before .before .before .before .loop .inv) turn
-    (λ es. steps-next b (args .kind) (args .limit) (turfCount b) _ _ _ (c .before .before .before .before .before .before .before .before .before .loop .inv .fit) _ (c .before .before .before .before .before .before .before .before .goes-on .ensures) es (c .before .before .before .before .before .before .before .if1 .taken) _ (turn-counts b (args .kind) (args .limit) (turfCount b) _ _ turn))
+    let turn = walk-next .ensures in
+    going-next (walking _) _ _ (loop .inv) turn
+    (λ es. steps-next b (args .kind) (args .limit) (turfCount b) _ _ _ (loop .inv .fit) _ (goes-on .ensures) es (if1 .taken) _ (turn-counts b (args .kind) (args .limit) (turfCount b) _ _ turn))
 
 same-length : tie.Need-same-length Inv-loop μ-loop
 same-length c = kept-words (c .before .before .loop .inv)

@@ -65,7 +65,9 @@ same-length-4 c = search needs
 returns-2 : tie.Need-returns-2
 returns-2 c =
     let p = c .before .before .before .before .before .before .before .before .before .before .before .before .before .before .before .before .before .before .before .before .before .before .pre in
-    (back-on _ _ _ _ _ _ (p .0 .fit) (p .1) (c .before .before .before .before .before .before .before .before .before .before .before .before .before .if1 .left) (c .before .before .before .before .before .before .before .before .back-to .ensures .0), omega (arith, c .before .before .before .before .before .before .before .before .back-to .ensures .1, p .1))
+    let if1 = c .before .before .before .before .before .before .before .before .before .before .before .before .before .if1 in
+    let back-to = c .before .before .before .before .before .before .before .before .back-to in
+    (back-on _ _ _ _ _ _ (p .0 .fit) (p .1) (if1 .left) (back-to .ensures .0), omega (arith, back-to .ensures .1, p .1))
 
 pub back-spec : {M : Type 1} → statement M
 back-spec =

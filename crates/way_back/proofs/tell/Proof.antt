@@ -22,7 +22,10 @@ same-length c = search needs
 returns : tie.Need-returns
 returns c =
     let a = c .before .before .before .before .before .before .before .before .before .before .args in
-    told-two (a .id) (a .mine) (a .theirs) (a .used) (now (a .events)) (c .before .before .before .before .before .before .before .before .before .before .pre .room) _ _ (one-added _ (c .before .before .before .before .before .before .before .append .ensures)) _ _ (one-added _ (c .before .before .before .append2 .ensures)) _ (not-true _ (c .if1 .taken))
+    let pre = c .before .before .before .before .before .before .before .before .before .before .pre in
+    let append = c .before .before .before .before .before .before .before .append in
+    let append2 = c .before .before .before .append2 in
+    told-two (a .id) (a .mine) (a .theirs) (a .used) (now (a .events)) (pre .room) _ _ (one-added _ (append .ensures)) _ _ (one-added _ (append2 .ensures)) _ (not-true _ (c .if1 .taken))
 
 append-requires-3 : tie.Need-append-requires-3
 append-requires-3 c κs =
@@ -36,8 +39,13 @@ same-length-2 c = search needs
 returns-2 : tie.Need-returns-2
 returns-2 c =
     let a = c .before .before .before .before .before .before .before .before .before .before .before .before .before .before .args in
-    told-three (a .id) (a .mine) (a .theirs) (a .used) (now (a .events)) (c .before .before .before .before .before .before .before .before .before .before .before .before .before .before .pre .room) _ _ (one-added _ (c .before .before .before .before .before .before .before .before .before .before .before .append .ensures)) _ _ (one-added _ (c .before .before .before .before .before .before .before .append2 .ensures)) _ (not-false _ (c .before .before .before .before .if1 .left))
-    _ _ (one-added _ (c .before .before .append3 .ensures))
+    let pre = c .before .before .before .before .before .before .before .before .before .before .before .before .before .before .pre in
+    let append = c .before .before .before .before .before .before .before .before .before .before .before .append in
+    let append2 = c .before .before .before .before .before .before .before .append2 in
+    let if1 = c .before .before .before .before .if1 in
+    let append3 = c .before .before .append3 in
+    told-three (a .id) (a .mine) (a .theirs) (a .used) (now (a .events)) (pre .room) _ _ (one-added _ (append .ensures)) _ _ (one-added _ (append2 .ensures)) _ (not-false _ (if1 .left))
+    _ _ (one-added _ (append3 .ensures))
 
 pub tell-spec : {M : Type 1} → statement M
 tell-spec =

@@ -14,7 +14,11 @@ back-all-requires : tie.Need-back-all-requires
 back-all-requires c κs = first-goes _ _ _ _ _ _ _ _ (c .before .before .before .before .before .before .before .before .before .before .before .before .before .pre) (c .before .before .before .before .before .before .clear-floats .ensures)
 
 rips-requires : tie.Need-rips-requires
-rips-requires c κs = ripping _ _ _ _ _ _ _ _ (c .before .before .before .before .before .before .before .before .before .before .before .before .before .before .before .before .before .before .before .before .before .before .before .before .before .pre) (c .before .before .before .before .before .before .before .before .before .before .before .before .before .before .before .before .before .before .clear-floats .ensures) _ _ _ _ _ (c .before .before .before .before .before .before .before .before .before .before .before .back-all .ensures .0)
+rips-requires c κs =
+    let pre = c .before .before .before .before .before .before .before .before .before .before .before .before .before .before .before .before .before .before .before .before .before .before .before .before .before .pre in
+    let clear-floats = c .before .before .before .before .before .before .before .before .before .before .before .before .before .before .before .before .before .before .clear-floats in
+    let back-all = c .before .before .before .before .before .before .before .before .before .before .before .back-all in
+    ripping _ _ _ _ _ _ _ _ pre (clear-floats .ensures) _ _ _ _ _ (back-all .ensures .0)
 
 same-length : tie.Need-same-length
 same-length c = search needs
@@ -29,7 +33,12 @@ same-length-4 : tie.Need-same-length-4
 same-length-4 c = search needs
 
 returns : tie.Need-returns
-returns c = backed _ _ _ _ _ _ _ _ (c .before .before .before .before .before .before .before .before .before .before .before .before .before .before .before .before .before .before .before .before .before .before .before .before .before .before .before .before .pre) (c .before .before .before .before .before .before .before .before .before .before .before .before .before .before .before .before .before .before .before .before .before .clear-floats .ensures) _ _ _ _ _ (c .before .before .before .before .before .before .before .before .before .before .before .before .before .before .back-all .ensures .0) _ _ (c .before .before .rips .ensures)
+returns c =
+    let pre = c .before .before .before .before .before .before .before .before .before .before .before .before .before .before .before .before .before .before .before .before .before .before .before .before .before .before .before .before .pre in
+    let clear-floats = c .before .before .before .before .before .before .before .before .before .before .before .before .before .before .before .before .before .before .before .before .before .clear-floats in
+    let back-all = c .before .before .before .before .before .before .before .before .before .before .before .before .before .before .back-all in
+    let rips = c .before .before .rips in
+    backed _ _ _ _ _ _ _ _ pre (clear-floats .ensures) _ _ _ _ _ (back-all .ensures .0) _ _ (rips .ensures)
 
 pub way-back-spec : {M : Type 1} → statement M
 way-back-spec =

@@ -76,9 +76,15 @@ same-length-3 c = search needs
 returns-3 : tie.Need-returns-3
 returns-3 c =
     let args = c .before .before .before .before .before .before .before .before .before .before .before .before .before .before .before .before .before .before .before .args in
+    let pre = c .before .before .before .before .before .before .before .before .before .before .before .before .before .before .before .before .before .before .before .pre in
+    let if1 = c .before .before .before .before .before .before .before .before .before .before .if1 in
+    let is-immutable = c .before .before .before .before .before .before .before .before .before .before .before .is-immutable in
+    let if2 = c .before .before .before .before .before .before .before .if2 in
+    let contains = c .before .before .before .before .before .before .before .before .contains in
+    let out-to = c .before .before .before .before .out-to in
     let n = turfCount (boardAt (args .rows) (args .marks) 0) in
-    link-new _ _ _ _ _ _ (c .before .before .before .before .before .before .before .before .before .before .before .before .before .before .before .before .before .before .before .pre .0 .fit) (sym (c .before .before .before .before .before .before .before .before .before .before .if1 .left) ∙ c .before .before .before .before .before .before .before .before .before .before .before .is-immutable .ensures _ refl refl)
-    (order-member n (args .s) (now (args .words)) _ _ (sym (c .before .before .before .before .before .before .before .if2 .left) ∙ c .before .before .before .before .before .before .before .before .contains .ensures)) (c .before .before .before .before .out-to .ensures)
+    link-new _ _ _ _ _ _ (pre .0 .fit) (sym (if1 .left) ∙ is-immutable .ensures _ refl refl)
+    (order-member n (args .s) (now (args .words)) _ _ (sym (if2 .left) ∙ contains .ensures)) (out-to .ensures)
 
 pub out-link-spec : {M : Type 1} → statement M
 out-link-spec =

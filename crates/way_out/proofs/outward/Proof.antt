@@ -24,7 +24,12 @@ own-targets-requires : tie.Need-own-targets-requires
 own-targets-requires c κs = listed _ _ _ _ _ _ _ (c .before .before .before .before .before .before .before .before .before .before .before .before .pre) (c .before .before .before .before .before .before .before .clear-part .ensures) (c .before .before .before .clear-part2 .ensures)
 
 out-rows-requires : tie.Need-out-rows-requires
-out-rows-requires c κs = (start-passing _ _ _ _ _ _ _ (c .before .before .before .before .before .before .before .before .before .before .before .before .before .before .before .before .before .pre) (c .before .before .before .before .before .before .before .before .before .before .before .before .clear-part .ensures) (c .before .before .before .before .before .before .before .before .clear-part2 .ensures) _ (c .before .before .before .before .own-targets .ensures), refl)
+out-rows-requires c κs =
+    let pre = c .before .before .before .before .before .before .before .before .before .before .before .before .before .before .before .before .before .pre in
+    let clear-part = c .before .before .before .before .before .before .before .before .before .before .before .before .clear-part in
+    let clear-part2 = c .before .before .before .before .before .before .before .before .clear-part2 in
+    let own-targets = c .before .before .before .before .own-targets in
+    (start-passing _ _ _ _ _ _ _ pre (clear-part .ensures) (clear-part2 .ensures) _ (own-targets .ensures), refl)
 
 same-length : tie.Need-same-length
 same-length c = search needs
@@ -33,7 +38,13 @@ same-length-2 : tie.Need-same-length-2
 same-length-2 c = search needs
 
 returns : tie.Need-returns
-returns c = outed _ _ _ _ _ _ _ (c .before .before .before .before .before .before .before .before .before .before .before .before .before .before .before .before .before .before .before .before .before .before .pre) (c .before .before .before .before .before .before .before .before .before .before .before .before .before .before .before .before .before .clear-part .ensures) (c .before .before .before .before .before .before .before .before .before .before .before .before .before .clear-part2 .ensures) _ (c .before .before .before .before .before .before .before .before .before .own-targets .ensures) (c .before .before .before .before .out-rows .ensures)
+returns c =
+    let pre = c .before .before .before .before .before .before .before .before .before .before .before .before .before .before .before .before .before .before .before .before .before .before .pre in
+    let clear-part = c .before .before .before .before .before .before .before .before .before .before .before .before .before .before .before .before .before .clear-part in
+    let clear-part2 = c .before .before .before .before .before .before .before .before .before .before .before .before .before .clear-part2 in
+    let own-targets = c .before .before .before .before .before .before .before .before .before .own-targets in
+    let out-rows = c .before .before .before .before .out-rows in
+    outed _ _ _ _ _ _ _ pre (clear-part .ensures) (clear-part2 .ensures) _ (own-targets .ensures) (out-rows .ensures)
 
 pub outward-spec : {M : Type 1} → statement M
 outward-spec =
