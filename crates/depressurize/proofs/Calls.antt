@@ -2,16 +2,14 @@
 use Prim.Native.Nat.{ℕ, _+_, _*_, _≤_, _<_}
 use native.Mathlib.Omega.{arith}
 use mathlib.Core.Path.{_≡_, refl, ap, ap₂, _∙_, sym, subst}
-use mathlib.Core.List.{List, [], _++_, append-assoc, append-nil, reverse}
-use mathlib.Core.Bool.{Bool, true, false, cond}
-use lib.Dec.{T, eqb}
-use lib.ListN.{length, getD, take, drop, replicate}
+use mathlib.Core.List.{List, [], _++_, append-assoc, append-nil}
+use mathlib.Core.Bool.{true, false}
+use lib.ListN.{length, take, drop}
 use lib.Seq.{length-take-le, getD-take}
 use lib.Ieee.{Float}
 use borrow.Author.Tests.{eq-eqb, ne-eqb}
-use Rattle.basics.specs.Loops.{run, every}
 use Rattle.basics.specs.Floats.{0f}
-use Rattle.basics.specs.Regions.{region, base}
+use Rattle.basics.specs.Regions.{region}
 use Rattle.basics.specs.declared.Spot.{Spot}
 use Rattle.basics.specs.declared.Spot.the-variants.{At, Nowhere}
 use Rattle.basics.specs.Lists.{Found}
@@ -19,208 +17,194 @@ use Rattle.basics.proofs.Regions.{cut-length, later-same}
 use Rattle.board_rules.specs.Board.{Board, turfCount, linkCount, immutable, linksOf, rowOf}
 use Rattle.turfs.proofs.Accepted.{row-below}
 use Rattle.turfs.proofs.Line.{Line}
-use Rattle.mixture_rules.specs.Mixture.{amounts, change, totalMix, total, clearAir}
-use Rattle.event_rules.specs.Events.{encodeAll}
-use Rattle.events.specs.Area.{Wrote}
 use Rattle.event_rules.specs.declared.Event.{Event}
 use Rattle.events.proofs.Areas.{wrote-length}
 use Rattle.events.proofs.Sizes.{size}
 use Rattle.index_set.proofs.Queue.{Below-at, all-below, all-apart}
 use Rattle.lent_rules.specs.Lent.{Lent, Extra, noExtra, wordsRoom, floatsRoom, refusal, after}
-use Rattle.lent.specs.Given.{counted, cleared, lent, Given}
-use Rattle.lent.proofs.Numbers.{given, no-links}
+use Rattle.lent.specs.Given.{cleared, lent, Roomy, Given}
+use Rattle.lent.proofs.Numbers.{given, no-links, scratch-of}
 use Rattle.lent.proofs.Passed.{passed}
 use Rattle.walk_rules.specs.Walk.{Walk, walk}
-use Rattle.walk_rules.specs.Visit.{visitSpace, visit}
-use Rattle.walks.specs.Reached.{walkOf, Ground}
+use Rattle.walk_rules.specs.Visit.{visitSpace}
+use Rattle.walks.specs.Reached.{walkOf, Starts}
 use Rattle.walks.specs.Reached as walks
 use Rattle.walk_rules.specs.declared.Kind.the-variants.{Space}
 use Rattle.walks.specs.declared.Reach.{Reach}
 use Rattle.walks.proofs.Does.{none-wrote, both-wrote}
 use Rattle.walks.proofs.Links.{written-room}
-use Rattle.walks.proofs.Whole.{bare, ground-of, gasless}
-use Rattle.out_rules.specs.Out.{Out, outTo, outLink, outRow, outNext, outward}
-use Rattle.way_out.specs.Outed.{at, sizes, outOf, coast, Coast, shore, Mixed, Outed}
+use Rattle.walks.proofs.Whole.{bare, ground-of, bare-ground, gasless}
+use Rattle.out_rules.specs.Out.{outTo, outLink, outRow, outNext, outward}
+use Rattle.way_out.specs.Outed.{at, sizes, outOf, Opens, Outed}
 use Rattle.way_out.specs.declared.Front.{Front}
-use Rattle.back_rules.specs.Back.{Back, backTo, back}
-use Rattle.way_back.specs.Backed.{notNegative, lots, air, directions, Fits, Backed}
+use Rattle.way_back.specs.Backed.{Areas, areas, lots, Fits, Backed}
 use Rattle.way_back.proofs.Signs.{fits-every}
-use Rattle.depressurize_rules.specs.Depressurize.{Depressurized, wayBack, fromWalk, fromRow, depressurize, depressurizeRoom, depressurizeNumber, depressurizeDone, depressurizeResult}
+use Rattle.depressurize_rules.specs.Depressurize.{Depressurized, wayBack, fromWalk, fromRow, depressurize, depressurizeNumber, depressurizeDone, depressurizeResult}
 use Rattle.depressurize.specs.Ended.{Walked, Ended, Depressed}
 use Rattle.depressurize.specs.declared.Outcome.{Outcome}
-use Rattle.depressurize_rules.specs.declared.DepressurizeAnswer.{DepressurizeAnswer}
 use Rattle.depressurize.proofs.Room.{space-walk, depressurize-room}
 
--- ---- what each way looks at
+-- the areas that a call is lent
+abbrev areasOf : Lent → Areas
+areasOf l = areas (l .gas) (l .words) (l .floats) (l .area)
 
-module _ (b : Board) where
-  abbrev coastOf : Board
-  coastOf = coast (b .ids) (b .mixtures) (b .starts) (b .neighbours) (b .immutable)
-
-  abbrev airOf : Board
-  airOf = air (b .ids) (b .mixtures) (b .immutable) (b .gases)
-
-  same-outward : (limit : ℕ) (space : List ℕ) (es : List Event) → outward coastOf limit space es ≡ outward b limit space es
-  unfolding outward outNext outRow outLink outTo immutable linksOf
-  same-outward limit space es = refl
-
-  same-back : (dir xs : List ℕ) (v : Back) → run (back airOf dir) xs v ≡ run (back b dir) xs v
-  unfolding back backTo total totalMix amounts clearAir change
-  same-back dir xs v = refl
+-- the way out looks at no number of gases
+same-outward : (b : Board) (limit : ℕ) (space : List ℕ) (es : List Event) → outward (bare b) limit space es ≡ outward b limit space es
+unfolding outward outNext outRow outLink outTo immutable linksOf
+same-outward b limit space es = refl
 
 -- ---- from the first walk on
 
-module _ (b : Board) (limit : ℕ) (s : Reach) (gas : List Float) (e w : List ℕ) (f : List Float) (h : Walked b s gas e w f) where
+module _ (b : Board) (s : Reach) (gas : List Float) (e w : List ℕ) (f : List Float) (h : Walked b s (areas gas w f e)) where
   abbrev n : ℕ
   n = turfCount b
 
   abbrev space : List ℕ
   space = take (s .spaces) (region (sizes n) 2 w)
 
-  pub mixed : Mixed (shore (b .ids) (b .mixtures) [] (b .immutable))
-  mixed = record { mixtures = h .tables .mixtures; mixture = h .tables .mixture }
-
-  pub coast-of : Coast (coastOf b)
-  coast-of = record { mixed = mixed; parts = h .tables .parts; neighbour = h .tables .neighbour }
-
-  pub spaces-few : s .spaces ≤ n
+  spaces-few : s .spaces ≤ n
   spaces-few = omega (arith, h .fit .few, h .fit .past, h .fit .line .few)
 
-  pub written-few : s .used ≤ 12 * (n + s .spaces)
-  written-few = omega (arith, h .fit .written, h .fit .line .few)
+  pub opens : Opens (bare b) (s .spaces) (s .used) w e
+  opens = record {
+    ground = bare-ground b (ground-of b (h .tables));
+    list = record { small = h .fit .small; words = h .words; few = spaces-few; below = h .below; apart = h .apart };
+    room = omega (arith, h .area);
+    written = omega (arith, h .fit .written, h .fit .line .few);
+  }
 
   space-length : length space ≡ s .spaces
   space-length = length-take-le (s .spaces) (region (sizes n) 2 w) (omega (arith, spaces-few, cut-length (sizes n) w 2 (omega arith) (omega (arith, h .words))))
 
-  -- nothing more is done
-  stays : (o : ℕ) → ((es : List Event) → record { outcome = o; gas = gas; events = es } ≡ fromWalk b gas limit (walkOf n (walks.at s w e) es))
-      → Ended b limit s (record { outcome = o; used = s .used }) gas gas e e w w f f
-  stays o same = record {
-    words = refl;
-    floats = refl;
-    new = [];
-    wrote = none-wrote (s .used) e (written-room n (walks.at s w e) (h .fit));
-    same = λ es. ap (λ (fs : List Event). record { outcome = o; gas = gas; events = fs }) (append-nil es) ∙ same es;
-  }
+  module _ (limit : ℕ) where
+    -- nothing more is done
+    stays : (o : ℕ) → ((es : List Event) → record { outcome = o; gas = gas; events = es } ≡ fromWalk b gas limit (walkOf n (walks.at s w e) es))
+        → Ended b limit s (record { outcome = o; used = s .used }) (areas gas w f e) (areas gas w f e)
+    stays o same = record {
+      words = refl;
+      floats = refl;
+      new = [];
+      wrote = none-wrote (s .used) e (written-room n (walks.at s w e) (h .fit));
+      same = λ es. ap (λ (fs : List Event). record { outcome = o; gas = gas; events = fs }) (append-nil es) ∙ same es;
+    }
 
-  pub ended-planet : s .planet ≡ true → Ended b limit s (record { outcome = 1; used = s .used }) gas gas e e w w f f
-  unfolding fromWalk walkOf
-  ended-planet p = stays 1 (λ es. rw p)
-
-  module _ (p : s .planet ≡ false) where
-    pub ended-none : s .spaces ≡ 0 → Ended b limit s (record { outcome = 0; used = s .used }) gas gas e e w w f f
+    pub ended-planet : s .planet ≡ true → Ended b limit s (record { outcome = 1; used = s .used }) (areas gas w f e) (areas gas w f e)
     unfolding fromWalk walkOf
-    ended-none z = stays 0 (λ es. rw (p, eq-eqb (length space) 0 (space-length ∙ z)))
+    ended-planet p = stays 1 (λ es. rw p)
 
-    module _ (z : s .spaces ≡ 0 → ⊥) (g : Front) (e₁ w₁ : List ℕ) (o : Outed (coastOf b) limit (s .spaces) (s .used) g w w₁ e e₁) where
-      pub back-fits : Fits (airOf b) (g .count) (g .used) gas e₁ w₁ f
-      back-fits = record {
-        small = h .fit .small;
-        few = o .fit .line .few;
-        words = o .fit .words;
-        floats = h .floats;
-        bytes = omega (arith, h .area, wrote-length (o .wrote));
-        written = omega (arith, o .fit .written, o .fit .line .few);
-        total = h .count;
-        gas = h .clear;
-        order = λ i k. rw (← getD-take (g .count) (region (sizes n) 2 w₁) i 0 k) (Below-at n (take (g .count) (region (sizes n) 2 w₁)) i (o .fit .line .rows) (omega (arith, k, o .fit .line .few, o .fit .line .queue-n, length-take-le (g .count) (region (sizes n) 2 w₁) (omega (arith, o .fit .line .few, o .fit .line .queue-n)))));
-        directed = o .fit .directed;
-      }
+    module _ (p : s .planet ≡ false) where
+      pub ended-none : s .spaces ≡ 0 → Ended b limit s (record { outcome = 0; used = s .used }) (areas gas w f e) (areas gas w f e)
+      unfolding fromWalk walkOf
+      ended-none z = stays 0 (λ es. rw (p, eq-eqb (length space) 0 (space-length ∙ z)))
 
-      module _ (to : ℕ) (gas′ : List Float) (e₂ w₂ : List ℕ) (f₂ : List Float) (k : Backed (airOf b) (g .count) (g .used) to gas gas′ e₁ e₂ w₁ w₂ f f₂) where
-        abbrev whole : List Event → Back
-        whole es = run (back b (directions n w₁)) (reverse (take (g .count) (region (sizes n) 2 w₁))) (record { gas = gas; amount = replicate n 0f; events = es; rips = [] })
-
-        came : (es : List Event) → outOf n (at g w₁ e₁) (es ++ o .new) ≡ outward b limit space es
-        came es = o .same es ∙ same-outward b limit space es
-
-        done : (es : List Event) → record { outcome = 2; gas = gas′; events = es ++ (o .new ++ k .new) } ≡ wayBack b gas (outOf n (at g w₁ e₁) (es ++ o .new))
-        unfolding wayBack outOf
-        done es =
-            let q = k .same (es ++ o .new) in
-            let v : run (back (airOf b) (directions n w₁)) (reverse (take (g .count) (region (sizes n) 2 w₁))) (record { gas = gas; amount = replicate n 0f; events = es ++ o .new; rips = [] }) ≡ whole (es ++ o .new) = same-back b (directions n w₁) _ _ in
-            ap₂ (λ (x : List Float) (fs : List Event). record { outcome = 2; gas = x; events = fs }) (q .1 ∙ ap (λ (t : Back). t .gas) v) (sym (append-assoc es (o .new) (k .new)) ∙ q .0 ∙ ap (λ (t : Back). t .events ++ t .rips) v)
-
-        from : (es : List Event) → wayBack b gas (outward b limit space es) ≡ fromWalk b gas limit (walkOf n (walks.at s w e) es)
-        unfolding fromWalk walkOf
-        from es = rw (p, ne-eqb (length space) 0 (λ x. z (sym space-length ∙ x)))
-
-        pub ended-done : Ended b limit s (record { outcome = 2; used = to }) gas gas′ e e₂ w w₂ f f₂
-        ended-done = record {
-          words = k .words ∙ o .beyond;
-          floats = k .floats;
-          new = o .new ++ k .new;
-          wrote = both-wrote (o .new) (k .new) (o .wrote) (k .wrote);
-          same = λ es. done es ∙ ap (wayBack b gas) (came es) ∙ from es;
+      module _ (z : s .spaces ≡ 0 → ⊥) (g : Front) (e₁ w₁ : List ℕ) (o : Outed (bare b) limit (s .spaces) (s .used) g w w₁ e e₁) where
+        pub back-fits : Fits b (g .count) (g .used) (areas gas w₁ f e₁)
+        back-fits = record {
+          ground = ground-of b (h .tables);
+          few = o .fit .line .few;
+          words = o .fit .words;
+          floats = h .floats;
+          bytes = omega (arith, h .area, wrote-length (o .wrote));
+          written = omega (arith, o .fit .written, o .fit .line .few);
+          total = h .count;
+          gas = h .clear;
+          order = λ i k. rw (← getD-take (g .count) (region (sizes n) 2 w₁) i 0 k) (Below-at n (take (g .count) (region (sizes n) 2 w₁)) i (o .fit .line .rows) (omega (arith, k, o .fit .line .few, o .fit .line .queue-n, length-take-le (g .count) (region (sizes n) 2 w₁) (omega (arith, o .fit .line .few, o .fit .line .queue-n)))));
+          directed = o .fit .directed;
         }
+
+        module _ (to : ℕ) (gas′ : List Float) (e₂ w₂ : List ℕ) (f₂ : List Float) (k : Backed b (g .count) (g .used) to (areas gas w₁ f e₁) (areas gas′ w₂ f₂ e₂)) where
+          came : (es : List Event) → outOf n (at g w₁ e₁) (es ++ o .new) ≡ outward b limit space es
+          came es = o .same es ∙ same-outward b limit space es
+
+          done : (es : List Event) → record { outcome = 2; gas = gas′; events = es ++ (o .new ++ k .new) } ≡ wayBack b gas (outOf n (at g w₁ e₁) (es ++ o .new))
+          unfolding wayBack outOf
+          done es =
+              let q = k .same (es ++ o .new) in
+              ap₂ (λ (x : List Float) (fs : List Event). record { outcome = 2; gas = x; events = fs }) (q .1) (sym (append-assoc es (o .new) (k .new)) ∙ q .0)
+
+          from : (es : List Event) → wayBack b gas (outward b limit space es) ≡ fromWalk b gas limit (walkOf n (walks.at s w e) es)
+          unfolding fromWalk walkOf
+          from es = rw (p, ne-eqb (length space) 0 (λ x. z (sym space-length ∙ x)))
+
+          pub ended-done : Ended b limit s (record { outcome = 2; used = to }) (areas gas w f e) (areas gas′ w₂ f₂ e₂)
+          ended-done = record {
+            words = k .words ∙ o .beyond;
+            floats = k .floats;
+            new = o .new ++ k .new;
+            wrote = both-wrote (o .new) (k .new) (o .wrote) (k .wrote);
+            same = λ es. done es ∙ ap (wayBack b gas) (came es) ∙ from es;
+          }
 
 -- ---- from the id
 
-module _ (b : Board) (limit id : ℕ) (l : Lent) (z : refusal b l (84 * turfCount b) noExtra ≡ 0) where
+module _ (b : Board) (l : Lent) (z : refusal b l (84 * turfCount b) noExtra ≡ 0) where
   abbrev m : ℕ
   m = turfCount b
 
   pub granted : Given b l (84 * m)
   granted = given b l (84 * m) noExtra z
 
-  pub ground : Ground (bare b)
-  ground = ground-of b (granted .accepted .tables)
-
-  pub walk-room : (24 * m ≤ length (l .area)) × (3 * m ≤ length (l .words))
-  walk-room =
+  pub starts : (row : ℕ) → row < m → Starts Space (bare b) row (l .words) (l .area)
+  starts row r =
       let w : 3 * m ≤ wordsRoom b = unfold wordsRoom in omega arith in
-      (omega (arith, granted .area), omega (arith, w, granted .words))
-
-  pub no-turf : (o : Spot) → o ≡ rowOf b id → o ≡ Nowhere → Depressed b limit id (record { outcome = 0; used = 0 }) (l .gas) (l .gas) (l .area) (l .area) (l .words) (l .words) (l .floats) (l .floats)
-  unfolding depressurize fromRow
-  no-turf o r q = record {
-    words = refl;
-    floats = refl;
-    events = [];
-    wrote = none-wrote 0 (l .area) (omega arith);
-    same = rw (← r, q);
-  }
-
-  module _ (o : Spot) (r : o ≡ rowOf b id) (row : ℕ) (q : o ≡ At row) where
-    pub turf-row : row < m
-    turf-row = subst (Found (λ r. r < m)) (sym r ∙ q) (row-below b id)
-
-    module _ (s : Reach) (e₁ w₁ : List ℕ) (d : walks.Walked Space (bare b) limit row s (l .words) w₁ (l .area) e₁) where
-      view : walkOf m (walks.at s w₁ e₁) (d .events) ≡ walk b (visitSpace b limit) row
-      view = d .same ∙ gasless b Space limit row
-
-      line : Line b (take (s .spaces) (region (sizes m) 2 w₁))
-      unfolding walkOf
-      line = subst (λ (v : Walk). Line b (v .space)) (sym view) (space-walk b (passed b l (84 * m) noExtra z .board) limit row turf-row .space)
-
-      pub walked : Walked b s (l .gas) e₁ w₁ (l .floats)
-      walked =
-          let ws : 5 * m ≤ wordsRoom b = unfold wordsRoom in omega arith in
-          let fs : 2 * m ≤ floatsRoom b = unfold floatsRoom in omega arith in
-          record {
-            tables = granted .accepted .tables;
-            fit = d .fit;
-            count = granted .accepted .count;
-            clear = fits-every (l .gas) (granted .accepted .amounts);
-            area = omega (arith, granted .area, wrote-length (d .wrote));
-            words = omega (arith, ws, granted .words, d .words);
-            floats = omega (arith, fs, granted .floats);
-            below = all-below m _ (line .rows);
-            apart = all-apart _ (line .apart);
-          }
-
-      pub from-turf : (g : Outcome) (gas′ : List Float) (e₂ w₂ : List ℕ) (f₂ : List Float) → Ended b limit s g (l .gas) gas′ e₁ e₂ w₁ w₂ (l .floats) f₂
-          → Depressed b limit id g (l .gas) gas′ (l .area) e₂ (l .words) w₂ (l .floats) f₂
-      from-turf g gas′ e₂ w₂ f₂ k = record {
-        words = k .words ∙ ap (λ (x : List ℕ). drop m (drop m x)) (d .beyond);
-        floats = k .floats;
-        events = d .events ++ k .new;
-        wrote = both-wrote (d .events) (k .new) (d .wrote) (k .wrote);
-        same = k .same (d .events) ∙ ap (fromWalk b (l .gas) limit) view ∙ from;
+      record {
+        ground = bare-ground b (ground-of b (granted .accepted .tables));
+        inside = r;
+        words = omega (arith, w, granted .words);
+        room = omega (arith, granted .area);
       }
-        where
-          from : fromWalk b (l .gas) limit (walk b (visitSpace b limit) row) ≡ depressurize b (l .gas) limit id
-          from = unfold depressurize fromRow in rw (← r, q)
+
+  module _ (limit id : ℕ) where
+    pub no-turf : (o : Spot) → o ≡ rowOf b id → o ≡ Nowhere → Depressed b limit id (record { outcome = 0; used = 0 }) (areasOf l) (areasOf l)
+    unfolding depressurize fromRow
+    no-turf o r q = record {
+      words = refl;
+      floats = refl;
+      events = [];
+      wrote = none-wrote 0 (l .area) (omega arith);
+      same = rw (← r, q);
+    }
+
+    module _ (o : Spot) (r : o ≡ rowOf b id) (row : ℕ) (q : o ≡ At row) where
+      pub turf-row : row < m
+      turf-row = subst (Found (λ r. r < m)) (sym r ∙ q) (row-below b id)
+
+      module _ (s : Reach) (e₁ w₁ : List ℕ) (d : walks.Walked Space (bare b) limit row s (l .words) w₁ (l .area) e₁) where
+        view : walkOf m (walks.at s w₁ e₁) (d .events) ≡ walk b (visitSpace b limit) row
+        view = d .same ∙ gasless b Space limit row
+
+        line : Line b (take (s .spaces) (region (sizes m) 2 w₁))
+        unfolding walkOf
+        line = subst (λ (v : Walk). Line b (v .space)) (sym view) (space-walk b (passed b l (84 * m) noExtra z .board) limit row turf-row .space)
+
+        pub walked : Walked b s (areas (l .gas) w₁ (l .floats) e₁)
+        walked =
+            let ws : 5 * m ≤ wordsRoom b = unfold wordsRoom in omega arith in
+            let fs : 2 * m ≤ floatsRoom b = unfold floatsRoom in omega arith in
+            record {
+              tables = granted .accepted .tables;
+              fit = d .fit;
+              count = granted .accepted .count;
+              clear = fits-every (l .gas) (granted .accepted .amounts);
+              area = omega (arith, granted .area, wrote-length (d .wrote));
+              words = omega (arith, ws, granted .words, d .words);
+              floats = omega (arith, fs, granted .floats);
+              below = all-below m _ (line .rows);
+              apart = all-apart _ (line .apart);
+            }
+
+        pub from-turf : (g : Outcome) (gas′ : List Float) (e₂ w₂ : List ℕ) (f₂ : List Float) → Ended b limit s g (areas (l .gas) w₁ (l .floats) e₁) (areas gas′ w₂ f₂ e₂)
+            → Depressed b limit id g (areasOf l) (areas gas′ w₂ f₂ e₂)
+        from-turf g gas′ e₂ w₂ f₂ k = record {
+          words = k .words ∙ ap (λ (x : List ℕ). drop m (drop m x)) (d .beyond);
+          floats = k .floats;
+          events = d .events ++ k .new;
+          wrote = both-wrote (d .events) (k .new) (d .wrote) (k .wrote);
+          same = k .same (d .events) ∙ ap (fromWalk b (l .gas) limit) view ∙ from;
+        }
+          where
+            from : fromWalk b (l .gas) limit (walk b (visitSpace b limit) row) ≡ depressurize b (l .gas) limit id
+            from = unfold depressurize fromRow in rw (← r, q)
 
 -- ---- the answers
 
@@ -236,10 +220,14 @@ module _ (b : Board) (limit id : ℕ) (l : Lent) (x : Extra) (number : ℕ) (q :
     pub is-zero : refusal b l (84 * turfCount b) noExtra ≡ 0
     is-zero = sym number-is ∙ z
 
-    pub given-all : Given b l (84 * turfCount b)
-    given-all = granted b limit id l is-zero
+    given-all : Given b l (84 * turfCount b)
+    given-all = granted b l is-zero
 
-    module _ (g : Outcome) (gas′ : List Float) (e′ w₁ : List ℕ) (f₁ : List Float) (d : Depressed b limit id g (l .gas) gas′ (l .area) e′ (l .words) w₁ (l .floats) f₁) where
+    -- what `clear_scratch` asks
+    pub roomy : (w₁ : List ℕ) (f₁ : List Float) → length w₁ ≡ length (l .words) → length f₁ ≡ length (l .floats) → Roomy (bare b) w₁ f₁
+    roomy w₁ f₁ c k = let s = scratch-of b l (84 * turfCount b) given-all in record { small = s .small; words = rw c (s .words); floats = rw k (s .floats) }
+
+    module _ (g : Outcome) (gas′ : List Float) (e′ w₁ : List ℕ) (f₁ : List Float) (d : Depressed b limit id g (areasOf l) (areas gas′ w₁ f₁ e′)) where
       bytes-is : g .used ≡ size (depressurize b (l .gas) limit id .events)
       bytes-is = d .wrote .end ∙ omega (arith, ap (λ (v : Depressurized). size (v .events)) (d .same))
 
@@ -247,7 +235,7 @@ module _ (b : Board) (limit id : ℕ) (l : Lent) (x : Extra) (number : ℕ) (q :
       few = omega (arith, bytes-is, depressurize-room b (passed b l (84 * turfCount b) noExtra is-zero .board) limit (l .gas) id, given-all .accepted .tables .sizes .small .turfs)
 
       pub answered : (w′ : List ℕ) (f′ : List Float)
-          → w′ ≡ cleared 0 (wordsRoom (counted (b .ids) (b .neighbours) (b .immutable))) w₁ → f′ ≡ cleared 0f (floatsRoom (counted (b .ids) (b .neighbours) [])) f₁
+          → w′ ≡ cleared 0 (wordsRoom (bare b)) w₁ → f′ ≡ cleared 0f (floatsRoom (bare b)) f₁
           → record { answer = record { number = 0; outcome = g .outcome; bytes = g .used }; lent = lent gas′ e′ w′ f′ } ≡ depressurizeResult b limit id l
       unfolding depressurizeResult depressurizeNumber depressurizeDone after wordsRoom floatsRoom
       answered w′ f′ c k =

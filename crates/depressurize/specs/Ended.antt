@@ -4,7 +4,6 @@ use mathlib.Core.List.{List, _++_}
 use Prim.Native.Nat.{ℕ, _*_, _≤_}
 use lib.Dec.{T}
 use lib.ListN.{length, take}
-use lib.Ieee.{Float}
 use Rattle.basics.specs.Loops.{every}
 use Rattle.basics.specs.Regions.{region}
 use Rattle.board_rules.specs.Board.{Board, turfCount, mixtureCount}
@@ -17,34 +16,35 @@ use Rattle.walks.specs.Reached.{Fit, walkOf}
 use Rattle.walks.specs.Reached as walks
 use Rattle.walks.specs.declared.Reach.{Reach}
 use Rattle.way_out.specs.Outed.{sizes}
-use Rattle.way_back.specs.Backed.{notNegative, lots}
+use Rattle.way_back.specs.Backed.{notNegative, Areas, lots}
 use Rattle.depressurize_rules.specs.Depressurize.{fromWalk, depressurize}
 use Rattle.depressurize.specs.declared.Outcome.{Outcome}
 
 -- the areas hold the first walk, and have room for the rest
-pub record Walked (b : Board) (s : Reach) (air : List Float) (e w : List ℕ) (f : List Float) : Type 0 where
+pub record Walked (b : Board) (s : Reach) (a : Areas) : Type 0 where
   pub tables : Tables b
-  pub fit : Fit (turfCount b) (walks.at s w e)
-  pub count : length air ≡ mixtureCount b * b .gases
-  pub clear : T (every notNegative air)
-  pub area : 84 * turfCount b ≤ length e
-  pub words : 5 * turfCount b ≤ length w
-  pub floats : 2 * turfCount b ≤ length f
-  pub below : Below (turfCount b) (take (s .spaces) (region (sizes (turfCount b)) 2 w))
-  pub apart : Apart (take (s .spaces) (region (sizes (turfCount b)) 2 w))
+  pub fit : Fit (turfCount b) (walks.at s (a .words) (a .area))
+  pub count : length (a .gas) ≡ mixtureCount b * b .gases
+  pub clear : T (every notNegative (a .gas))
+  pub area : 84 * turfCount b ≤ length (a .area)
+  pub words : 5 * turfCount b ≤ length (a .words)
+  pub floats : 2 * turfCount b ≤ length (a .floats)
+  pub below : Below (turfCount b) (take (s .spaces) (region (sizes (turfCount b)) 2 (a .words)))
+  pub apart : Apart (take (s .spaces) (region (sizes (turfCount b)) 2 (a .words)))
 
--- from the first walk on
-pub record Ended (b : Board) (limit : ℕ) (s : Reach) (r : Outcome) (gas gas′ : List Float) (e e′ w w′ : List ℕ) (f f′ : List Float) : Type 0 where
-  pub words : region (sizes (turfCount b)) 5 w′ ≡ region (sizes (turfCount b)) 5 w
-  pub floats : region (lots (turfCount b)) 2 f′ ≡ region (lots (turfCount b)) 2 f
+-- from the first walk on, from a to a′
+pub record Ended (b : Board) (limit : ℕ) (s : Reach) (r : Outcome) (a a′ : Areas) : Type 0 where
+  pub words : region (sizes (turfCount b)) 5 (a′ .words) ≡ region (sizes (turfCount b)) 5 (a .words)
+  pub floats : region (lots (turfCount b)) 2 (a′ .floats) ≡ region (lots (turfCount b)) 2 (a .floats)
   pub new : List Event
-  pub wrote : Wrote (encodeAll new) (s .used) (r .used) e e′
-  pub same : (es : List Event) → record { outcome = r .outcome; gas = gas′; events = es ++ new } ≡ fromWalk b gas limit (walkOf (turfCount b) (walks.at s w e) es)
+  pub wrote : Wrote (encodeAll new) (s .used) (r .used) (a .area) (a′ .area)
+  pub same : (es : List Event) →
+      record { outcome = r .outcome; gas = a′ .gas; events = es ++ new } ≡ fromWalk b (a .gas) limit (walkOf (turfCount b) (walks.at s (a .words) (a .area)) es)
 
--- from the turf `id`
-pub record Depressed (b : Board) (limit id : ℕ) (r : Outcome) (gas gas′ : List Float) (e e′ w w′ : List ℕ) (f f′ : List Float) : Type 0 where
-  pub words : region (sizes (turfCount b)) 5 w′ ≡ region (sizes (turfCount b)) 5 w
-  pub floats : region (lots (turfCount b)) 2 f′ ≡ region (lots (turfCount b)) 2 f
+-- from the turf `id`, from a to a′
+pub record Depressed (b : Board) (limit id : ℕ) (r : Outcome) (a a′ : Areas) : Type 0 where
+  pub words : region (sizes (turfCount b)) 5 (a′ .words) ≡ region (sizes (turfCount b)) 5 (a .words)
+  pub floats : region (lots (turfCount b)) 2 (a′ .floats) ≡ region (lots (turfCount b)) 2 (a .floats)
   pub events : List Event
-  pub wrote : Wrote (encodeAll events) 0 (r .used) e e′
-  pub same : record { outcome = r .outcome; gas = gas′; events = events } ≡ depressurize b gas limit id
+  pub wrote : Wrote (encodeAll events) 0 (r .used) (a .area) (a′ .area)
+  pub same : record { outcome = r .outcome; gas = a′ .gas; events = events } ≡ depressurize b (a .gas) limit id

@@ -2,15 +2,19 @@
 use basics::Spot;
 use depressurize_rules::DepressurizeAnswer;
 use lent::ExtraTests;
+use lent::Room;
+use turfs::IDS;
+use turfs::Marks;
+use turfs::Rows;
 use walk_rules::Kind;
 use walks::Reach;
 ghost use mathlib.Core.Path.{_≡_};
-ghost use Prim.Native.Nat.{_+_, _*_};
-ghost use lib.ListN.{length};
-ghost use Rattle.board_rules.specs.Board.{Board};
-ghost use Rattle.turfs.specs.Tables.{board};
+ghost use Prim.Native.Nat.{_*_};
+ghost use Rattle.board_rules.specs.Board.{turfCount};
+ghost use Rattle.turfs.specs.Tables.{boardAt};
 ghost use Rattle.lent_rules.specs.Lent.{noExtra, refusal};
 ghost use Rattle.lent.specs.Given.{lent};
+ghost use Rattle.way_back.specs.Backed.{areas};
 ghost use Rattle.depressurize_rules.specs.Depressurize.{depressurizeResult};
 ghost use Rattle.depressurize.specs.Ended.{Walked, Ended, Depressed};
 
@@ -22,24 +26,21 @@ pub struct Outcome {
 
 // After the first walk: 1 where a planetary turf was met, 0 where no space was; else out from space and back, and 2.
 fn from_walk(
-    ids: &[u32],
-    flags: &[u8],
-    planetary: &[u8],
-    mixtures: &[u32],
-    starts: &[u32],
-    neighbours: &[u32],
-    link_flags: &[u8],
-    immutable: &[u8],
-    gases: usize,
     limit: u32,
     s: Reach,
-    amounts: &mut [f32],
-    events: &mut [u8],
+    rows: &Rows,
+    marks: &Marks,
+    gases: usize,
+    gas: &mut [f32],
     words: &mut [u32],
     floats: &mut [f32],
+    events: &mut [u8],
 ) -> Outcome
-    requires { ⌜ Walked (board (now ids) (now flags) (now planetary) (now mixtures) (now starts) (now neighbours) (now «link_flags») (now immutable) gases) s (now amounts) (now events) (now words) (now floats) ⌝ }
-    ensures { λ r. ⌜ Ended (board (now (ids .entry)) (now (flags .entry)) (now (planetary .entry)) (now (mixtures .entry)) (now (starts .entry)) (now (neighbours .entry)) (now («link_flags» .entry)) (now (immutable .entry)) gases) limit s r (now (amounts .entry)) (now (amounts .exit)) (now (events .entry)) (now (events .exit)) (now (words .entry)) (now (words .exit)) (now (floats .entry)) (now (floats .exit)) ⌝ }
+    requires { let b = boardAt rows marks gases in ⌜ Walked b s (areas (now gas) (now words) (now floats) (now events)) ⌝ }
+    ensures { λ r. let b = boardAt (rows .entry) (marks .entry) gases in
+        ⌜ Ended b limit s r
+        (areas (now (gas .entry)) (now (words .entry)) (now (floats .entry)) (now (events .entry)))
+        (areas (now (gas .exit)) (now (words .exit)) (now (floats .exit)) (now (events .exit))) ⌝ }
 {
     if s.planet {
         return Outcome {
@@ -53,133 +54,71 @@ fn from_walk(
             used: s.used,
         };
     }
-    let front = way_out::outward(
-        ids,
-        mixtures,
-        starts,
-        neighbours,
-        immutable,
-        limit,
-        s.spaces,
-        s.used,
-        events,
-        words,
-    );
+    let front = way_out::outward(limit, s.spaces, s.used, rows, marks, words, events);
     let used = way_back::way_back(
-        ids,
-        mixtures,
-        immutable,
-        gases,
         front.count,
         front.used,
-        amounts,
-        events,
+        rows,
+        marks,
+        gases,
+        gas,
         words,
         floats,
+        events,
     );
     Outcome { outcome: 2, used }
 }
 
 // From the turf `id`; an unknown id is outcome 0.
 fn from_id(
-    ids: &[u32],
-    flags: &[u8],
-    planetary: &[u8],
-    mixtures: &[u32],
-    starts: &[u32],
-    neighbours: &[u32],
-    link_flags: &[u8],
-    immutable: &[u8],
-    gases: usize,
     id: u32,
     limit: u32,
-    amounts: &mut [f32],
-    events: &mut [u8],
+    rows: &Rows,
+    marks: &Marks,
+    gases: usize,
+    gas: &mut [f32],
     words: &mut [u32],
     floats: &mut [f32],
+    events: &mut [u8],
 ) -> Outcome
-    requires { ⌜ refusal (board (now ids) (now flags) (now planetary) (now mixtures) (now starts) (now neighbours) (now «link_flags») (now immutable) gases) (lent (now amounts) (now events) (now words) (now floats)) (84 * length (now ids)) noExtra ≡ 0 ⌝ }
-    ensures { λ r. ⌜ Depressed (board (now (ids .entry)) (now (flags .entry)) (now (planetary .entry)) (now (mixtures .entry)) (now (starts .entry)) (now (neighbours .entry)) (now («link_flags» .entry)) (now (immutable .entry)) gases) limit id r (now (amounts .entry)) (now (amounts .exit)) (now (events .entry)) (now (events .exit)) (now (words .entry)) (now (words .exit)) (now (floats .entry)) (now (floats .exit)) ⌝ }
+    requires { let b = boardAt rows marks gases in ⌜ refusal b (lent (now gas) (now events) (now words) (now floats)) (84 * turfCount b) noExtra ≡ 0 ⌝ }
+    ensures { λ r. let b = boardAt (rows .entry) (marks .entry) gases in
+        ⌜ Depressed b limit id r
+        (areas (now (gas .entry)) (now (words .entry)) (now (floats .entry)) (now (events .entry)))
+        (areas (now (gas .exit)) (now (words .exit)) (now (floats .exit)) (now (events .exit))) ⌝ }
 {
-    let Spot::At(row) = turfs::find(ids, id) else {
+    let Spot::At(row) = turfs::find(rows[IDS], id) else {
         return Outcome {
             outcome: 0,
             used: 0,
         };
     };
-    let s = walks::walk(
-        Kind::Space,
-        ids,
-        flags,
-        planetary,
-        mixtures,
-        starts,
-        neighbours,
-        link_flags,
-        immutable,
-        limit,
-        row,
-        events,
-        words,
-    );
-    from_walk(
-        ids,
-        flags,
-        planetary,
-        mixtures,
-        starts,
-        neighbours,
-        link_flags,
-        immutable,
-        gases,
-        limit,
-        s,
-        amounts,
-        events,
-        words,
-        floats,
-    )
+    let s = walks::walk(Kind::Space, limit, row, rows, marks, words, events);
+    from_walk(limit, s, rows, marks, gases, gas, words, floats, events)
 }
 
 // Depressurizes from the turf `id`.
 pub fn depressurize(
-    ids: &[u32],
-    flags: &[u8],
-    planetary: &[u8],
-    mixtures: &[u32],
-    starts: &[u32],
-    neighbours: &[u32],
-    link_flags: &[u8],
-    immutable: &[u8],
-    gases: u32,
-    amounts: &mut [f32],
     id: u32,
     limit: u32,
-    events: &mut [u8],
+    rows: &Rows,
+    marks: &Marks,
+    gases: u32,
+    gas: &mut [f32],
     words: &mut [u32],
     floats: &mut [f32],
+    events: &mut [u8],
 ) -> DepressurizeAnswer
-    ensures { λ r. ⌜ record { answer = r; lent = lent (now (amounts .exit)) (now (events .exit)) (now (words .exit)) (now (floats .exit)) }
-        ≡ depressurizeResult (board (now (ids .entry)) (now (flags .entry)) (now (planetary .entry)) (now (mixtures .entry)) (now (starts .entry)) (now (neighbours .entry)) (now («link_flags» .entry)) (now (immutable .entry)) gases) limit id (lent (now (amounts .entry)) (now (events .entry)) (now (words .entry)) (now (floats .entry))) ⌝ }
+    ensures { λ r. let b = boardAt (rows .entry) (marks .entry) gases in
+        ⌜ record { answer = r; lent = lent (now (gas .exit)) (now (events .exit)) (now (words .exit)) (now (floats .exit)) }
+        ≡ depressurizeResult b limit id (lent (now (gas .entry)) (now (events .entry)) (now (words .entry)) (now (floats .entry))) ⌝ }
 {
-    let number = lent::refusal(
-        ids,
-        flags,
-        planetary,
-        mixtures,
-        starts,
-        neighbours,
-        link_flags,
-        immutable,
-        gases,
-        amounts,
-        events,
-        words,
-        floats,
-        84,
-        0,
-        ExtraTests::none(),
-    );
+    let room = Room {
+        per_turf: 84,
+        per_link: 0,
+    };
+    let extra = ExtraTests::none();
+    let number = lent::refusal(rows, marks, gases, gas, words, floats, events, room, extra);
     if number != 0 {
         return DepressurizeAnswer {
             number,
@@ -188,23 +127,17 @@ pub fn depressurize(
         };
     }
     let r = from_id(
-        ids,
-        flags,
-        planetary,
-        mixtures,
-        starts,
-        neighbours,
-        link_flags,
-        immutable,
-        gases as usize,
         id,
         limit,
-        amounts,
-        events,
+        rows,
+        marks,
+        gases as usize,
+        gas,
         words,
         floats,
+        events,
     );
-    lent::clear_scratch(ids, neighbours, immutable, words, floats);
+    lent::clear_scratch(rows, marks, words, floats);
     DepressurizeAnswer {
         number: 0,
         outcome: r.outcome,

@@ -12,7 +12,7 @@ use Rattle.equalize.specs.Equalize.{Ask}
 use Rattle.equalize.specs.Result.{equalizeResult}
 use Rattle.equalize.specs.Worked.{numbers}
 use Rattle.depressurize_rules.specs.Depressurize.{depressurizeResult}
-use Rattle.planet_walk.specs.Planet.{planetResult}
+use Rattle.planet_rules.specs.Planet.{planetResult}
 
 -- how long the lent areas are: event bytes, words, floats
 pub record Lengths : Type 0 where

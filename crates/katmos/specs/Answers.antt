@@ -5,7 +5,7 @@ use Prim.Native.Nat.{ℕ}
 use lib.ListN.{getD}
 use Rattle.lent_rules.specs.Lent.{Lent, Result}
 use Rattle.equalize.specs.declared.EqualizeAnswer.{EqualizeAnswer}
-use Rattle.planet_walk.specs.declared.PlanetAnswer.{PlanetAnswer}
+use Rattle.planet_rules.specs.declared.PlanetAnswer.{PlanetAnswer}
 use Rattle.depressurize_rules.specs.declared.DepressurizeAnswer.{DepressurizeAnswer}
 
 -- number, cancelled, processed, tests, zones, apart, bytes

@@ -2,37 +2,33 @@
 use Prim.Native.Nat.{ℕ, _+_, _*_, _≤_, _<_}
 use native.Mathlib.Omega.{arith}
 use mathlib.Core.Path.{_≡_, refl, ap, _∙_, sym, subst}
-use mathlib.Core.List.{List, [], _∷_, _++_}
-use mathlib.Core.Bool.{true}
+use mathlib.Core.List.{List}
 use lib.ListN.{length, drop}
 use lib.Ieee.{Float}
 use borrow.Author.Tests.{eq-eqb, ne-eqb}
 use Rattle.basics.specs.Floats.{0f}
-use Rattle.basics.specs.Regions.{region, base}
+use Rattle.basics.specs.Regions.{region}
 use Rattle.basics.specs.declared.Spot.{Spot}
 use Rattle.basics.specs.declared.Spot.the-variants.{At, Nowhere}
 use Rattle.basics.specs.Lists.{Found}
 use Rattle.basics.proofs.Regions.{later-same}
 use Rattle.board_rules.specs.Board.{Board, turfCount, linkCount, rowOf}
-use Rattle.board_rules.specs.Refuse.{ascending}
 use Rattle.turfs.proofs.Accepted.{row-below}
 use Rattle.event_rules.specs.Events.{encodeAll}
 use Rattle.events.specs.Area.{Wrote}
-use Rattle.event_rules.specs.declared.Event.{Event}
 use Rattle.events.proofs.Sizes.{size}
-use Rattle.lent_rules.specs.Lent.{Lent, Extra, Result, noExtra, wordsRoom, floatsRoom, refusal, after}
-use Rattle.lent.specs.Given.{counted, cleared, lent, Given}
-use Rattle.lent.proofs.Numbers.{given, no-links}
+use Rattle.lent_rules.specs.Lent.{Lent, Extra, noExtra, wordsRoom, floatsRoom, refusal, after}
+use Rattle.lent.specs.Given.{cleared, lent, Roomy, Given}
+use Rattle.lent.proofs.Numbers.{given, no-links, scratch-of}
 use Rattle.lent.proofs.Passed.{passed}
 use Rattle.walk_rules.specs.Walk.{Walk, walk}
-use Rattle.walk_rules.specs.Visit.{visitPlanet, visit}
-use Rattle.walks.specs.Reached.{at, sizes, walkOf, Ground, Walked}
+use Rattle.walks.specs.Reached.{at, sizes, walkOf, Walked}
 use Rattle.walk_rules.specs.declared.Kind.the-variants.{Planet}
 use Rattle.walks.specs.declared.Reach.{Reach}
 use Rattle.walks.proofs.Does.{none-wrote}
-use Rattle.walks.proofs.Whole.{bare, ground-of, gasless}
-use Rattle.planet_walk.specs.Planet.{planetFrom, planetWalk, planetRoom, planetNumber, planetDone, planetResult}
-use Rattle.planet_walk.specs.declared.PlanetAnswer.{PlanetAnswer}
+use Rattle.walks.proofs.Whole.{bare, ground-of, bare-ground, gasless}
+use Rattle.planet_rules.specs.Planet.{planetFrom, planetWalk, planetRoom, planetNumber, planetDone, planetResult}
+use Rattle.planet_walk.specs.Ready.{Ready}
 use Rattle.planet_walk.proofs.Room.{planet-room}
 
 -- ---- the events
@@ -70,14 +66,22 @@ module _ (b : Board) (limit id : ℕ) (l : Lent) (x : Extra) (number : ℕ) (q :
   refused z = rw (← number-is, ne-eqb number 0 z)
 
   module _ (z : number ≡ 0) where
-    pub granted : Given b l (planetRoom b)
+    granted : Given b l (planetRoom b)
     granted = given b l (planetRoom b) noExtra (sym number-is ∙ z)
 
-    pub ground : Ground (bare b)
-    ground = ground-of b (granted .accepted .tables)
+    pub ready : Ready (bare b) (l .words) (l .area)
+    ready =
+        let w : 3 * turfCount b ≤ wordsRoom b = unfold wordsRoom in omega arith in
+        record {
+          ground = bare-ground b (ground-of b (granted .accepted .tables));
+          ascend = granted .accepted .tables .ascend;
+          words = omega (arith, w, granted .words);
+          room = granted .area;
+        }
 
-    pub words-room : 3 * turfCount b ≤ length (l .words)
-    words-room = let w : 3 * turfCount b ≤ wordsRoom b = unfold wordsRoom in omega arith in omega (arith, w, granted .words)
+    -- what `clear_scratch` asks
+    pub roomy : (w₁ : List ℕ) → length w₁ ≡ length (l .words) → Roomy (bare b) w₁ (l .floats)
+    roomy w₁ e = let s = scratch-of b l (planetRoom b) granted in record { small = s .small; words = rw e (s .words); floats = s .floats }
 
     module _ (bytes : ℕ) (e′ : List ℕ) (wr : Wrote (encodeAll (planetWalk (bare b) limit id)) 0 bytes (l .area) e′) where
       wrote : Wrote (encodeAll (planetWalk b limit id)) 0 bytes (l .area) e′
@@ -87,7 +91,7 @@ module _ (b : Board) (limit id : ℕ) (l : Lent) (x : Extra) (number : ℕ) (q :
       few = omega (arith, wrote .end, planet-room b (passed b l (planetRoom b) noExtra (sym number-is ∙ z) .board) limit id, granted .accepted .tables .sizes .small .turfs)
 
       pub answered : (w₁ : List ℕ) → region (sizes (turfCount b)) 3 w₁ ≡ region (sizes (turfCount b)) 3 (l .words) → (w′ : List ℕ) (f′ : List Float)
-          → w′ ≡ cleared 0 (wordsRoom (counted (b .ids) (b .neighbours) (b .immutable))) w₁ → f′ ≡ cleared 0f (floatsRoom (counted (b .ids) (b .neighbours) [])) (l .floats)
+          → w′ ≡ cleared 0 (wordsRoom (bare b)) w₁ → f′ ≡ cleared 0f (floatsRoom (bare b)) (l .floats)
           → record { answer = record { number = 0; bytes = bytes }; lent = lent (l .gas) e′ w′ f′ } ≡ planetResult b limit id l
       unfolding planetResult planetNumber planetDone after wordsRoom floatsRoom
       answered w₁ same w′ f′ c d =

@@ -1,5 +1,5 @@
 -- The planet walk visits each turf once at most and ends by itself; 12N event bytes are room enough for it, a firelock for each turf but the first. Assumes nothing.
-use mathlib.Core.Path.{_≡_, refl}
+use mathlib.Core.Path.{_≡_}
 use mathlib.Core.Bool.{true, false, not, _||_}
 use Prim.Native.Nat.{ℕ, _+_, _*_, _≤_, _<_}
 use native.Mathlib.Nat.{le-trans}
@@ -22,8 +22,8 @@ use Rattle.walk_rules.specs.Visit.{visitPlanet}
 use Rattle.walk_rules.specs.declared.Kind.the-variants.{Planet}
 use Rattle.walks.proofs.Walks.{going, spreads, walk-keeps, walk-rests}
 use Rattle.walks.proofs.Visits.{visit-walked as visit-place}
-use Rattle.planet_walk.specs.Planet.{planetFrom, planetWalk, planetRoom, planetNumber}
-use Rattle.planet_walk.specs.Worked as worked  -- checked before the laws
+use Rattle.planet_rules.specs.Planet.{planetFrom, planetWalk, planetRoom, planetNumber}
+use Rattle.planet_rules.specs.Worked as worked  -- checked before the laws
 
 module _ (b : Board) {n : ℕ} (h : Accepted b n) (limit : ℕ) where
   -- a firelock a turf, but none for the first

@@ -1,2 +1,1 @@
-pub mod Planet
-pub mod Worked
+pub mod Ready

@@ -17,8 +17,8 @@ use Rattle.equalize.specs.Result.{equalizeResult}
 use Rattle.equalize.specs.declared.EqualizeAnswer.{EqualizeAnswer}
 use Rattle.depressurize_rules.specs.Depressurize.{depressurizeResult}
 use Rattle.depressurize_rules.specs.declared.DepressurizeAnswer.{DepressurizeAnswer}
-use Rattle.planet_walk.specs.Planet.{planetResult}
-use Rattle.planet_walk.specs.declared.PlanetAnswer.{PlanetAnswer}
+use Rattle.planet_rules.specs.Planet.{planetResult}
+use Rattle.planet_rules.specs.declared.PlanetAnswer.{PlanetAnswer}
 use Rattle.katmos.specs.Answers.{Answers}
 
 -- an equation with one result allows one outcome

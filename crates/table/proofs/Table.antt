@@ -22,8 +22,8 @@ use Rattle.equalize.specs.Result.{equalizeNumber, equalizeDone, equalizeResult}
 use Rattle.equalize.specs.Worked.{numbers, equalizes, refused}
 use Rattle.walk_rules.specs.Walk.{walkLink, spread, walkNext, walk}
 use Rattle.walk_rules.specs.Visit.{visitPlanet, atSpace, visitSpace}
-use Rattle.planet_walk.specs.Planet.{planetFrom, planetWalk, planetNumber, planetDone, planetResult}
-use Rattle.planet_walk.specs.Worked.{walksPlanet}
+use Rattle.planet_rules.specs.Planet.{planetFrom, planetWalk, planetNumber, planetDone, planetResult}
+use Rattle.planet_rules.specs.Worked.{walksPlanet}
 use Rattle.out_rules.specs.Out.{outTo, outLink, outRow, outNext, outward}
 use Rattle.back_rules.specs.Back.{backTo, back}
 use Rattle.depressurize_rules.specs.Depressurize.{wayBack, fromWalk, fromRow, depressurize, depressurizeNumber, depressurizeDone, depressurizeResult}

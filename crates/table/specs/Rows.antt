@@ -18,8 +18,8 @@ use Rattle.lent_rules.specs.Worked.{lend, lessArea, lessWords, lessFloats}
 use Rattle.equalize.specs.Equalize.{Ask, fillAll, planAll}
 use Rattle.equalize.specs.Result.{equalizeRoom}
 use Rattle.equalize.specs.Worked.{ask, limited, allowed, threshold, done, cancelled, equalizes, refused}
-use Rattle.planet_walk.specs.Planet.{planetRoom}
-use Rattle.planet_walk.specs.Worked.{walksPlanet}
+use Rattle.planet_rules.specs.Planet.{planetRoom}
+use Rattle.planet_rules.specs.Worked.{walksPlanet}
 use Rattle.depressurize_rules.specs.Depressurize.{depressurizeRoom}
 use Rattle.depressurize_rules.specs.Worked.{depressurizes}
 use Rattle.back_rules.specs.Worked.{difference}

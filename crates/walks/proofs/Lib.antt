@@ -1,6 +1,6 @@
 pub mod Walks
 pub mod Does
 pub mod Links
-pub mod LinkParts
+pub mod LinksOf
 pub mod Visits
 pub mod Whole

@@ -1,14 +1,14 @@
 -- One link of a turf: a row that is new is put at the queue's end and given its place, and the rest of the scratch stands. Assumes nothing.
-use Prim.Native.Nat.{ℕ, _+_, _*_, _≤_, _<_}
+use Prim.Native.Nat.{ℕ, _+_, _≤_, _<_}
 use native.Mathlib.Omega.{arith}
 use mathlib.Core.Path.{_≡_, refl, ap, _∙_, sym, subst}
 use mathlib.Core.List.{List, [], _∷_, _++_, append-nil}
-use mathlib.Core.Bool.{Bool, true, false, not, cond}
+use mathlib.Core.Bool.{true, false}
 use lib.ListN.{length, getD, take, set, length-set}
 use Rattle.basics.specs.Loops.{member, snoc}
-use Rattle.basics.specs.Regions.{cut, region, base}
+use Rattle.basics.specs.Regions.{cut, region}
 use Rattle.basics.proofs.Regions.{cut-set}
-use Rattle.board_rules.specs.Board.{Board, lockBit, firelock}
+use Rattle.board_rules.specs.Board.{Board, turfCount, idOf, end, lockBit, firelock}
 use Rattle.event_rules.specs.Events.{encode, encodeAll, kindOf, sizeOf}
 use Rattle.events.specs.Area.{Wrote}
 use Rattle.event_rules.specs.declared.Event.{Event}
@@ -16,10 +16,10 @@ use Rattle.event_rules.specs.declared.Event.the-variants.{Firelock}
 use Rattle.events.proofs.Areas.{wrote-length}
 use Rattle.events.proofs.Sizes.{encode-size}
 use Rattle.index_set.specs.Line.{array, Line}
-use Rattle.index_set.proofs.Queue.{Below-at, count-below, take-more, line-more}
+use Rattle.index_set.proofs.Queue.{count-below, take-more, line-more}
 use Rattle.walk_rules.specs.Walk.{Walk, walkLink}
 use Rattle.walks.specs.Does.{Does}
-use Rattle.walks.specs.Reached.{State, at, sizes, walkIn, walkOf, Rest, Fit, walking, links, Near}
+use Rattle.walks.specs.Reached.{State, at, sizes, walkIn, walkOf, Rest, Fit, walking}
 use Rattle.walks.specs.declared.Reach.{Reach}
 use Rattle.walks.proofs.Does.{does-none, none-wrote, one-wrote, Going}
 
@@ -42,68 +42,77 @@ lock-size i j = encode-size (Firelock i j) ∙ unfold sizeOf kindOf in refl
 abbrev pub joined : Reach → ℕ → Reach
 joined s used = record { count = s .count + 1; walked = s .walked; spaces = s .spaces; planet = s .planet; ended = s .ended; used = used }
 
-module _ (ids near locks : List ℕ) (row i : ℕ) (s : Reach) (w e : List ℕ) (h : Fit (length ids) (at s w e)) (m : Near (length ids) near locks row) (k : i < length near) where
+-- the same of the walk, with these events
+abbrev pub joins : ℕ → List Event → Walk → Walk
+joins a es v = record { queue = snoc (v .queue) a; walked = v .walked; space = v .space; planet = v .planet; ended = v .ended; events = v .events ++ es }
+
+-- the words once the row a has joined n turfs' queue
+abbrev pub stored : ℕ → ℕ → Reach → List ℕ → List ℕ
+stored n a s w = set (set w (0 + s .count) a) (n + a) (s .count)
+
+-- the row a, which is new, joins
+module _ (n a : ℕ) (s : Reach) (w e : List ℕ) (h : Fit n (at s w e)) (below : a < n) (new : false ≡ member a (take (s .count) (array n 0 w))) where
+  pub count-less : s .count < n
+  count-less = count-below (h .line) a below (sym new)
+
+  pub lock-room : s .used + 12 ≤ length e
+  lock-room = omega (arith, count-less, h .written, h .bytes)
+
+  stores : cut (sizes n) (stored n a s w) ≡ set (set (cut (sizes n) w) 0 (set (region (sizes n) 0 w) (s .count) a)) 1 (set (region (sizes n) 1 w) a (s .count))
+  stores =
+      cut-set (sizes n) (set w (0 + s .count) a) 1 a (s .count) (n + a) (omega arith) below (omega arith)
+      ∙ ap (λ rs. set rs 1 (set (getD rs 1 []) a (s .count))) (cut-set (sizes n) w 0 (s .count) a (0 + s .count) (omega arith) count-less (omega arith))
+
+  module _ (g : Reach) (w′ e′ : List ℕ) (used : ℕ) (grown : g ≡ joined s used) (put : w′ ≡ stored n a s w) where
+    joins-view : (es fs : List Event) → walkOf n (at g w′ e′) (es ++ fs) ≡ joins a fs (walkOf n (at s w e) es)
+    unfolding walkOf
+    joins-view es fs = rw (grown, put) (ap (λ (rs : List (List ℕ)). walkIn rs (joined s used) (es ++ fs)) stores ∙ rw (take-more (h .line) a below (sym new)))
+
+    -- a step that joins the row does so
+    pub does-join : (f : Walk → Walk) (fs : List Event) → Wrote (encodeAll fs) (s .used) used e e′ → used ≤ s .used + 12
+        → ((es : List Event) → joins a fs (walkOf n (at s w e) es) ≡ f (walkOf n (at s w e) es)) → Does (walking n) f (at s w e) (at g w′ e′)
+    does-join f fs wr u is = record {
+      fit = record {
+        small = h .small;
+        words = rw (put, length-set, length-set) (h .words);
+        bytes = rw (grown, wrote-length wr) (h .bytes);
+        written = rw grown (omega (arith, h .written));
+        few = rw grown (h .few);
+        past = rw grown (omega (arith, h .past));
+        line = rw (grown, put) (subst (λ (rs : List (List ℕ)). Line n (s .count + 1) (getD rs 0 []) (getD rs 1 [])) (sym stores) (line-more (h .line) a below (sym new)));
+      };
+      kept = rw (put, length-set, length-set) (ap (λ (rs : List (List ℕ)). record { words = length w; beyond = getD rs 3 [] }) stores);
+      new = fs;
+      wrote = rw grown wr;
+      same = λ es. joins-view es fs ∙ is es;
+    }
+
+  -- nothing is written
+  pub join-open : (f : Walk → Walk) (g : Reach) (w′ : List ℕ) → g ≡ joined s (s .used) → w′ ≡ stored n a s w
+      → ((es : List Event) → joins a [] (walkOf n (at s w e) es) ≡ f (walkOf n (at s w e) es)) → Does (walking n) f (at s w e) (at g w′ e)
+  join-open f g w′ gr put is = does-join g w′ e (s .used) gr put f [] (none-wrote (s .used) e (written-room n (at s w e) h)) (omega arith) is
+
+module _ (b : Board) (row k : ℕ) (s : Reach) (w e : List ℕ) (h : Fit (turfCount b) (at s w e)) where
   abbrev n : ℕ
-  n = length ids
+  n = turfCount b
 
   abbrev a : ℕ
-  a = getD near i 0
+  a = end b k
 
-  pub row-below : a < n
-  row-below = Below-at n near i (m .below) k
-
-  pub link-old : true ≡ member a (take (s .count) (array n 0 w)) → Does (walking n) (walkLink (links ids near locks) row i) (at s w e) (at s w e)
+  pub link-old : true ≡ member a (take (s .count) (array n 0 w)) → Does (walking n) (walkLink b row k) (at s w e) (at s w e)
   unfolding walkOf walkLink
-  link-old t = does-none (walking n) (walkLink (links ids near locks) row i) h (written-room n (at s w e) h) (λ es. rw (← t))
+  link-old t = does-none (walking n) (walkLink b row k) h (written-room n (at s w e) h) (λ es. rw (← t))
 
-  module _ (new : false ≡ member a (take (s .count) (array n 0 w))) where
-    pub count-less : s .count < n
-    count-less = count-below (h .line) a row-below (sym new)
+  module _ (below : a < n) (new : false ≡ member a (take (s .count) (array n 0 w))) where
+    pub link-open : false ≡ lockBit (getD (b .linkFlags) k 0) → (g : Reach) (w′ : List ℕ) → g ≡ joined s (s .used) → w′ ≡ stored n a s w
+        → Does (walking n) (walkLink b row k) (at s w e) (at g w′ e)
+    unfolding walkOf walkLink firelock
+    link-open l g w′ gr put = join-open n a s w e h below new (walkLink b row k) g w′ gr put (λ es. rw (← new, ← l, append-nil es))
 
-    pub lock-room : s .used + 12 ≤ length e
-    lock-room = omega (arith, count-less, h .written, h .bytes)
-
-    abbrev stored : List ℕ
-    stored = set (set w (0 + s .count) a) (n + a) (s .count)
-
-    stores : cut (sizes n) stored ≡ set (set (cut (sizes n) w) 0 (set (region (sizes n) 0 w) (s .count) a)) 1 (set (region (sizes n) 1 w) a (s .count))
-    stores =
-        cut-set (sizes n) (set w (0 + s .count) a) 1 a (s .count) (n + a) (omega arith) row-below (omega arith)
-        ∙ ap (λ rs. set rs 1 (set (getD rs 1 []) a (s .count))) (cut-set (sizes n) w 0 (s .count) a (0 + s .count) (omega arith) count-less (omega arith))
-
-    module _ (lock : Bool) (l : lockBit (getD locks i 0) ≡ lock) (g : Reach) (w′ e′ : List ℕ) (used : ℕ) (grown : g ≡ joined s used) (put : w′ ≡ stored) where
-      joins : (es fs : List Event) → fs ≡ cond lock (snoc es (Firelock (getD ids row 0) (getD ids a 0))) es
-          → walkOf n (at g w′ e′) fs ≡ walkLink (links ids near locks) row i (walkOf n (at s w e) es)
-      unfolding walkOf walkLink firelock
-      joins es fs f = rw (grown, put, f) (ap (λ (rs : List (List ℕ)). walkIn rs (joined s used) (cond lock (snoc es (Firelock (getD ids row 0) (getD ids a 0))) es)) stores ∙ rw (← new, l, take-more (h .line) a row-below (sym new)))
-
-      pub does-new : (new : List Event) → Wrote (encodeAll new) (s .used) used e e′ → used ≤ s .used + 12
-          → ((es : List Event) → es ++ new ≡ cond lock (snoc es (Firelock (getD ids row 0) (getD ids a 0))) es)
-          → Does (walking n) (walkLink (links ids near locks) row i) (at s w e) (at g w′ e′)
-      does-new fs wr u f = record {
-        fit = record {
-          small = h .small;
-          words = rw (put, length-set, length-set) (h .words);
-          bytes = rw (grown, wrote-length wr) (h .bytes);
-          written = rw grown (omega (arith, h .written));
-          few = rw grown (h .few);
-          past = rw grown (omega (arith, h .past));
-          line = rw (grown, put) (subst (λ (rs : List (List ℕ)). Line n (s .count + 1) (getD rs 0 []) (getD rs 1 [])) (sym stores) (line-more (h .line) a row-below (sym new)));
-        };
-        kept = rw (put, length-set, length-set) (ap (λ (rs : List (List ℕ)). record { words = length w; beyond = getD rs 3 [] }) stores);
-        new = fs;
-        wrote = rw grown wr;
-        same = λ es. joins es (es ++ fs) (f es);
-      }
-
-    pub link-open : false ≡ lockBit (getD locks i 0) → (g : Reach) (w′ : List ℕ) → g ≡ joined s (s .used) → w′ ≡ stored
-        → Does (walking n) (walkLink (links ids near locks) row i) (at s w e) (at g w′ e)
-    link-open l g w′ gr put =
-        does-new false (sym l) g w′ e (s .used) gr put [] (none-wrote (s .used) e (written-room n (at s w e) h)) (omega arith) (λ es. append-nil es)
-
-    pub link-locked : true ≡ lockBit (getD locks i 0) → (g : Reach) (w′ e′ : List ℕ) (used : ℕ) → g ≡ joined s used → w′ ≡ stored
-        → Wrote (encode (Firelock (getD ids row 0) (getD ids a 0))) (s .used) used e e′
-        → Does (walking n) (walkLink (links ids near locks) row i) (at s w e) (at g w′ e′)
+    pub link-locked : true ≡ lockBit (getD (b .linkFlags) k 0) → (g : Reach) (w′ e′ : List ℕ) (used : ℕ) → g ≡ joined s used → w′ ≡ stored n a s w
+        → Wrote (encode (Firelock (idOf b row) (idOf b a))) (s .used) used e e′
+        → Does (walking n) (walkLink b row k) (at s w e) (at g w′ e′)
+    unfolding walkOf walkLink firelock
     link-locked l g w′ e′ used gr put wr =
-        let f : Event = Firelock (getD ids row 0) (getD ids a 0) in
-        does-new true (sym l) g w′ e′ used gr put (f ∷ []) (one-wrote f wr) (omega (arith, wr .end, lock-size (getD ids row 0) (getD ids a 0))) (λ es. refl)
+        let f : Event = Firelock (idOf b row) (idOf b a) in
+        does-join n a s w e h below new g w′ e′ used gr put (walkLink b row k) (f ∷ []) (one-wrote f wr) (omega (arith, wr .end, lock-size (idOf b row) (idOf b a))) (λ es. rw (← new, ← l))

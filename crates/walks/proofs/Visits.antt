@@ -3,16 +3,16 @@ use Prim.Native.Nat.{ℕ, _+_, _*_, _≤_, _<_}
 use native.Mathlib.Omega.{arith}
 use native.Mathlib.Numerals.{add-one}
 use mathlib.Core.Path.{_≡_, refl, ap, _∙_, sym, subst}
-use mathlib.Core.List.{List, [], _∷_, _++_, append-nil}
+use mathlib.Core.List.{List, [], _∷_, append-nil}
 use mathlib.Core.Bool.{Bool, true, false, not, _||_, cond}
 use lib.ListN.{length, getD, take, set, length-set}
 use lib.Seq.{take-suc-set}
 use borrow.Author.Tests.{eq-eqb, ne-eqb}
 use Rattle.basics.specs.Loops.{snoc}
-use Rattle.basics.specs.Regions.{cut, region, base}
+use Rattle.basics.specs.Regions.{cut, region}
 use Rattle.basics.proofs.Loops.{cond-both}
 use Rattle.basics.proofs.Regions.{cut-set, cut-length}
-use Rattle.board_rules.specs.Board.{Board, turfCount, idOf, planetary, immutable, enabled, firelock, linksOf}
+use Rattle.board_rules.specs.Board.{Board, turfCount, idOf, planetary, immutable}
 use Rattle.event_rules.specs.Events.{encode, kindOf, sizeOf}
 use Rattle.events.specs.Area.{Wrote}
 use Rattle.event_rules.specs.declared.Event.{Event}
@@ -20,10 +20,10 @@ use Rattle.event_rules.specs.declared.Event.the-variants.{Target}
 use Rattle.events.proofs.Areas.{wrote-length}
 use Rattle.events.proofs.Sizes.{encode-size}
 use Rattle.index_set.specs.Line.{Line}
-use Rattle.walk_rules.specs.Walk.{Walk, mark, walkLink, spread}
+use Rattle.walk_rules.specs.Walk.{Walk, mark, spread}
 use Rattle.walk_rules.specs.Visit.{visitPlanet, atSpace, visitSpace, visit}
 use Rattle.walks.specs.Does.{Does}
-use Rattle.walks.specs.Reached.{State, at, sizes, walkIn, walkOf, Rest, Fit, walking, links, grid, Linked, Visits}
+use Rattle.walks.specs.Reached.{State, at, sizes, walkIn, walkOf, Fit, walking, Visits}
 use Rattle.walk_rules.specs.declared.Kind.{Kind}
 use Rattle.walk_rules.specs.declared.Kind.the-variants.{Planet, Space}
 use Rattle.walks.specs.declared.Reach.{Reach}
@@ -58,9 +58,9 @@ module _ (n : ℕ) (s : Reach) (w e : List ℕ) (h : Fit n (at s w e)) (planet e
 
 -- ---- the space list
 
-module _ (ids : List ℕ) (row : ℕ) (s : Reach) (w e : List ℕ) (h : Fit (length ids) (at s w e)) (v : Visits Space (links ids [] []) row (at s w e)) where
+module _ (b : Board) (row : ℕ) (s : Reach) (w e : List ℕ) (h : Fit (turfCount b) (at s w e)) (v : Visits Space b (at s w e)) where
   abbrev n : ℕ
-  n = length ids
+  n = turfCount b
 
   pub spaces-less : s .spaces < n
   spaces-less = omega (arith, v .counted, h .past, h .line .few)
@@ -77,20 +77,20 @@ module _ (ids : List ℕ) (row : ℕ) (s : Reach) (w e : List ℕ) (h : Fit (len
   pub target-room : s .used + 12 ≤ length e
   target-room = omega (arith, h .written, h .past, h .line .few, v .counted, v .room)
 
-  module _ (g : Reach) (e′ : List ℕ) (used : ℕ) (grown : g ≡ opened s used) (wr : Wrote (encode (Target (getD ids row 0) (getD ids row 0))) (s .used) used e e′) where
-    opens : (es : List Event) → walkOf n (at g stored e′) (snoc es (Target (getD ids row 0) (getD ids row 0))) ≡ atSpace (links ids [] []) row (walkOf n (at s w e) es)
+  module _ (g : Reach) (e′ : List ℕ) (used : ℕ) (grown : g ≡ opened s used) (wr : Wrote (encode (Target (idOf b row) (idOf b row))) (s .used) used e e′) where
+    opens : (es : List Event) → walkOf n (at g stored e′) (snoc es (Target (idOf b row) (idOf b row))) ≡ atSpace b row (walkOf n (at s w e) es)
     unfolding walkOf atSpace
-    opens es = rw grown (ap (λ (rs : List (List ℕ)). walkIn rs (opened s used) (snoc es (Target (getD ids row 0) (getD ids row 0)))) store ∙ rw more)
+    opens es = rw grown (ap (λ (rs : List (List ℕ)). walkIn rs (opened s used) (snoc es (Target (idOf b row) (idOf b row)))) store ∙ rw more)
 
-    pub does-open : Does (walking n) (atSpace (links ids [] []) row) (at s w e) (at g stored e′)
+    pub does-open : Does (walking n) (atSpace b row) (at s w e) (at g stored e′)
     does-open =
-        let t : Event = Target (getD ids row 0) (getD ids row 0) in
+        let t : Event = Target (idOf b row) (idOf b row) in
         record {
           fit = record {
             small = h .small;
             words = rw length-set (h .words);
             bytes = rw (grown, wrote-length wr) (omega (arith, v .room, spaces-less));
-            written = rw grown (omega (arith, h .written, wr .end, target-size (getD ids row 0) (getD ids row 0)));
+            written = rw grown (omega (arith, h .written, wr .end, target-size (idOf b row) (idOf b row)));
             few = rw grown (omega (arith, v .counted));
             past = rw grown (h .past);
             line = rw grown (subst (λ (rs : List (List ℕ)). Line n (s .count) (getD rs 0 []) (getD rs 1 [])) (sym store) (h .line));
@@ -113,33 +113,26 @@ module _ (b : Board) (row : ℕ) where
   not-planetary h = sym (ap not (eq-eqb (getD (b .planetary) row 0) 0 h))
 
 module _ (b : Board) (limit row : ℕ) where
-  abbrev ground : Board
-  ground = grid (b .ids) (b .flags) (b .starts) (b .neighbours) (b .linkFlags)
-
-  ground-spread : (v : Walk) → spread ground limit row v ≡ spread b limit row v
-  unfolding spread walkLink enabled firelock linksOf
-  ground-spread v = refl
-
   module _ (n : ℕ) (s : Reach) (w e : List ℕ) (h : Fit n (at s w e)) where
     module _ (planet : Bool) (m : planet ≡ s .planet || planetary b row) (g : Reach) where
       pub planet-still : true ≡ immutable b row → g ≡ marked s planet true → Does (walking n) (visitPlanet b limit row) (at s w e) (at g w e)
       planet-still i k = does-as (walking n) (marks n s w e h planet true g k) (λ es. unfold visitPlanet walkOf in rw (← i, m))
 
-      pub planet-on : false ≡ immutable b row → g ≡ marked s planet (not planet) → {a : State} → Does (walking n) (spread ground limit row) (at g w e) a
+      pub planet-on : false ≡ immutable b row → g ≡ marked s planet (not planet) → {a : State} → Does (walking n) (spread b limit row) (at g w e) a
           → Does (walking n) (visitPlanet b limit row) (at s w e) a
       planet-on i k d =
-          does-as (walking n) (does-then (walking n) (spread ground limit row) (marks n s w e h planet (not planet) g k) d)
-          (λ es. ground-spread _ ∙ (unfold visitPlanet walkOf in rw (← i, m)))
+          does-as (walking n) (does-then (walking n) (spread b limit row) (marks n s w e h planet (not planet) g k) d)
+          (λ es. unfold visitPlanet walkOf in rw (← i, m))
 
     pub space-planet : true ≡ planetary b row → (g : Reach) → g ≡ marked s true true → Does (walking n) (visitSpace b limit row) (at s w e) (at g w e)
     space-planet p g k = does-as (walking n) (marks n s w e h true true g k) (λ es. unfold visitSpace in rw (← p))
 
     module _ (p : false ≡ planetary b row) where
-      pub space-open : true ≡ immutable b row → {a : State} → Does (walking n) (atSpace (links (b .ids) [] []) row) (at s w e) a → Does (walking n) (visitSpace b limit row) (at s w e) a
-      space-open i d = does-as (walking n) d (λ es. unfold visitSpace atSpace in rw (← p, ← i))
+      pub space-open : true ≡ immutable b row → {a : State} → Does (walking n) (atSpace b row) (at s w e) a → Does (walking n) (visitSpace b limit row) (at s w e) a
+      space-open i d = does-as (walking n) d (λ es. unfold visitSpace in rw (← p, ← i))
 
-      pub space-on : false ≡ immutable b row → {a : State} → Does (walking n) (spread ground limit row) (at s w e) a → Does (walking n) (visitSpace b limit row) (at s w e) a
-      space-on i d = does-as (walking n) d (λ es. ground-spread _ ∙ (unfold visitSpace in rw (← p, ← i)))
+      pub space-on : false ≡ immutable b row → {a : State} → Does (walking n) (spread b limit row) (at s w e) a → Does (walking n) (visitSpace b limit row) (at s w e) a
+      space-on i d = does-as (walking n) d (λ es. unfold visitSpace in rw (← p, ← i))
 
   -- ---- a visit counts no place on
 

@@ -2,32 +2,32 @@
 use Prim.Native.Nat.{ℕ, suc, _+_, _-_, _*_, _≤_, _<_}
 use native.Mathlib.Omega.{arith}
 use native.Mathlib.Nat.{not-suc-le-zero, sub-zero}
-use mathlib.Core.Path.{_≡_, refl, ap, _∙_, sym, subst}
-use mathlib.Core.List.{List, [], _∷_, _++_}
+use mathlib.Core.Path.{_≡_, refl, ap, _∙_, sym}
+use mathlib.Core.List.{List, []}
 use mathlib.Core.Bool.{Bool, true, false, not, _&&_}
 use lib.Dec.{ltb}
-use lib.ListN.{length, getD, take, set}
+use lib.ListN.{length, getD, take}
 use lib.Seq.{length-take-le, getD-take}
 use borrow.Author.Tests.{ltb-true}
 use Rattle.basics.specs.Loops.{times, member}
-use Rattle.basics.specs.Regions.{cut, region}
+use Rattle.basics.specs.Regions.{region}
 use Rattle.basics.proofs.Loops.{times-still}
 use Rattle.basics.proofs.Regions.{cut-length}
 use Rattle.basics.proofs.Tests.{both}
-use Rattle.board_rules.specs.Board.{Board, turfCount, lockBit, enabled, planetary, immutable, firelock, linksOf}
+use Rattle.board_rules.specs.Board.{Board, turfCount, enabled, planetary, immutable, firelock, linksOf}
 use Rattle.turfs.specs.Tables.{board, Tables}
 use Rattle.event_rules.specs.declared.Event.{Event}
-use Rattle.index_set.specs.Line.{Below, Apart, Line}
+use Rattle.index_set.specs.Line.{Below, Apart}
 use Rattle.index_set.proofs.Queue.{Below-at}
 use Rattle.walk_rules.specs.Walk.{Walk, count, walkLink, spread, walkNext, walk}
 use Rattle.walk_rules.specs.Visit.{visitPlanet, atSpace, visitSpace, visit}
 use Rattle.walks.specs.Does.{Does}
-use Rattle.walks.specs.Reached.{State, at, sizes, walkOf, Rest, Fit, walking, links, Near, Ground, perTurf, Visits, visitNext, Walked}
+use Rattle.walks.specs.Reached.{State, at, sizes, walkOf, Rest, Fit, walking, Ground, Stands, perTurf, Visits, Queued, visitNext, Starts, Walked}
 use Rattle.walk_rules.specs.declared.Kind.{Kind}
 use Rattle.walk_rules.specs.declared.Kind.the-variants.{Planet, Space}
 use Rattle.walks.specs.declared.Reach.{Reach}
 use Rattle.walks.proofs.Does.{does-then}
-use Rattle.walks.proofs.Links.{joined, link-open}
+use Rattle.walks.proofs.Links.{joins, stored, join-open}
 use Rattle.walks.proofs.Walks.{startWalk, going, still, visited}
 use Rattle.walks.proofs.Visits.{visit-walked}
 
@@ -54,13 +54,6 @@ module _ (n : ℕ) (s : Reach) (w e : List ℕ) (h : Fit n (at s w e)) where
     pub counted-fit : (t : Reach) → t ≡ counted s → Fit n (at t w e)
     counted-fit t q = rw q (record { small = h .small; words = h .words; bytes = h .bytes; written = h .written; few = omega (arith, h .few); past = omega arith; line = h .line })
 
-    pub next-visits : (b : Board) (kind like : Kind) → kind ≡ like → turfCount b ≡ n → perTurf kind * n ≤ length e → (t : Reach) → t ≡ counted s → Visits like b (getD w (s .walked) 0) (at t w e)
-    next-visits b kind like q c room t g = rw g (record {
-      inside = rw c next-row;
-      counted = omega (arith, h .few);
-      room = rw (c, ← q) room;
-    })
-
     -- a visit of the next turf
     pub next-does : (b : Board) (kind like : Kind) (limit : ℕ) → kind ≡ like → (t : Reach) → t ≡ counted s → {a : State} → Does (walking n) (visit b like limit (getD w (s .walked) 0)) (at t w e) a
         → Does (walking n) (visitNext b kind limit) (at s w e) a
@@ -74,6 +67,18 @@ module _ (n : ℕ) (s : Reach) (w e : List ℕ) (h : Fit n (at s w e)) where
       where
         view : (es : List Event) → visit b like limit (getD w (s .walked) 0) (walkOf n (at t w e) es) ≡ visitNext b kind limit (walkOf n (at s w e) es)
         view es = unfold walkOf in rw (g, q, queue-at)
+
+-- the next turf is visited
+module _ (kind : Kind) (b : Board) (s : Reach) (w e : List ℕ) (h : Queued kind b (at s w e)) (k : s .walked < s .count) (t : Reach) (g : t ≡ counted s) where
+  pub next-stands : Stands b (getD w (s .walked) 0) (at t w e)
+  next-stands = record {
+    ground = h .ground;
+    fit = counted-fit (turfCount b) s w e (h .fit) k t g;
+    inside = next-row (turfCount b) s w e (h .fit) k;
+  }
+
+  pub next-visits : (like : Kind) → kind ≡ like → Visits like b (at t w e)
+  next-visits like q = rw g (record { counted = omega (arith, h .fit .few); room = rw (← q) (h .room) })
 
 pub on-less : (s : Reach) (on : Bool) → on ≡ true → on ≡ (not (s .ended) && ltb (s .walked) (s .count)) → s .walked < s .count
 on-less s on t e = ltb-true (s .walked) (s .count) (both (not (s .ended)) (ltb (s .walked) (s .count)) (sym e ∙ t) .1)
@@ -106,7 +111,7 @@ module _ (b : Board) (kind : Kind) (limit n : ℕ) where
 -- ---- the first turf
 
 -- a firelock's record for each turf has room in either walk
-pub per-turf : (kind : Kind) (n m : ℕ) → perTurf kind * n ≤ m → 12 * n ≤ m
+per-turf : (kind : Kind) (n m : ℕ) → perTurf kind * n ≤ m → 12 * n ≤ m
 per-turf Planet n m h = h
 per-turf Space n m h = omega arith
 
@@ -116,43 +121,44 @@ none = record { count = 0; walked = 0; spaces = 0; planet = false; ended = false
 abbrev pub one : Reach
 one = record { count = 1; walked = 0; spaces = 0; planet = false; ended = false; used = 0 }
 
-module _ (b : Board) (row : ℕ) (w e : List ℕ) (small : turfCount b ≤ 4096) (r : row < turfCount b) (room : 12 * turfCount b ≤ length e) (long : 3 * turfCount b ≤ length w) where
+module _ (kind : Kind) (b : Board) (row : ℕ) (w e : List ℕ) (h : Starts kind b row w e) where
   abbrev n : ℕ
   n = turfCount b
 
   none-fit : Fit n (at none w e)
   unfolding Below Apart
-  none-fit = record {
-    small = small;
-    words = omega arith;
-    bytes = omega arith;
-    written = omega arith;
-    few = omega arith;
-    past = omega arith;
-    line = record {
-      queue-n = cut-length (sizes n) w 0 (omega arith) (omega arith);
-      places-n = cut-length (sizes n) w 1 (omega arith) (omega arith);
-      few = omega arith;
-      rows = tt;
-      apart = tt;
-      placed = λ i h. absurd (not-suc-le-zero h);
-    };
-  }
+  none-fit =
+      let room : 12 * n ≤ length e = per-turf kind n (length e) (h .room) in
+      record {
+        small = h .ground .small .turfs;
+        words = omega (arith, h .words);
+        bytes = omega arith;
+        written = omega arith;
+        few = omega arith;
+        past = omega arith;
+        line = record {
+          queue-n = cut-length (sizes n) w 0 (omega arith) (omega (arith, h .words));
+          places-n = cut-length (sizes n) w 1 (omega arith) (omega (arith, h .words));
+          few = omega arith;
+          rows = tt;
+          apart = tt;
+          placed = λ i h. absurd (not-suc-le-zero h);
+        };
+      }
 
-  alone : Near n (row ∷ []) (0 ∷ []) row
-  unfolding Below
-  alone = record { inside = r; both = refl; below = (r, tt) }
+  module _ (w₁ : List ℕ) (put : w₁ ≡ stored n row none w) where
+    begun : Does (walking n) (joins row []) (at none w e) (at one w₁ e)
+    begun = join-open n row none w e none-fit (h .inside) (unfold member in refl) (joins row []) one w₁ refl put (λ es. refl)
 
-  module _ (w₁ : List ℕ) (put : w₁ ≡ set (set w (0 + 0) row) (n + row) 0) where
-    pub begun : Does (walking n) (walkLink (links (b .ids) (row ∷ []) (0 ∷ [])) row 0) (at none w e) (at one w₁ e)
-    begun = link-open (b .ids) (row ∷ []) (0 ∷ []) row 0 none w e none-fit alone (omega arith) (unfold member in refl) refl one w₁ refl put
+    pub begun-queued : Queued kind b (at one w₁ e)
+    begun-queued = record { ground = h .ground; fit = begun .fit; room = h .room }
 
-    module _ (kind : Kind) (limit : ℕ) (g : Reach) (w₂ e₂ : List ℕ) (d : Does (walking n) (times (walkNext b (visit b kind limit)) n) (at one w₁ e) (at g w₂ e₂)) where
-      all : Does (walking n) (λ v. times (walkNext b (visit b kind limit)) n (walkLink (links (b .ids) (row ∷ []) (0 ∷ [])) row 0 v)) (at none w e) (at g w₂ e₂)
+    module _ (limit : ℕ) (g : Reach) (w₂ e₂ : List ℕ) (d : Does (walking n) (times (walkNext b (visit b kind limit)) n) (at one w₁ e) (at g w₂ e₂)) where
+      all : Does (walking n) (λ v. times (walkNext b (visit b kind limit)) n (joins row [] v)) (at none w e) (at g w₂ e₂)
       all = does-then (walking n) (times (walkNext b (visit b kind limit)) n) begun d
 
-      start : walkLink (links (b .ids) (row ∷ []) (0 ∷ [])) row 0 (walkOf n (at none w e) []) ≡ startWalk row
-      unfolding walkLink walkOf member firelock
+      start : joins row [] (walkOf n (at none w e) []) ≡ startWalk row
+      unfolding walkOf
       start = refl
 
       ends : walkOf n (at g w₂ e₂) (all .new) ≡ walk b (visit b kind limit) row
@@ -175,20 +181,32 @@ module _ (b : Board) (row : ℕ) (w e : List ℕ) (small : turfCount b ≤ 4096)
 abbrev pub bare : Board → Board
 bare b = board (b .ids) (b .flags) (b .planetary) (b .mixtures) (b .starts) (b .neighbours) (b .linkFlags) (b .immutable) 0
 
-pub ground-of : (b : Board) → Tables b → Ground (bare b)
+pub ground-of : (b : Board) → Tables b → Ground b
 ground-of b t = record {
-  small = t .sizes .small .turfs;
-  linked = record { flags = t .flags; linkFlags = t .linkFlags; parts = t .parts; neighbour = t .neighbour };
+  small = t .sizes .small;
+  flags = t .flags;
   planetary = t .planetary;
   mixtures = t .mixtures;
+  linkFlags = t .linkFlags;
+  parts = t .parts;
+  neighbour = t .neighbour;
   mixture = t .mixture;
 }
 
+pub bare-ground : (b : Board) → Ground b → Ground (bare b)
+bare-ground b h = record {
+  small = record { turfs = h .small .turfs; links = h .small .links; mixtures = h .small .mixtures };
+  flags = h .flags;
+  planetary = h .planetary;
+  mixtures = h .mixtures;
+  linkFlags = h .linkFlags;
+  parts = h .parts;
+  neighbour = h .neighbour;
+  mixture = h .mixture;
+}
+
 -- no walk looks at the number of gases
-pub gasless : (b : Board) (kind : Kind) (limit row : ℕ)
-    → walk (bare b)
-    (visit (bare b) kind limit) row
-    ≡ walk b (visit b kind limit) row
+pub gasless : (b : Board) (kind : Kind) (limit row : ℕ) → walk (bare b) (visit (bare b) kind limit) row ≡ walk b (visit b kind limit) row
 unfolding walk walkNext visitPlanet visitSpace atSpace spread walkLink enabled planetary immutable firelock linksOf
 gasless b Planet limit row = refl
 gasless b Space limit row = refl

@@ -1,16 +1,15 @@
 -- How the scratch holds a walk: the queue, each row's place in it and the space list, as many words each as there are turfs.
 use mathlib.Core.Path.{_≡_}
 use mathlib.Core.List.{List, [], _∷_}
-use mathlib.Core.Bool.{false}
 use Prim.Native.Nat.{ℕ, _+_, _*_, _≤_, _<_}
 use lib.ListN.{length, getD, take}
 use Rattle.basics.specs.Regions.{cut, region}
 use Rattle.board_rules.specs.Board.{Board, turfCount, linkCount, mixtureCount, mixOf, end}
-use Rattle.turfs.specs.Tables.{board, Parts}
+use Rattle.turfs.specs.Tables.{Parts, Small}
 use Rattle.event_rules.specs.Events.{encodeAll}
 use Rattle.events.specs.Area.{Wrote}
 use Rattle.event_rules.specs.declared.Event.{Event}
-use Rattle.index_set.specs.Line.{Below, Line}
+use Rattle.index_set.specs.Line.{Line}
 use Rattle.walk_rules.specs.Walk.{Walk, count, walk}
 use Rattle.walk_rules.specs.Visit.{visit}
 use Rattle.walks.specs.Does.{Held}
@@ -70,34 +69,22 @@ walking n = record {
   Fit = Fit n;
 }
 
--- a board of which no more than a part of the link list is looked at
-abbrev pub links : List ℕ → List ℕ → List ℕ → Board
-links ids near locks = board ids [] [] [] [] near locks [] 0
-
--- a part of the link list that belongs to one of n turfs
-pub record Near (n : ℕ) (near locks : List ℕ) (row : ℕ) : Type 0 where
-  pub inside : row < n
-  pub both : length locks ≡ length near
-  pub below : Below n near
-
--- a board of which no more than the ids, the flags and the links is looked at
-abbrev pub grid : List ℕ → List ℕ → List ℕ → List ℕ → List ℕ → Board
-grid ids flags starts neighbours linkFlags = board ids flags [] [] starts neighbours linkFlags [] 0
-
--- what a turf's links need of the tables
-pub record Linked (b : Board) : Type 0 where
+-- what a walk needs of the tables
+pub record Ground (b : Board) : Type 0 where
+  pub small : Small b
   pub flags : length (b .flags) ≡ turfCount b
+  pub planetary : length (b .planetary) ≡ turfCount b
+  pub mixtures : length (b .mixtures) ≡ turfCount b
   pub linkFlags : length (b .linkFlags) ≡ linkCount b
   pub parts : Parts (turfCount b) (b .starts) (b .neighbours)
   pub neighbour : (k : ℕ) → k < linkCount b → end b k < turfCount b
-
--- what a walk needs of the tables
-pub record Ground (b : Board) : Type 0 where
-  pub small : turfCount b ≤ 4096
-  pub linked : Linked (grid (b .ids) (b .flags) (b .starts) (b .neighbours) (b .linkFlags))
-  pub planetary : length (b .planetary) ≡ turfCount b
-  pub mixtures : length (b .mixtures) ≡ turfCount b
   pub mixture : (r : ℕ) → r < turfCount b → mixOf b r < mixtureCount b
+
+-- a walk between steps, at the turf `row`
+pub record Stands (b : Board) (row : ℕ) (a : State) : Type 0 where
+  pub ground : Ground b
+  pub fit : Fit (turfCount b) a
+  pub inside : row < turfCount b
 
 -- how many event bytes for each turf a walk may write
 abbrev pub perTurf : Kind → ℕ
@@ -105,14 +92,26 @@ perTurf Planet = 12
 perTurf Space = 24
 
 -- a turf is visited: it is counted already
-pub record Visits (kind : Kind) (b : Board) (row : ℕ) (a : State) : Type 0 where
-  pub inside : row < turfCount b
+pub record Visits (kind : Kind) (b : Board) (a : State) : Type 0 where
   pub counted : a .reach .spaces < a .reach .walked
+  pub room : perTurf kind * turfCount b ≤ length (a .area)
+
+-- a walk between visits
+pub record Queued (kind : Kind) (b : Board) (a : State) : Type 0 where
+  pub ground : Ground b
+  pub fit : Fit (turfCount b) a
   pub room : perTurf kind * turfCount b ≤ length (a .area)
 
 -- `walkNext` where there is a turf to visit
 abbrev pub visitNext : Board → Kind → ℕ → Walk → Walk
 visitNext b kind limit s = visit b kind limit (getD (s .queue) (s .walked) 0) (count s)
+
+-- a walk from r can start: the areas are w and e
+pub record Starts (kind : Kind) (b : Board) (r : ℕ) (w e : List ℕ) : Type 0 where
+  pub ground : Ground b
+  pub inside : r < turfCount b
+  pub words : 3 * turfCount b ≤ length w
+  pub room : perTurf kind * turfCount b ≤ length e
 
 -- the walk from r is done: from w and e it came to w′ and e′
 pub record Walked (kind : Kind) (b : Board) (limit r : ℕ) (g : Reach) (w w′ e e′ : List ℕ) : Type 0 where

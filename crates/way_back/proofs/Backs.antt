@@ -1,33 +1,32 @@
 -- One turf of the way back: its air, its amounts, its events and its rip, each in an area of its own. Assumes nothing.
-use Prim.Native.Nat.{ℕ, zero, suc, _+_, _-_, _*_, _≤_, _<_}
+use Prim.Native.Nat.{ℕ, _+_, _-_, _*_, _≤_, _<_}
 use native.Mathlib.Omega.{arith}
 use native.Mathlib.Numerals.{add-one}
 use mathlib.Core.Path.{_≡_, refl, ap, ap₂, _∙_, sym, subst}
 use mathlib.Core.List.{List, [], _∷_, _++_}
-use mathlib.Core.Bool.{Bool, true, false, not, cond}
+use mathlib.Core.Bool.{Bool, true, false, not}
 use lib.Dec.{T, eqb}
 use lib.ListN.{length, getD, take, drop, set, length-set}
 use lib.Seq.{take-suc-set, length-take-le}
 use lib.Ieee.{Float, nan, isNan}
 use Rattle.basics.specs.Loops.{every, snoc}
 use Rattle.basics.specs.Floats.{_+f_}
-use Rattle.basics.specs.Regions.{cut, region, base}
+use Rattle.basics.specs.Regions.{cut, region}
 use Rattle.basics.proofs.Regions.{cut-set, cut-get, cut-length}
-use Rattle.board_rules.specs.Board.{Board, turfCount, idOf, mixOf}
-use Rattle.mixture_rules.specs.Mixture.{total, clearAir}
+use Rattle.board_rules.specs.Board.{Board, turfCount, mixOf}
 use Rattle.event_rules.specs.Events.{encodeAll, encode, kindOf, sizeOf}
 use Rattle.events.specs.Area.{Wrote}
 use Rattle.event_rules.specs.declared.Event.{Event}
 use Rattle.event_rules.specs.declared.Event.the-variants.{HighPressure, Difference, FloorRip}
 use Rattle.events.proofs.Areas.{wrote-length}
-use Rattle.events.proofs.Sizes.{encode-size, size, size-cons, size-append}
+use Rattle.events.proofs.Sizes.{encode-size, size, size-cons}
 use Rattle.index_set.specs.Line.{Below}
 use Rattle.index_set.proofs.Queue.{Below-snoc}
 use Rattle.walks.specs.Does.{Does}
-use Rattle.walks.proofs.Does.{none-wrote, both-wrote, one-wrote}
+use Rattle.walks.proofs.Does.{both-wrote, one-wrote}
 use Rattle.way_out.specs.Outed.{sizes}
-use Rattle.back_rules.specs.Back.{Back, backTo, back}
-use Rattle.way_back.specs.Backed.{notNegative, State, at, lots, ripsOf, backIn, backOf, Rest, Fit, backing, directions, Settled, told, backNext}
+use Rattle.back_rules.specs.Back.{backTo}
+use Rattle.way_back.specs.Backed.{notNegative, State, at, lots, ripsOf, backIn, backOf, Fit, backing, Points, directions, Settled, told}
 use Rattle.way_back.specs.declared.Way.{Way}
 use Rattle.way_back.specs.declared.Sums.{Sums}
 use Rattle.way_back.proofs.Signs.{add-clear, clear-number, every-at, every-set, every-snoc, total-clear, cleared-clear}
@@ -92,10 +91,13 @@ written-room b a h = omega (arith, h .bytes, h .written, h .few)
 
 -- ---- one turf
 
-module _ (b : Board) (row d : ℕ) (s : Way) (gas : List Float) (e w : List ℕ) (f : List Float) (h : Fit b (at s gas e w f)) (r : row < turfCount b) (k : d < turfCount b) (l : s .rips + s .left < turfCount b)
+module _ (b : Board) (row d : ℕ) (s : Way) (gas : List Float) (e w : List ℕ) (f : List Float) (p : Points b row d (at s gas w f e))
     (sums : Sums) (gas′ f₁ : List Float) (q : Settled b row d sums gas gas′ f f₁) where
   abbrev n : ℕ
   n = turfCount b
+
+  abbrev h : Fit b (at s gas w f e)
+  h = p .fit
 
   abbrev mineOf : List Float
   mineOf = region (lots n) 0 f
@@ -110,16 +112,16 @@ module _ (b : Board) (row d : ℕ) (s : Way) (gas : List Float) (e w : List ℕ)
   rows-n = cut-length (sizes n) w 0 (omega arith) (omega (arith, h .words))
 
   mine-is : sums .mine ≡ getD mineOf row nan +f sums .sum
-  mine-is = q .mine ∙ ap (λ (x : Float). x +f sums .sum) (cut-get (lots n) f nan 0 row row (omega arith) r (omega arith))
+  mine-is = q .mine ∙ ap (λ (x : Float). x +f sums .sum) (cut-get (lots n) f nan 0 row row (omega arith) (p .from) (omega arith))
 
   stored-mine : cut (lots n) (set f row (sums .mine)) ≡ set (cut (lots n) f) 0 (set mineOf row (sums .mine))
-  stored-mine = cut-set (lots n) f 0 row (sums .mine) row (omega arith) r (omega arith)
+  stored-mine = cut-set (lots n) f 0 row (sums .mine) row (omega arith) (p .from) (omega arith)
 
   theirs-is : sums .theirs ≡ getD (set mineOf row (sums .mine)) d nan +f sums .mine
   theirs-is =
       q .theirs
       ∙ ap (λ (x : Float). x +f sums .mine)
-      (cut-get (lots n) (set f row (sums .mine)) nan 0 d d (omega arith) k (omega arith) ∙ ap (λ (fs : List (List Float)). getD (getD fs 0 []) d nan) stored-mine)
+      (cut-get (lots n) (set f row (sums .mine)) nan 0 d d (omega arith) (p .to) (omega arith) ∙ ap (λ (fs : List (List Float)). getD (getD fs 0 []) d nan) stored-mine)
 
   gas-clear : T (every notNegative gas′)
   gas-clear = rw (q .cleared) (cleared-clear b gas (h .gas) (mixOf b row))
@@ -128,13 +130,13 @@ module _ (b : Board) (row d : ℕ) (s : Way) (gas : List Float) (e w : List ℕ)
   sum-clear = rw (q .sum) (total-clear b gas′ gas-clear d)
 
   mine-clear : T (notNegative (sums .mine))
-  mine-clear = rw mine-is (add-clear (getD mineOf row nan) (sums .sum) (every-at mineOf (h .amounts) row (omega (arith, lots-n))) sum-clear)
+  mine-clear = rw mine-is (add-clear (getD mineOf row nan) (sums .sum) (every-at mineOf (h .amounts) row (omega (arith, lots-n, p .from))) sum-clear)
 
   set-clear : T (every notNegative (set mineOf row (sums .mine)))
   set-clear = every-set mineOf (h .amounts) row (sums .mine) mine-clear
 
   theirs-clear : T (notNegative (sums .theirs))
-  theirs-clear = rw theirs-is (add-clear (getD (set mineOf row (sums .mine)) d nan) (sums .mine) (every-at (set mineOf row (sums .mine)) set-clear d (omega (arith, lots-n, length-set mineOf row (sums .mine)))) mine-clear)
+  theirs-clear = rw theirs-is (add-clear (getD (set mineOf row (sums .mine)) d nan) (sums .mine) (every-at (set mineOf row (sums .mine)) set-clear d (omega (arith, p .to, lots-n, length-set mineOf row (sums .mine)))) mine-clear)
 
   pub mine-number : T (not (isNan (sums .mine)))
   mine-number = clear-number (sums .mine) mine-clear
@@ -143,7 +145,7 @@ module _ (b : Board) (row d : ℕ) (s : Way) (gas : List Float) (e w : List ℕ)
   theirs-number = clear-number (sums .theirs) theirs-clear
 
   pub told-room : s .used + 48 ≤ length e
-  told-room = omega (arith, h .bytes, h .written, l)
+  told-room = omega (arith, h .bytes, h .written, p .room)
 
   abbrev w′ : List ℕ
   w′ = set w (s .rips) row
@@ -152,30 +154,30 @@ module _ (b : Board) (row d : ℕ) (s : Way) (gas : List Float) (e w : List ℕ)
   f′ = set f₁ (n + s .rips) (sums .sum)
 
   stores-w : cut (sizes n) w′ ≡ set (cut (sizes n) w) 0 (set (region (sizes n) 0 w) (s .rips) row)
-  stores-w = cut-set (sizes n) w 0 (s .rips) row (s .rips) (omega arith) (omega arith) (omega arith)
+  stores-w = cut-set (sizes n) w 0 (s .rips) row (s .rips) (omega arith) (omega (arith, p .room)) (omega arith)
 
   stores-f : cut (lots n) f′ ≡ (set (set mineOf row (sums .mine)) d (sums .theirs) ∷ set (region (lots n) 1 f) (s .rips) (sums .sum) ∷ region (lots n) 2 f ∷ [])
   stores-f =
-      cut-set (lots n) f₁ 1 (s .rips) (sums .sum) (n + s .rips) (omega arith) (omega arith) (omega arith)
+      cut-set (lots n) f₁ 1 (s .rips) (sums .sum) (n + s .rips) (omega arith) (omega (arith, p .room)) (omega arith)
       ∙ ap (λ (fs : List (List Float)). set fs 1 (set (getD fs 1 []) (s .rips) (sums .sum)))
       (ap (cut (lots n)) (q .amounts)
-      ∙ cut-set (lots n) (set f row (sums .mine)) 0 d (sums .theirs) d (omega arith) k (omega arith)
+      ∙ cut-set (lots n) (set f row (sums .mine)) 0 d (sums .theirs) d (omega arith) (p .to) (omega arith)
       ∙ ap (λ (fs : List (List Float)). set fs 0 (set (getD fs 0 []) d (sums .theirs))) stored-mine)
 
   more-rows : take (s .rips + 1) (set (region (sizes n) 0 w) (s .rips) row) ≡ snoc (take (s .rips) (region (sizes n) 0 w)) row
-  more-rows = rw add-one (take-suc-set (region (sizes n) 0 w) (s .rips) row (omega (arith, rows-n)))
+  more-rows = rw add-one (take-suc-set (region (sizes n) 0 w) (s .rips) row (omega (arith, p .room, rows-n)))
 
   more-sums : take (s .rips + 1) (set (region (lots n) 1 f) (s .rips) (sums .sum)) ≡ snoc (take (s .rips) (region (lots n) 1 f)) (sums .sum)
-  more-sums = rw add-one (take-suc-set (region (lots n) 1 f) (s .rips) (sums .sum) (omega (arith, sums-n)))
+  more-sums = rw add-one (take-suc-set (region (lots n) 1 f) (s .rips) (sums .sum) (omega (arith, p .room, sums-n)))
 
   even : length (take (s .rips) (region (sizes n) 0 w)) ≡ length (take (s .rips) (region (lots n) 1 f))
-  even = length-take-le (s .rips) (region (sizes n) 0 w) (omega (arith, rows-n)) ∙ sym (length-take-le (s .rips) (region (lots n) 1 f) (omega (arith, sums-n)))
+  even = length-take-le (s .rips) (region (sizes n) 0 w) (omega (arith, p .room, rows-n)) ∙ sym (length-take-le (s .rips) (region (lots n) 1 f) (omega (arith, p .room, sums-n)))
 
   -- the next one's direction, as the code reads it
   pub direction-at : getD w (3 * n + d) 0 ≡ getD (directions n w) d 0
-  direction-at = cut-get (sizes n) w 0 3 d (3 * n + d) (omega arith) k (omega arith)
+  direction-at = cut-get (sizes n) w 0 3 d (3 * n + d) (omega arith) (p .to) (omega arith)
 
-  module _ (last : Bool) (p : last ≡ eqb (getD (directions n w) d 0) 0) (e′ : List ℕ) (used : ℕ) (wr : Wrote (encodeAll (told (getD (b .ids) row 0) (sums .mine) (sums .theirs) last)) (s .used) used e e′) (lg : length gas′ ≡ length gas) where
+  module _ (last : Bool) (o : last ≡ eqb (getD (directions n w) d 0) 0) (e′ : List ℕ) (used : ℕ) (wr : Wrote (encodeAll (told (getD (b .ids) row 0) (sums .mine) (sums .theirs) last)) (s .used) used e e′) (lg : length gas′ ≡ length gas) where
     abbrev g : Way
     g = record { left = s .left; rips = s .rips + 1; used = used }
 
@@ -185,13 +187,13 @@ module _ (b : Board) (row d : ℕ) (s : Way) (gas : List Float) (e w : List ℕ)
     f-length : length f′ ≡ length f
     f-length = length-set f₁ (n + s .rips) (sums .sum) ∙ f₁-length
 
-    same : (es : List Event) → backOf (b .ids) (at g gas′ e′ w′ f′) (es ++ told (getD (b .ids) row 0) (sums .mine) (sums .theirs) last) ≡ backTo b (directions n w) row d (backOf (b .ids) (at s gas e w f) es)
+    same : (es : List Event) → backOf (b .ids) (at g gas′ w′ f′ e′) (es ++ told (getD (b .ids) row 0) (sums .mine) (sums .theirs) last) ≡ backTo b (directions n w) row d (backOf (b .ids) (at s gas w f e) es)
     unfolding backOf backTo told
     same es =
         ap₂ (λ (ws : List (List ℕ)) (fs : List (List Float)). backIn (b .ids) g gas′ ws fs (es ++ told (getD (b .ids) row 0) (sums .mine) (sums .theirs) last)) stores-w stores-f
-        ∙ rw (more-rows, more-sums, rips-snoc (b .ids) (take (s .rips) (region (sizes n) 0 w)) (take (s .rips) (region (lots n) 1 f)) row (sums .sum) even) (rw (← q .cleared, ← q .sum, ← mine-is, ← theirs-is, p))
+        ∙ rw (more-rows, more-sums, rips-snoc (b .ids) (take (s .rips) (region (sizes n) 0 w)) (take (s .rips) (region (lots n) 1 f)) row (sums .sum) even) (rw (← q .cleared, ← q .sum, ← mine-is, ← theirs-is, o))
 
-    pub does-back : Does (backing b) (backTo b (directions n w) row d) (at s gas e w f) (at g gas′ e′ w′ f′)
+    pub does-back : Does (backing b) (backTo b (directions n w) row d) (at s gas w f e) (at g gas′ w′ f′ e′)
     does-back = record {
       fit = record {
         small = h .small;
@@ -199,16 +201,16 @@ module _ (b : Board) (row d : ℕ) (s : Way) (gas : List Float) (e w : List ℕ)
         floats = rw f-length (h .floats);
         bytes = rw (wrote-length wr) (h .bytes);
         written = omega (arith, h .written, wr .end, told-size (getD (b .ids) row 0) (sums .mine) (sums .theirs) last);
-        few = omega arith;
+        few = omega (arith, p .room);
         count = lg ∙ h .count;
         gas = gas-clear;
         amounts = subst (λ (fs : List (List Float)). T (every notNegative (getD fs 0 []))) (sym stores-f) (every-set (set mineOf row (sums .mine)) set-clear d (sums .theirs) theirs-clear);
         sums = subst (λ (fs : List (List Float)). T (every notNegative (take (s .rips + 1) (getD fs 1 [])))) (sym stores-f) (rw more-sums (every-snoc (take (s .rips) (region (lots n) 1 f)) (h .sums) (sums .sum) sum-clear));
-        rows = subst (λ (ws : List (List ℕ)). Below n (take (s .rips + 1) (getD ws 0 []))) (sym stores-w) (rw more-rows (Below-snoc n (take (s .rips) (region (sizes n) 0 w)) row (h .rows) r));
+        rows = subst (λ (ws : List (List ℕ)). Below n (take (s .rips + 1) (getD ws 0 []))) (sym stores-w) (rw more-rows (Below-snoc n (take (s .rips) (region (sizes n) 0 w)) row (h .rows) (p .from)));
         order = subst (λ (ws : List (List ℕ)). (i : ℕ) → i < s .left → getD (getD ws 2 []) i 0 < n) (sym stores-w) (h .order);
         directed = subst (λ (ws : List (List ℕ)). (x : ℕ) → getD (getD ws 3 []) x 0 ≤ n) (sym stores-w) (h .directed);
       };
-      kept = rw (length-set, f-length, lg) (ap₂ (λ (ws : List (List ℕ)) (fs : List (List Float)). record { words = length w; arrays = drop 1 ws; floats = length f; beyond = getD fs 2 []; gas = length gas }) stores-w stores-f);
+      kept = rw (length-set w (s .rips) row, f-length, lg) (ap₂ (λ (ws : List (List ℕ)) (fs : List (List Float)). record { words = length w; arrays = drop 1 ws; floats = length f; beyond = getD fs 2 []; gas = length gas }) stores-w stores-f);
       new = told (getD (b .ids) row 0) (sums .mine) (sums .theirs) last;
       wrote = wr;
       same = same;

@@ -1,13 +1,12 @@
 -- Sums of amounts that are not below zero: each rounds to a value with the sign bit clear, or to infinity, and never to a NaN. Assumes nothing.
 use mathlib.Core.Path.{_≡_, sym, subst}
-use mathlib.Core.Bool.{Bool, true, false, not, cond}
+use mathlib.Core.Bool.{true, false, not}
 use mathlib.Core.List.{List, [], _∷_, _++_, map}
 use Prim.Native.Nat.{ℕ, zero, suc, _+_, _*_, _^_, _<_}
-use native.Mathlib.Nat.{not-suc-le-zero, le-of-suc-le-suc}
 use lib.Dec.{T, ltb}
 use lib.ListN.{length, getD, set, take, drop, replicate}
-use lib.Ieee.{Float, nan, inf, fin, Format, binary32, prec, low, emax, up, down, add, sum as isum, round, units, odd, size, ofBits, ofFields, isNan}
-use Rattle.basics.specs.Loops.{run, every, snoc}
+use lib.Ieee.{Float, nan, inf, fin, Format, binary32, prec, low, emax, up, down, add, sum as isum, round, units, odd, ofBits, ofFields, isNan}
+use Rattle.basics.specs.Loops.{every, snoc}
 use Rattle.basics.specs.Floats.{0f, _+f_, finiteSignClear}
 use Rattle.basics.specs.Lists.{All}
 use Rattle.basics.proofs.Loops.{All-imp, All-getD, every-all, run-keeps, cond-both, and-left}

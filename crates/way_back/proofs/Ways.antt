@@ -1,18 +1,18 @@
 -- The order from its end, and then the rips: each turn takes one turf off what is left. Assumes nothing.
-use Prim.Native.Nat.{ℕ, zero, _+_, _-_, _*_, _≤_, _<_}
+use Prim.Native.Nat.{ℕ, _+_, _-_, _*_, _≤_, _<_}
 use native.Mathlib.Omega.{arith}
 use native.Mathlib.Numerals.{add-one}
-use mathlib.Core.Path.{_≡_, refl, ap, ap₂, _∙_, sym, subst}
+use mathlib.Core.Path.{_≡_, refl, ap, _∙_, sym}
 use mathlib.Core.List.{List, [], _∷_, _++_, reverse, append-assoc, append-nil}
-use mathlib.Core.Bool.{Bool, true, false, not, cond}
+use mathlib.Core.Bool.{true, false, not}
 use lib.Dec.{T, eqb}
-use lib.ListN.{length, getD, take, drop, set, replicate, length-drop, length-append, length-replicate, take-append-drop}
+use lib.ListN.{length, getD, take, drop, replicate, length-drop, length-append, length-replicate}
 use lib.Seq.{take-suc, length-take-le, getD-take, getD-drop, take-take, take-at, drop-at}
 use lib.Ieee.{Float, nan, isNan}
 use borrow.Author.Tests.{eq-eqb, ne-eqb}
 use Rattle.basics.specs.Loops.{run, every, snoc}
 use Rattle.basics.specs.Floats.{0f}
-use Rattle.basics.specs.Regions.{cut, region, base}
+use Rattle.basics.specs.Regions.{region}
 use Rattle.basics.proofs.Regions.{cut-get, cut-length}
 use Rattle.basics.proofs.Loops.{run-back}
 use Rattle.board_rules.specs.Board.{Board, turfCount}
@@ -26,11 +26,12 @@ use Rattle.index_set.specs.Line.{Below}
 use Rattle.index_set.proofs.Queue.{Below-at}
 use Rattle.walks.specs.Does.{Does}
 use Rattle.walks.proofs.Does.{does-as, none-wrote, both-wrote, Going}
+use Rattle.walks.specs.Reached.{Ground}
 use Rattle.way_out.specs.Outed.{sizes}
 use Rattle.back_rules.specs.Back.{Back, backTo, back}
-use Rattle.way_back.specs.Backed.{notNegative, State, at, lots, ripsOf, backIn, backOf, Rest, Fit, backing, directions, backNext, Ripping, Fits, Backed}
+use Rattle.way_back.specs.Backed.{State, at, lots, ripsOf, backOf, Rest, Fit, backing, Goes, Points, directions, backNext, Rips, ripAt, Ripping, areas, Fits, Backed}
 use Rattle.way_back.specs.declared.Way.{Way}
-use Rattle.way_back.proofs.Signs.{zero-clear, clear-number, every-at, every-replicate}
+use Rattle.way_back.proofs.Signs.{clear-number, every-at, every-replicate}
 use Rattle.way_back.proofs.Backs.{rips-snoc, written-room}
 
 -- no step changes a length or the other arrays
@@ -60,7 +61,7 @@ module _ {f f₀ : Back → Back} {b : Board} {a a′ : State} (g : Going (backi
 
 -- ---- the last turf of those that are left
 
-module _ (b : Board) (s : Way) (gas : List Float) (e w : List ℕ) (f : List Float) (h : Fit b (at s gas e w f)) (p : 0 < s .left) where
+module _ (b : Board) (s : Way) (gas : List Float) (e w : List ℕ) (f : List Float) (h : Fit b (at s gas w f e)) (p : 0 < s .left) where
   abbrev n : ℕ
   n = turfCount b
 
@@ -82,7 +83,7 @@ module _ (b : Board) (s : Way) (gas : List Float) (e w : List ℕ) (f : List Flo
   pub way-below : getD w (3 * n + row) 0 ≤ n
   way-below = rw way-at (h .directed row)
 
-  pub left-fit : Fit b (at t gas e w f)
+  left-fit : Fit b (at t gas w f e)
   left-fit = record {
     small = h .small;
     words = h .words;
@@ -99,32 +100,32 @@ module _ (b : Board) (s : Way) (gas : List Float) (e w : List ℕ) (f : List Flo
     directed = h .directed;
   }
 
-  pub left-room : s .rips + (s .left - 1) < n
-  left-room = omega (arith, h .few)
+  pub points : Ground b → (getD w (3 * n + row) 0 ≡ 0 → ⊥) → Points b row (getD w (3 * n + row) 0 - 1) (at t gas w f e)
+  points g z = record { ground = g; fit = left-fit; from = row-below; to = omega (arith, way-below); room = omega (arith, h .few) }
 
-  pub back-skip : getD w (3 * n + row) 0 ≡ 0 → Does (backing b) (backNext b (s .left) w) (at s gas e w f) (at t gas e w f)
+  pub back-skip : getD w (3 * n + row) 0 ≡ 0 → Does (backing b) (backNext b (s .left) w) (at s gas w f e) (at t gas w f e)
   back-skip z = record {
     fit = left-fit;
     kept = refl;
     new = [];
-    wrote = none-wrote (s .used) e (written-room b (at s gas e w f) h);
+    wrote = none-wrote (s .used) e (written-room b (at s gas w f e) h);
     same = skip;
   }
     where
       none : eqb (getD (directions n w) (getD (region (sizes n) 2 w) (s .left - 1) 0) 0) 0 ≡ true
       none = eq-eqb _ 0 (ap (λ (x : ℕ). getD (directions n w) x 0) (sym row-at) ∙ sym way-at ∙ z)
 
-      skip : (es : List Event) → backOf (b .ids) (at t gas e w f) (es ++ []) ≡ backNext b (s .left) w (backOf (b .ids) (at s gas e w f) es)
+      skip : (es : List Event) → backOf (b .ids) (at t gas w f e) (es ++ []) ≡ backNext b (s .left) w (backOf (b .ids) (at s gas w f e) es)
       skip es = unfold backOf back in rw (none, append-nil es)
 
-  pub back-on : (getD w (3 * n + row) 0 ≡ 0 → ⊥) → {a : State} → Does (backing b) (backTo b (directions n w) row (getD w (3 * n + row) 0 - 1)) (at t gas e w f) a
-      → Does (backing b) (backNext b (s .left) w) (at s gas e w f) a
+  pub back-on : (getD w (3 * n + row) 0 ≡ 0 → ⊥) → {a : State} → Does (backing b) (backTo b (directions n w) row (getD w (3 * n + row) 0 - 1)) (at t gas w f e) a
+      → Does (backing b) (backNext b (s .left) w) (at s gas w f e) a
   back-on z {a} d = record { fit = d .fit; kept = d .kept; new = d .new; wrote = d .wrote; same = λ es. d .same es ∙ on es }
     where
       some : eqb (getD (directions n w) (getD (region (sizes n) 2 w) (s .left - 1) 0) 0) 0 ≡ false
       some = ne-eqb _ 0 (λ q. z (way-at ∙ ap (λ (x : ℕ). getD (directions n w) x 0) row-at ∙ q))
 
-      on : (es : List Event) → backTo b (directions n w) row (getD w (3 * n + row) 0 - 1) (backOf (b .ids) (at t gas e w f) es) ≡ backNext b (s .left) w (backOf (b .ids) (at s gas e w f) es)
+      on : (es : List Event) → backTo b (directions n w) row (getD w (3 * n + row) 0 - 1) (backOf (b .ids) (at t gas w f e) es) ≡ backNext b (s .left) w (backOf (b .ids) (at s gas w f e) es)
       on es = unfold back backOf in rw (some, way-at, row-at)
 
 -- ---- the loop
@@ -150,7 +151,7 @@ rips-size ids [] xs l = refl
 rips-size ids (r ∷ rs) [] l = absurd (omega arith)
 rips-size ids (r ∷ rs) (x ∷ xs) l = omega (arith, size-cons (FloorRip (getD ids r 0) x) (ripsOf ids rs xs), encode-size (FloorRip (getD ids r 0) x), rip-size (getD ids r 0) x, rips-size ids rs xs (omega arith))
 
-module _ (ids : List ℕ) (count used : ℕ) (e w : List ℕ) (f : List Float) (h : Ripping ids count used e w f) where
+module _ (ids : List ℕ) (count used : ℕ) (e w : List ℕ) (f : List Float) (h : Ripping ids count used w f e) where
   abbrev ripped : ℕ → List Event
   ripped j = ripsOf ids (take j w) (take j (drop (length ids) f))
 
@@ -169,35 +170,41 @@ module _ (ids : List ℕ) (count used : ℕ) (e w : List ℕ) (f : List Float) (
     row-is : getD w j 0 ≡ getD (take count w) j 0
     row-is = sym (getD-take count w j 0 k)
 
-    pub rip-row : getD w j 0 < length ids
+    rip-row : getD w j 0 < length ids
     rip-row = rw row-is (Below-at (length ids) (take count w) j (h .rows) (omega (arith, length-take-le count w (h .words))))
 
     sum-is : getD f (length ids + j) nan ≡ getD (take count (drop (length ids) f)) j nan
     sum-is = sym (getD-take count (drop (length ids) f) j nan k ∙ getD-drop (length ids) f j nan)
 
-    pub rip-number : T (not (isNan (getD f (length ids + j) nan)))
+    rip-number : T (not (isNan (getD f (length ids + j) nan)))
     rip-number =
         let l : length (take count (drop (length ids) f)) ≡ count = length-take-le count (drop (length ids) f) (rw (length-drop (length ids) f) (omega (arith, h .floats))) in
         rw sum-is (clear-number _ (every-at (take count (drop (length ids) f)) (h .sums) j (omega arith)))
 
-    pub rip-space : at + 12 ≤ length e₁
-    rip-space = omega (arith, wr .end, rips-bytes j (omega arith), wrote-length wr, h .room)
+    pub rip-fits : Rips ids j at w f e₁
+    rip-fits = record {
+      words = omega (arith, h .words);
+      row = rip-row;
+      floats = omega (arith, h .floats);
+      sum = rip-number;
+      room = omega (arith, wr .end, rips-bytes j (omega arith), wrote-length wr, h .room);
+    }
 
-    next : ripped (j + 1) ≡ snoc (ripped j) (FloorRip (getD ids (getD w j 0) 0) (getD f (length ids + j) nan))
+    next : ripped (j + 1) ≡ snoc (ripped j) (ripAt ids j w f)
     next =
         let m : j < length w = omega (arith, h .words) in
         let m′ : j < length (drop (length ids) f) = rw (length-drop (length ids) f) (omega (arith, h .floats)) in
         rw (add-one j, take-suc w j 0 m, take-suc (drop (length ids) f) j nan m′, getD-drop (length ids) f j nan) (rips-snoc ids (take j w) (take j (drop (length ids) f)) (getD w j 0) (getD f (length ids + j) nan) (even j (omega arith)))
 
-    pub rips-next : (to : ℕ) (e₂ : List ℕ) → Wrote (encodeAll (FloorRip (getD ids (getD w j 0) 0) (getD f (length ids + j) nan) ∷ [])) at to e₁ e₂ → Wrote (encodeAll (ripped (j + 1))) used to e e₂
-    rips-next to e₂ wr₂ = rw next (both-wrote (ripped j) (FloorRip (getD ids (getD w j 0) 0) (getD f (length ids + j) nan) ∷ []) wr wr₂)
+    pub rips-next : (to : ℕ) (e₂ : List ℕ) → Wrote (encodeAll (ripAt ids j w f ∷ [])) at to e₁ e₂ → Wrote (encodeAll (ripped (j + 1))) used to e e₂
+    rips-next to e₂ wr₂ = rw next (both-wrote (ripped j) (ripAt ids j w f ∷ []) wr wr₂)
 
   pub rips-end : (j : ℕ) → j ≤ count → count ≤ j → (at : ℕ) (e₁ : List ℕ) → Wrote (encodeAll (ripped j)) used at e e₁ → Wrote (encodeAll (ripped count)) used at e e₁
   rips-end j k l at e₁ wr = let q : count ≡ j = omega arith in rw q wr
 
 -- ---- the whole
 
-module _ (b : Board) (count used : ℕ) (gas : List Float) (e w : List ℕ) (f f₁ : List Float) (h : Fits b count used gas e w f) (c : f₁ ≡ replicate (turfCount b) 0f ++ drop (turfCount b) f) where
+module _ (b : Board) (count used : ℕ) (gas : List Float) (e w : List ℕ) (f f₁ : List Float) (h : Fits b count used (areas gas w f e)) (c : f₁ ≡ replicate (turfCount b) 0f ++ drop (turfCount b) f) where
   abbrev m : ℕ
   m = turfCount b
 
@@ -213,9 +220,9 @@ module _ (b : Board) (count used : ℕ) (gas : List Float) (e w : List ℕ) (f f
   f₁-length : length f₁ ≡ length f
   f₁-length = ap length c ∙ rw (length-append, length-replicate, length-drop) (omega (arith, h .floats))
 
-  pub first-fit : Fit b (at first gas e w f₁)
+  first-fit : Fit b (at first gas w f₁ e)
   first-fit = record {
-    small = h .small;
+    small = h .ground .small .turfs;
     words = h .words;
     floats = rw f₁-length (h .floats);
     bytes = h .bytes;
@@ -230,16 +237,20 @@ module _ (b : Board) (count used : ℕ) (gas : List Float) (e w : List ℕ) (f f
     directed = h .directed;
   }
 
+  pub first-goes : Goes b (at first gas w f₁ e)
+  first-goes = record { ground = h .ground; fit = first-fit }
+
   module _ (t : Way) (gas′ : List Float) (e′ w′ : List ℕ) (f′ : List Float)
-      (d : Does (backing b) (run (back b (directions m w)) (reverse (take count (region (sizes m) 2 w)))) (at first gas e w f₁) (at t gas′ e′ w′ f′)) where
+      (d : Does (backing b) (run (back b (directions m w)) (reverse (take count (region (sizes m) 2 w)))) (at first gas w f₁ e) (at t gas′ w′ f′ e′)) where
     rows-same : take (t .rips) (region (sizes m) 0 w′) ≡ take (t .rips) w′
     rows-same = take-take (t .rips) m w′ (omega (arith, d .fit .few))
 
     sums-same : take (t .rips) (region (lots m) 1 f′) ≡ take (t .rips) (drop m f′)
     sums-same = take-take (t .rips) m (drop m f′) (omega (arith, d .fit .few))
 
-    pub ripping : Ripping (b .ids) (t .rips) (t .used) e′ w′ f′
+    pub ripping : Ripping (b .ids) (t .rips) (t .used) w′ f′ e′
     ripping = record {
+      small = h .ground .small .turfs;
       words = omega (arith, d .fit .few, d .fit .words);
       floats = omega (arith, d .fit .few, d .fit .floats);
       rows = rw rows-same at (d .fit .rows);
@@ -247,7 +258,7 @@ module _ (b : Board) (count used : ℕ) (gas : List Float) (e w : List ℕ) (f f
       room = omega (arith, d .fit .bytes, d .fit .written, d .fit .few);
     }
 
-    pub backed : (to : ℕ) (e″ : List ℕ) → Wrote (encodeAll (ripsOf (b .ids) (take (t .rips) w′) (take (t .rips) (drop m f′)))) (t .used) to e′ e″ → Backed b count used to gas gas′ e e″ w w′ f f′
+    pub backed : (to : ℕ) (e″ : List ℕ) → Wrote (encodeAll (ripsOf (b .ids) (take (t .rips) w′) (take (t .rips) (drop m f′)))) (t .used) to e′ e″ → Backed b count used to (areas gas w f e) (areas gas′ w′ f′ e″)
     backed to e″ wr = record {
       words = ap (λ (r : Rest). getD (r .arrays) 4 []) (d .kept);
       floats = ap (λ (r : Rest). r .beyond) (d .kept) ∙ ap (drop m) past-is;
@@ -259,10 +270,10 @@ module _ (b : Board) (count used : ℕ) (gas : List Float) (e w : List ℕ) (f f
       );
     }
       where
-        start : (es : List Event) → backOf (b .ids) (at first gas e w f₁) es ≡ record { gas = gas; amount = replicate m 0f; events = es; rips = [] }
+        start : (es : List Event) → backOf (b .ids) (at first gas w f₁ e) es ≡ record { gas = gas; amount = replicate m 0f; events = es; rips = [] }
         start es = unfold backOf ripsOf in rw amounts-is
 
-        view : (es : List Event) → record { gas = gas′; amount = region (lots m) 0 f′; events = es; rips = ripsOf (b .ids) (take (t .rips) w′) (take (t .rips) (drop m f′)) } ≡ backOf (b .ids) (at t gas′ e′ w′ f′) es
+        view : (es : List Event) → record { gas = gas′; amount = region (lots m) 0 f′; events = es; rips = ripsOf (b .ids) (take (t .rips) w′) (take (t .rips) (drop m f′)) } ≡ backOf (b .ids) (at t gas′ w′ f′ e′) es
         view es = unfold backOf in rw (rows-same, sums-same)
 
         ends : (es : List Event) → record { gas = gas′; amount = region (lots m) 0 f′; events = es ++ d .new; rips = ripsOf (b .ids) (take (t .rips) w′) (take (t .rips) (drop m f′)) }

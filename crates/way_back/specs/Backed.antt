@@ -1,16 +1,15 @@
 -- How the scratch holds the way back: in the first array of words the turfs that the floor rips off, in the floats each row's amount and each rip's sum.
 use mathlib.Core.Path.{_≡_}
 use mathlib.Core.List.{List, [], _∷_, _++_, reverse}
-use mathlib.Core.Bool.{Bool, true, false, not, cond}
+use mathlib.Core.Bool.{Bool, false, not}
 use Prim.Native.Nat.{ℕ, _+_, _-_, _*_, _≤_, _<_}
-use lib.Dec.{T, eqb}
+use lib.Dec.{T}
 use lib.ListN.{length, getD, take, drop, set, replicate}
-use lib.Ieee.{Float, nan, inf, fin}
+use lib.Ieee.{Float, nan, inf, fin, isNan}
 use Rattle.basics.specs.Loops.{run, every, if_then_else_}
 use Rattle.basics.specs.Floats.{0f, _+f_}
 use Rattle.basics.specs.Regions.{cut, region}
 use Rattle.board_rules.specs.Board.{Board, turfCount, mixtureCount, mixOf}
-use Rattle.turfs.specs.Tables.{board}
 use Rattle.mixture_rules.specs.Mixture.{total, clearAir}
 use Rattle.event_rules.specs.Events.{encodeAll}
 use Rattle.events.specs.Area.{Wrote}
@@ -18,7 +17,8 @@ use Rattle.event_rules.specs.declared.Event.{Event}
 use Rattle.event_rules.specs.declared.Event.the-variants.{HighPressure, Difference, FloorRip}
 use Rattle.index_set.specs.Line.{Below}
 use Rattle.walks.specs.Does.{Held}
-use Rattle.way_out.specs.Outed.{sizes, Mixed, shore}
+use Rattle.walks.specs.Reached.{Ground}
+use Rattle.way_out.specs.Outed.{sizes}
 use Rattle.back_rules.specs.Back.{Back, back}
 use Rattle.way_back.specs.declared.Way.{Way}
 use Rattle.way_back.specs.declared.Sums.{Sums}
@@ -33,12 +33,22 @@ notNegative (fin s m e) = not s
 pub record State : Type 0 where
   pub way : Way
   pub gas : List Float
-  pub area : List ℕ
   pub words : List ℕ
   pub floats : List Float
+  pub area : List ℕ
 
-abbrev pub at : Way → List Float → List ℕ → List ℕ → List Float → State
-at way gas area words floats = record { way = way; gas = gas; area = area; words = words; floats = floats }
+abbrev pub at : Way → List Float → List ℕ → List Float → List ℕ → State
+at way gas words floats area = record { way = way; gas = gas; words = words; floats = floats; area = area }
+
+-- the areas alone
+pub record Areas : Type 0 where
+  pub gas : List Float
+  pub words : List ℕ
+  pub floats : List Float
+  pub area : List ℕ
+
+abbrev pub areas : List Float → List ℕ → List Float → List ℕ → Areas
+areas gas words floats area = record { gas = gas; words = words; floats = floats; area = area }
 
 -- by row the amounts, and the sums of the rips
 abbrev pub lots : ℕ → List ℕ
@@ -97,13 +107,30 @@ backing b = record {
   Fit = Fit b;
 }
 
--- a board of which no more than the ids and the mixtures is looked at
-abbrev pub air : List ℕ → List ℕ → List ℕ → ℕ → Board
-air ids mixtures immutable gases = board ids [] [] mixtures [] [] [] immutable gases
+-- the way back between turfs
+pub record Goes (b : Board) (a : State) : Type 0 where
+  pub ground : Ground b
+  pub fit : Fit b a
+
+-- the same at the turf `row`, which points at the turf d
+pub record Points (b : Board) (row d : ℕ) (a : State) : Type 0 where
+  pub ground : Ground b
+  pub fit : Fit b a
+  pub from : row < turfCount b
+  pub to : d < turfCount b
+  pub room : a .way .rips + a .way .left < turfCount b
 
 -- the directions in the words
 abbrev pub directions : ℕ → List ℕ → List ℕ
 directions n w = region (sizes n) 3 w
+
+-- two turfs' air and amounts stand in gas and f
+pub record Settles (b : Board) (row d : ℕ) (gas f : List Float) : Type 0 where
+  pub ground : Ground b
+  pub from : row < turfCount b
+  pub to : d < turfCount b
+  pub count : length gas ≡ mixtureCount b * b .gases
+  pub floats : 2 * turfCount b ≤ length f
 
 -- one turf's air and amounts: from gas and f to gas′ and f′
 pub record Settled (b : Board) (row d : ℕ) (r : Sums) (gas gas′ f f′ : List Float) : Type 0 where
@@ -117,12 +144,31 @@ pub record Settled (b : Board) (row d : ℕ) (r : Sums) (gas gas′ f f′ : Lis
 unfoldable pub told : ℕ → Float → Float → Bool → List Event
 told id mine theirs last = HighPressure id ∷ Difference id mine id id ∷ (if last then Difference id theirs id id ∷ [] else [])
 
+-- they can be written after `used` bytes
+pub record Tells (x y : Float) (used : ℕ) (e : List ℕ) : Type 0 where
+  pub mine : T (not (isNan x))
+  pub theirs : T (not (isNan y))
+  pub room : used + 48 ≤ length e
+
 -- `back` of the turf before those that are left
 abbrev pub backNext : Board → ℕ → List ℕ → Back → Back
 backNext b left w s = back b (directions (turfCount b) w) (getD (region (sizes (turfCount b)) 2 w) (left - 1) 0) s
 
+-- the rip number j can be written after `used` bytes
+pub record Rips (ids : List ℕ) (j used : ℕ) (w : List ℕ) (f : List Float) (e : List ℕ) : Type 0 where
+  pub words : j < length w
+  pub row : getD w j 0 < length ids
+  pub floats : length ids + j < length f
+  pub sum : T (not (isNan (getD f (length ids + j) nan)))
+  pub room : used + 12 ≤ length e
+
+-- the rip number j
+abbrev pub ripAt : List ℕ → ℕ → List ℕ → List Float → Event
+ripAt ids j w f = FloorRip (getD ids (getD w j 0) 0) (getD f (length ids + j) nan)
+
 -- the rips that are yet to be written
-pub record Ripping (ids : List ℕ) (count used : ℕ) (e w : List ℕ) (f : List Float) : Type 0 where
+pub record Ripping (ids : List ℕ) (count used : ℕ) (w : List ℕ) (f : List Float) (e : List ℕ) : Type 0 where
+  pub small : length ids ≤ 4096
   pub words : count ≤ length w
   pub floats : length ids + count ≤ length f
   pub rows : Below (length ids) (take count w)
@@ -130,24 +176,25 @@ pub record Ripping (ids : List ℕ) (count used : ℕ) (e w : List ℕ) (f : Lis
   pub room : used + 12 * count ≤ length e
 
 -- what the way back needs, from the first `count` turfs of the order and after `used` event bytes
-pub record Fits (b : Board) (count used : ℕ) (air : List Float) (e w : List ℕ) (f : List Float) : Type 0 where
-  pub small : turfCount b ≤ 4096
+pub record Fits (b : Board) (count used : ℕ) (a : Areas) : Type 0 where
+  pub ground : Ground b
   pub few : count ≤ turfCount b
-  pub words : 5 * turfCount b ≤ length w
-  pub floats : 2 * turfCount b ≤ length f
-  pub bytes : 84 * turfCount b ≤ length e
+  pub words : 5 * turfCount b ≤ length (a .words)
+  pub floats : 2 * turfCount b ≤ length (a .floats)
+  pub bytes : 84 * turfCount b ≤ length (a .area)
   pub written : used ≤ 24 * turfCount b
-  pub total : length air ≡ mixtureCount b * b .gases
-  pub gas : T (every notNegative air)
-  pub order : (i : ℕ) → i < count → getD (region (sizes (turfCount b)) 2 w) i 0 < turfCount b
-  pub directed : (r : ℕ) → getD (region (sizes (turfCount b)) 3 w) r 0 ≤ turfCount b
+  pub total : length (a .gas) ≡ mixtureCount b * b .gases
+  pub gas : T (every notNegative (a .gas))
+  pub order : (i : ℕ) → i < count → getD (region (sizes (turfCount b)) 2 (a .words)) i 0 < turfCount b
+  pub directed : (r : ℕ) → getD (region (sizes (turfCount b)) 3 (a .words)) r 0 ≤ turfCount b
 
--- the way back is done
-pub record Backed (b : Board) (count used to : ℕ) (gas gas′ : List Float) (e e′ w w′ : List ℕ) (f f′ : List Float) : Type 0 where
-  pub words : region (sizes (turfCount b)) 5 w′ ≡ region (sizes (turfCount b)) 5 w
-  pub floats : region (lots (turfCount b)) 2 f′ ≡ region (lots (turfCount b)) 2 f
+-- the way back is done, from a to a′
+pub record Backed (b : Board) (count used to : ℕ) (a a′ : Areas) : Type 0 where
+  pub words : region (sizes (turfCount b)) 5 (a′ .words) ≡ region (sizes (turfCount b)) 5 (a .words)
+  pub floats : region (lots (turfCount b)) 2 (a′ .floats) ≡ region (lots (turfCount b)) 2 (a .floats)
   pub new : List Event
-  pub wrote : Wrote (encodeAll new) used to e e′
+  pub wrote : Wrote (encodeAll new) used to (a .area) (a′ .area)
   pub same : (es : List Event) →
-      let t = run (back b (directions (turfCount b) w)) (reverse (take count (region (sizes (turfCount b)) 2 w))) (record { gas = gas; amount = replicate (turfCount b) 0f; events = es; rips = [] }) in
-      (es ++ new ≡ t .events ++ t .rips) × (gas′ ≡ t .gas)
+      let order = take count (region (sizes (turfCount b)) 2 (a .words)) in
+      let t = run (back b (directions (turfCount b) (a .words))) (reverse order) (record { gas = a .gas; amount = replicate (turfCount b) 0f; events = es; rips = [] }) in
+      (es ++ new ≡ t .events ++ t .rips) × (a′ .gas ≡ t .gas)

@@ -2,27 +2,24 @@
 use Prim.Native.Nat.{ℕ, suc, _+_, _-_, _*_, _≤_, _<_}
 use native.Mathlib.Omega.{arith}
 use native.Mathlib.Nat.{sub-zero}
-use mathlib.Core.Path.{_≡_, refl, ap, _∙_, sym, subst}
-use mathlib.Core.List.{List, [], _∷_, _++_, append-nil}
-use mathlib.Core.Bool.{Bool, true, false, _||_, cond}
-use lib.Dec.{ltb, leb}
-use lib.ListN.{length, getD, take, drop, set}
+use mathlib.Core.Path.{_≡_, refl, ap, _∙_, sym}
+use mathlib.Core.List.{List, [], _++_, append-nil}
+use mathlib.Core.Bool.{_||_, cond}
+use lib.Dec.{leb}
+use lib.ListN.{length, getD, take}
 use lib.Seq.{length-take-le, getD-take}
 use borrow.Author.Tests.{lt-ltb, le-ltb, le-leb, lt-leb}
-use Rattle.basics.specs.Loops.{run, times, upFrom, member}
-use Rattle.basics.specs.Regions.{cut, region, base}
+use Rattle.basics.specs.Loops.{run, times, member}
+use Rattle.basics.specs.Regions.{region}
 use Rattle.basics.proofs.Loops.{All-any, run-keeps, cond-both, times-still}
 use Rattle.basics.proofs.Regions.{cut-get}
-use Rattle.basics.proofs.Parts.{part-at}
 use Rattle.board_rules.specs.Board.{Board, end, immutable, linksOf}
 use Rattle.event_rules.specs.declared.Event.{Event}
-use Rattle.index_set.specs.Line.{Below}
 use Rattle.index_set.proofs.Queue.{Below-at}
 use Rattle.walks.specs.Does.{Does}
-use Rattle.walks.proofs.LinkParts.{part-run}
 use Rattle.walks.proofs.Does.{none-wrote}
 use Rattle.out_rules.specs.Out.{Out, outTo, outLink, outRow, outNext}
-use Rattle.way_out.specs.Outed.{State, at, sizes, outIn, outOf, Rest, Fit, outing, shore, coast, Coast, passNext}
+use Rattle.way_out.specs.Outed.{State, at, sizes, outOf, Fit, outing, passNext}
 use Rattle.way_out.specs.declared.Front.{Front}
 use Rattle.way_out.proofs.Joins.{written-room}
 
@@ -88,21 +85,6 @@ module _ (n : ℕ) (s : Front) (w e : List ℕ) (h : Fit n (at s w e)) where
         where
           same : (es : List Event) → run (outLink b row) (linksOf b row) (outOf n (at (passed s) w e) es) ≡ passNext b limit (outOf n (at s w e) es)
           same es = unfold outOf outRow in rw (le-leb (s .place + 1) limit l, order-at)
-
--- the part of a turf
-module _ (ids mixtures starts neighbours immut : List ℕ) (c : Coast (coast ids mixtures starts neighbours immut)) (row : ℕ) (r : row < length ids)
-    (from to : ℕ) (f : from ≡ getD starts row 0) (t : to ≡ getD starts (row + 1) 0) where
-  abbrev near : List ℕ
-  near = take (to - from) (drop from neighbours)
-
-  link-same : (i : ℕ) → i < to - from → (s : Out) → outLink (shore ids mixtures near immut) row i s ≡ outLink (coast ids mixtures starts neighbours immut) row (from + i) s
-  unfolding outLink outTo immutable
-  link-same i h s = rw (part-at neighbours from to i h)
-
-  pub links-same : (s : Out) → run (outLink (shore ids mixtures near immut) row) (upFrom 0 (length near)) s
-      ≡ run (outLink (coast ids mixtures starts neighbours immut) row) (linksOf (coast ids mixtures starts neighbours immut) row) s
-  unfolding linksOf
-  links-same s = part-run (length ids) starts neighbours (c .parts) row r from to f t (outLink (shore ids mixtures near immut) row) (outLink (coast ids mixtures starts neighbours immut) row) link-same s
 
 -- ---- the loop
 

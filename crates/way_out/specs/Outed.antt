@@ -1,17 +1,18 @@
 -- How the scratch holds the way out: past the first walk's queue, each row's place in the order, the order, which starts as the space list, the directions and the targets.
 use mathlib.Core.Path.{_≡_}
 use mathlib.Core.List.{List, [], _∷_, _++_}
+use mathlib.Core.Bool.{false}
 use Prim.Native.Nat.{ℕ, _+_, _*_, _≤_, _<_}
 use lib.ListN.{length, getD, set, take}
-use Rattle.basics.specs.Loops.{run}
+use Rattle.basics.specs.Loops.{run, member}
 use Rattle.basics.specs.Regions.{cut, region}
-use Rattle.board_rules.specs.Board.{Board, turfCount, linkCount, mixtureCount, mixOf, end}
-use Rattle.turfs.specs.Tables.{board, Parts}
+use Rattle.board_rules.specs.Board.{Board, turfCount}
 use Rattle.event_rules.specs.Events.{encodeAll}
 use Rattle.events.specs.Area.{Wrote}
 use Rattle.event_rules.specs.declared.Event.{Event}
 use Rattle.index_set.specs.Line.{Below, Apart, Line}
 use Rattle.walks.specs.Does.{Held}
+use Rattle.walks.specs.Reached.{Ground}
 use Rattle.out_rules.specs.Out.{Out, outRow, outward}
 use Rattle.way_out.specs.declared.Front.{Front}
 
@@ -60,28 +61,49 @@ outing n = record {
   Fit = Fit n;
 }
 
--- a board of which no more than a part of the link list, the ids and the mixtures is looked at
-abbrev pub shore : List ℕ → List ℕ → List ℕ → List ℕ → Board
-shore ids mixtures near immutable = board ids [] [] mixtures [] near [] immutable 0
+-- the way out between turfs
+pub record Passing (b : Board) (a : State) : Type 0 where
+  pub ground : Ground b
+  pub fit : Fit (turfCount b) a
 
--- every turf has a mixture
-pub record Mixed (b : Board) : Type 0 where
-  pub mixtures : length (b .mixtures) ≡ turfCount b
-  pub mixture : (r : ℕ) → r < turfCount b → mixOf b r < mixtureCount b
+-- the same at the turf `row`
+pub record Stands (b : Board) (row : ℕ) (a : State) : Type 0 where
+  pub ground : Ground b
+  pub fit : Fit (turfCount b) a
+  pub inside : row < turfCount b
 
--- a board of which no more than the ids, the mixtures and the links is looked at
-abbrev pub coast : List ℕ → List ℕ → List ℕ → List ℕ → List ℕ → Board
-coast ids mixtures starts neighbours immutable = board ids [] [] mixtures starts neighbours [] immutable 0
-
--- what the way out needs of the tables
-pub record Coast (b : Board) : Type 0 where
-  pub mixed : Mixed (shore (b .ids) (b .mixtures) [] (b .immutable))
-  pub parts : Parts (turfCount b) (b .starts) (b .neighbours)
-  pub neighbour : (k : ℕ) → k < linkCount b → end b k < turfCount b
+-- the turf `to` is new to the order, and joins it from the turf `row`
+pub record Joins (b : Board) (row to : ℕ) (a : State) : Type 0 where
+  pub fit : Fit (turfCount b) a
+  pub from : row < turfCount b
+  pub inside : to < turfCount b
+  pub new : member to (take (a .front .count) (region (sizes (turfCount b)) 2 (a .words))) ≡ false
 
 -- `outNext` where there is a turf to pass
 abbrev pub passNext : Board → ℕ → Out → Out
 passNext b limit s = outRow b limit (getD (s .order) (s .place) 0) s
+
+-- the words hold a space turf number i
+pub record Owns (ids : List ℕ) (i : ℕ) (w : List ℕ) : Type 0 where
+  pub small : length ids ≤ 4096
+  pub words : 5 * length ids ≤ length w
+  pub few : i < length ids
+  pub row : getD w (2 * length ids + i) 0 < length ids
+
+-- it is given its place, and is its own target
+abbrev pub ownAt : List ℕ → ℕ → List ℕ → List ℕ
+ownAt ids i w =
+    let n = length ids in
+    let row = getD w (2 * n + i) 0 in
+    set (set w (n + row) i) (4 * n + row) (getD ids row 0)
+
+-- the words hold a space list, no turf twice
+pub record Spaces (ids : List ℕ) (count : ℕ) (w : List ℕ) : Type 0 where
+  pub small : length ids ≤ 4096
+  pub words : 5 * length ids ≤ length w
+  pub few : count ≤ length ids
+  pub below : Below (length ids) (take count (region (sizes (length ids)) 2 w))
+  pub apart : Apart (take count (region (sizes (length ids)) 2 w))
 
 -- the space turfs have their places, and are their own targets
 pub record Owned (ids : List ℕ) (count : ℕ) (w w′ : List ℕ) : Type 0 where
@@ -90,6 +112,13 @@ pub record Owned (ids : List ℕ) (count : ℕ) (w w′ : List ℕ) : Type 0 whe
   pub line : Line (length ids) count (region (sizes (length ids)) 2 w) places
   pub arrays : cut (sizes (length ids)) w′ ≡ (getD (cut (sizes (length ids)) w) 0 [] ∷ places ∷ getD (cut (sizes (length ids)) w) 2 [] ∷ getD (cut (sizes (length ids)) w) 3 []
       ∷ run (λ r t. set t r (getD ids r 0)) (take count (region (sizes (length ids)) 2 w)) (region (sizes (length ids)) 4 w) ∷ getD (cut (sizes (length ids)) w) 5 [] ∷ [])
+
+-- a way out can start from the first `spaces` turfs of the space list, after `used` event bytes
+pub record Opens (b : Board) (spaces used : ℕ) (w e : List ℕ) : Type 0 where
+  pub ground : Ground b
+  pub list : Spaces (b .ids) spaces w
+  pub room : 24 * turfCount b ≤ length e
+  pub written : used ≤ 12 * (turfCount b + spaces)
 
 -- the way out from the space list is done: from w and e it came to w′ and e′
 pub record Outed (b : Board) (limit spaces used : ℕ) (g : Front) (w w′ e e′ : List ℕ) : Type 0 where

@@ -1,21 +1,15 @@
 -- The turf's planetary byte. Assumes nothing.
-use mathlib.Core.Path.{sym, _∙_}
 use Rattle.board_rules.specs.Board.{planetary}
 use borrow.Author.Needs.{needs}
 use Rattle.walks.proofs.met.Statement.{statement}
 use Rattle.walks.proofs.met.Tie as tie
-use Rattle.walks.proofs.met.Reads as reads
-use Rattle.walks.proofs.met.Lts as lts
 
--- src/lib.rt:215:9
 returns : tie.Need-returns
 returns c = λ b p. rw (c .if1 .taken)
 
--- src/lib.rt:217:5
 shared-slice-read-result : tie.Need-shared-slice-read-result
 shared-slice-read-result c = search needs
 
--- src/lib.rt:210:1
 returns-2 : tie.Need-returns-2
 unfolding planetary
 returns-2 c = λ b p. rw (c .before .if1 .left, p)

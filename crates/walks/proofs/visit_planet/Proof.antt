@@ -4,54 +4,58 @@ use Rattle.walks.proofs.Visits.{marked-fit, planet-still, planet-on}
 use borrow.Author.Needs.{needs}
 use Rattle.walks.proofs.visit_planet.Statement.{statement}
 use Rattle.walks.proofs.visit_planet.Tie as tie
-use Rattle.walks.proofs.visit_planet.Reads as reads
-use Rattle.walks.proofs.visit_planet.Lts as lts
-use Rattle.walks.proofs.Reach.mark.Reads as mark-reads
-use Rattle.turfs.proofs.is_immutable.Reads as is-immutable-reads
-use Rattle.walks.proofs.met.Reads as met-reads
-use Rattle.walks.proofs.spread.Reads as spread-reads
 
--- src/lib.rt:240:9
+element-copy-out-met : tie.Need-element-copy-out-met
+element-copy-out-met c = search needs
+
 met-requires : tie.Need-met-requires
-met-requires c κs = search needs
+met-requires c κs = let p = c .before .before .before .pre in rw (p .ground .planetary) (p .inside)
 
--- src/lib.rt:241:8
+element-copy-out-is-immutable : tie.Need-element-copy-out-is-immutable
+element-copy-out-is-immutable c = search needs
+
+element-copy-out-is-immutable-2 : tie.Need-element-copy-out-is-immutable-2
+element-copy-out-is-immutable-2 c = search needs
+
 is-immutable-requires : tie.Need-is-immutable-requires
-is-immutable-requires c κs = (rw (c .before .before .before .before .before .before .before .before .before .before .before .pre .0 .1 .mixtures) (c .before .before .before .before .before .before .before .before .before .before .before .pre .1 .inside), c .before .before .before .before .before .before .before .before .before .before .before .pre .0 .1 .mixture _ (c .before .before .before .before .before .before .before .before .before .before .before .pre .1 .inside))
+is-immutable-requires c κs = let p = c .before .before .before .before .before .before .pre in (rw (p .ground .mixtures) (p .inside), p .ground .mixture _ (p .inside))
 
--- src/lib.rt:242:9
 mark-requires : tie.Need-mark-requires
 mark-requires c κs = search needs
 
--- src/lib.rt:242:9
 returns : tie.Need-returns
-returns c = planet-still _ _ _ _ _ _ _ (c .before .before .before .before .before .before .before .before .before .before .before .before .before .before .pre .0 .0) _ (c .before .before .before .met .ensures _ refl) _ (sym (c .before .if1 .taken) ∙ c .before .before .is-immutable .ensures _ refl refl) (c .mark .ensures)
+returns c = planet-still _ _ _ _ _ _ _ (c .before .before .before .before .before .before .before .before .before .pre .fit) _ (c .before .before .before .before .before .met .ensures _ refl) _ (sym (c .before .if1 .taken) ∙ c .before .before .is-immutable .ensures _ refl refl) (c .mark .ensures)
 
--- src/lib.rt:252:9
 mark-requires-2 : tie.Need-mark-requires-2
 mark-requires-2 c κs = search needs
 
--- src/lib.rt:244:5
 spread-requires : tie.Need-spread-requires
-spread-requires c κs = (marked-fit _ _ _ _ (c .before .before .before .before .before .before .before .before .before .before .before .before .before .before .before .before .pre .0 .0) _ _ _ (c .before .before .mark2 .ensures), (c .before .before .before .before .before .before .before .before .before .before .before .before .before .before .before .before .pre .0 .1 .linked, c .before .before .before .before .before .before .before .before .before .before .before .before .before .before .before .before .pre .1 .inside))
+spread-requires c κs = let p = c .before .before .before .before .before .before .before .before .before .before .before .pre in record { ground = p .ground; fit = marked-fit _ _ _ _ (p .fit) _ _ _ (c .before .before .mark2 .ensures); inside = p .inside }
 
--- src/lib.rt:221:1
 same-length : tie.Need-same-length
 same-length c = search needs
 
--- src/lib.rt:221:1
 same-length-2 : tie.Need-same-length-2
 same-length-2 c = search needs
 
--- src/lib.rt:221:1
 returns-2 : tie.Need-returns-2
-returns-2 c = planet-on _ _ _ _ _ _ _ (c .before .before .before .before .before .before .before .before .before .before .before .before .before .before .before .before .before .before .before .before .before .pre .0 .0) _ (c .before .before .before .before .before .before .before .before .before .before .met .ensures _ refl) _ (sym (c .before .before .before .before .before .before .before .before .if1 .left) ∙ c .before .before .before .before .before .before .before .before .before .is-immutable .ensures _ refl refl) (c .before .before .before .before .before .before .before .mark2 .ensures) (c .before .before .before .before .spread .ensures)
+returns-2 c =
+    let pre = c .before .before .before .before .before .before .before .before .before .before .before .before .before .before .before .before .pre in
+    let met = c .before .before .before .before .before .before .before .before .before .before .before .before .met in
+    let if1 = c .before .before .before .before .before .before .before .before .if1 in
+    let is-immutable = c .before .before .before .before .before .before .before .before .before .is-immutable in
+    let mark2 = c .before .before .before .before .before .before .before .mark2 in
+    let spread = c .before .before .before .before .spread in
+    planet-on _ _ _ _ _ _ _ (pre .fit) _ (met .ensures _ refl) _ (sym (if1 .left) ∙ is-immutable .ensures _ refl refl) (mark2 .ensures) (spread .ensures)
 
 pub visit-planet-spec : {M : Type 1} → statement M
 visit-planet-spec =
     tie.close
     (tie.spec
+    element-copy-out-met
     met-requires
+    element-copy-out-is-immutable
+    element-copy-out-is-immutable-2
     is-immutable-requires
     mark-requires
     returns

@@ -2,124 +2,131 @@
 use borrow.Author.Tests.{not-true, not-false}
 use native.Mathlib.Omega.{arith}
 use mathlib.Core.Path.{_∙_, sym}
-use denote.Ref.{now}
-use Rattle.walks.proofs.Links.{row-below, count-less, link-old, link-open, link-locked, lock-room}
-use borrow.Author.Needs.{needs}
 use Rattle.events.proofs.Areas.{one-added}
+use Rattle.walks.proofs.Links.{count-less, link-old, link-open, link-locked, lock-room}
+use borrow.Author.Needs.{needs}
 use Rattle.walks.proofs.walk_link.Statement.{statement}
 use Rattle.walks.proofs.walk_link.Tie as tie
-use Rattle.walks.proofs.walk_link.Reads as reads
-use Rattle.walks.proofs.walk_link.Lts as lts
-use Rattle.events.proofs.append.Reads as append-reads
-use Rattle.index_set.proofs.contains.Reads as contains-reads
-use Rattle.index_set.proofs.insert.Reads as insert-reads
-use Rattle.turfs.proofs.AdjacentFlags.firelock.Reads as firelock-reads
-use Rattle.walks.proofs.Reach.joined.Reads as joined-reads
 
--- src/lib.rt:123:13
+element-copy-out-ids : tie.Need-element-copy-out-ids
+element-copy-out-ids c = search needs
+
+element-copy-out-neighbours : tie.Need-element-copy-out-neighbours
+element-copy-out-neighbours c = search needs
+
 mul-a : tie.Need-mul-a
 mul-a c = search needs
 
--- src/lib.rt:123:13
 shared-slice-read-a : tie.Need-shared-slice-read-a
 shared-slice-read-a c = search needs
 
--- src/lib.rt:126:8
 contains-requires : tie.Need-contains-requires
-contains-requires c κs = (record { room = (omega arith, omega arith); line = c .before .before .before .before .before .before .before .pre .0 .line }, row-below (now (c .before .before .before .before .before .before .before .args .ids)) _ _ _ _ _ _ _ (c .before .before .before .before .before .before .before .pre .0) (c .before .before .before .before .before .before .before .pre .1 .0) (c .before .before .before .before .before .before .before .pre .1 .1))
+contains-requires c κs = let p = c .before .before .before .before .before .before .pre in (record { room = (omega (arith, p .0 .fit .words), omega (arith, p .0 .fit .words)); line = p .0 .fit .line }, p .0 .ground .neighbour _ (p .1))
 
--- src/lib.rt:127:9
 same-length : tie.Need-same-length
 same-length c = search needs
 
--- src/lib.rt:127:9
 returns : tie.Need-returns
-returns c = link-old _ _ _ _ _ _ _ _ (c .before .before .before .before .before .before .before .before .before .pre .0) (c .before .before .before .before .before .before .before .before .before .pre .1 .0) (c .before .before .before .before .before .before .before .before .before .pre .1 .1) (sym (c .if1 .taken) ∙ c .before .contains .ensures)
+returns c = link-old _ _ _ _ _ _ (c .before .before .before .before .before .before .before .before .pre .0 .fit) (sym (c .if1 .taken) ∙ c .before .contains .ensures)
 
--- src/lib.rt:129:5
 insert-requires : tie.Need-insert-requires
-insert-requires c κs = (omega (arith, count-less (now (c .before .before .before .before .before .before .before .before .before .before .args .ids)) _ _ _ _ _ _ _ (c .before .before .before .before .before .before .before .before .before .before .pre .0) (c .before .before .before .before .before .before .before .before .before .before .pre .1 .0) (c .before .before .before .before .before .before .before .before .before .before .pre .1 .1) (sym (c .before .if1 .left) ∙ c .before .before .contains .ensures)), (omega (arith, row-below (now (c .before .before .before .before .before .before .before .before .before .before .args .ids)) _ _ _ _ _ _ _ (c .before .before .before .before .before .before .before .before .before .before .pre .0) (c .before .before .before .before .before .before .before .before .before .before .pre .1 .0) (c .before .before .before .before .before .before .before .before .before .before .pre .1 .1)), omega (arith, count-less (now (c .before .before .before .before .before .before .before .before .before .before .args .ids)) _ _ _ _ _ _ _ (c .before .before .before .before .before .before .before .before .before .before .pre .0) (c .before .before .before .before .before .before .before .before .before .before .pre .1 .0) (c .before .before .before .before .before .before .before .before .before .before .pre .1 .1) (sym (c .before .if1 .left) ∙ c .before .before .contains .ensures))))
+insert-requires c κs =
+    let p = c .before .before .before .before .before .before .before .before .before .pre in
+    let below = p .0 .ground .neighbour _ (p .1) in
+    let less = count-less _ _ _ _ _ (p .0 .fit) below (sym (c .before .if1 .left) ∙ c .before .before .contains .ensures) in
+    (omega (arith, less, p .0 .fit .words), (omega (arith, below, p .0 .fit .words), omega (arith, less, p .0 .fit .small)))
 
--- src/lib.rt:130:23
-shared-slice-read-t25 : tie.Need-shared-slice-read-t25
-shared-slice-read-t25 c = search needs
+element-copy-out-locks : tie.Need-element-copy-out-locks
+element-copy-out-locks c = search needs
 
--- src/lib.rt:130:9
+shared-slice-read-t35 : tie.Need-shared-slice-read-t35
+shared-slice-read-t35 c = search needs
+
 firelock-requires : tie.Need-firelock-requires
 firelock-requires c κs = search needs
 
--- src/lib.rt:131:9
 joined-requires : tie.Need-joined-requires
-joined-requires c κs = omega (arith, count-less (now (c .before .before .before .before .before .before .before .before .before .before .before .before .before .before .before .before .args .ids)) _ _ _ _ _ _ _ (c .before .before .before .before .before .before .before .before .before .before .before .before .before .before .before .before .pre .0) (c .before .before .before .before .before .before .before .before .before .before .before .before .before .before .before .before .pre .1 .0) (c .before .before .before .before .before .before .before .before .before .before .before .before .before .before .before .before .pre .1 .1) (sym (c .before .before .before .before .before .before .before .if1 .left) ∙ c .before .before .before .before .before .before .before .before .contains .ensures))
+joined-requires c κs =
+    let p = c .before .before .before .before .before .before .before .before .before .before .before .before .before .before .before .before .pre in
+    omega (arith, count-less _ _ _ _ _ (p .0 .fit) (p .0 .ground .neighbour _ (p .1)) (sym (c .before .before .before .before .before .before .before .before .if1 .left) ∙ c .before .before .before .before .before .before .before .before .before .contains .ensures), p .0 .fit .small)
 
--- src/lib.rt:131:9
 same-length-2 : tie.Need-same-length-2
 same-length-2 c = search needs
 
--- src/lib.rt:131:9
 returns-2 : tie.Need-returns-2
-returns-2 c = link-open _ _ _ _ _ _ _ _ (c .before .before .before .before .before .before .before .before .before .before .before .before .before .before .before .before .before .pre .0) (c .before .before .before .before .before .before .before .before .before .before .before .before .before .before .before .before .before .pre .1 .0) (c .before .before .before .before .before .before .before .before .before .before .before .before .before .before .before .before .before .pre .1 .1) (sym (c .before .before .before .before .before .before .before .before .if1 .left) ∙ c .before .before .before .before .before .before .before .before .before .contains .ensures) (sym (not-true _ (c .before .if2 .taken)) ∙ c .before .before .firelock .ensures) _ _ (c .joined .ensures) (c .before .before .before .before .before .before .insert .ensures)
+returns-2 c =
+    let p = c .before .before .before .before .before .before .before .before .before .before .before .before .before .before .before .before .before .pre in
+    link-open _ _ _ _ _ _ (p .0 .fit) (p .0 .ground .neighbour _ (p .1)) (sym (c .before .before .before .before .before .before .before .before .before .if1 .left) ∙ c .before .before .before .before .before .before .before .before .before .before .contains .ensures)
+    (sym (not-true _ (c .before .if2 .taken)) ∙ c .before .before .firelock .ensures) _ _ (c .joined .ensures) (c .before .before .before .before .before .before .before .insert .ensures)
 
--- src/lib.rt:134:13
-mul-t14 : tie.Need-mul-t14
-mul-t14 c = search needs
+mul-t21 : tie.Need-mul-t21
+mul-t21 c = search needs
 
--- src/lib.rt:134:13
-shared-slice-read-t16 : tie.Need-shared-slice-read-t16
-shared-slice-read-t16 c = search needs
+shared-slice-read-t23 : tie.Need-shared-slice-read-t23
+shared-slice-read-t23 c = search needs
 
--- src/lib.rt:135:24
-cast-t29 : tie.Need-cast-t29
-cast-t29 c = omega (arith, row-below (now (c .before .before .before .before .before .before .before .before .before .before .before .before .before .before .before .before .before .args .ids)) _ _ _ _ _ _ _ (c .before .before .before .before .before .before .before .before .before .before .before .before .before .before .before .before .before .pre .0) (c .before .before .before .before .before .before .before .before .before .before .before .before .before .before .before .before .before .pre .1 .0) (c .before .before .before .before .before .before .before .before .before .before .before .before .before .before .before .before .before .pre .1 .1))
+cast-t39 : tie.Need-cast-t39
+cast-t39 c = let p = c .before .before .before .before .before .before .before .before .before .before .before .before .before .before .before .before .before .pre in omega (arith, p .0 .ground .neighbour _ (p .1), p .0 .fit .small)
 
--- src/lib.rt:135:20
-mul-t30 : tie.Need-mul-t30
-mul-t30 c = omega (arith, row-below (now (c .before .before .before .before .before .before .before .before .before .before .before .before .before .before .before .before .before .args .ids)) _ _ _ _ _ _ _ (c .before .before .before .before .before .before .before .before .before .before .before .before .before .before .before .before .before .pre .0) (c .before .before .before .before .before .before .before .before .before .before .before .before .before .before .before .before .before .pre .1 .0) (c .before .before .before .before .before .before .before .before .before .before .before .before .before .before .before .before .before .pre .1 .1))
+mul-t40 : tie.Need-mul-t40
+mul-t40 c = let p = c .before .before .before .before .before .before .before .before .before .before .before .before .before .before .before .before .before .pre in omega (arith, p .0 .ground .neighbour _ (p .1), p .0 .fit .small)
 
--- src/lib.rt:135:20
-shared-slice-read-t32 : tie.Need-shared-slice-read-t32
-shared-slice-read-t32 c = row-below (now (c .before .before .before .before .before .before .before .before .before .before .before .before .before .before .before .before .before .before .args .ids)) _ _ _ _ _ _ _ (c .before .before .before .before .before .before .before .before .before .before .before .before .before .before .before .before .before .before .pre .0) (c .before .before .before .before .before .before .before .before .before .before .before .before .before .before .before .before .before .before .pre .1 .0) (c .before .before .before .before .before .before .before .before .before .before .before .before .before .before .before .before .before .before .pre .1 .1)
+shared-slice-read-t42 : tie.Need-shared-slice-read-t42
+shared-slice-read-t42 c = let p = c .before .before .before .before .before .before .before .before .before .before .before .before .before .before .before .before .before .before .pre in p .0 .ground .neighbour _ (p .1)
 
--- src/lib.rt:137:14
 append-requires : tie.Need-append-requires
-append-requires c κs = (tt, lock-room (now (c .before .before .before .before .before .before .before .before .before .before .before .before .before .before .before .before .before .before .before .args .ids)) _ _ _ _ _ _ _ (c .before .before .before .before .before .before .before .before .before .before .before .before .before .before .before .before .before .before .before .pre .0) (c .before .before .before .before .before .before .before .before .before .before .before .before .before .before .before .before .before .before .before .pre .1 .0) (c .before .before .before .before .before .before .before .before .before .before .before .before .before .before .before .before .before .before .before .pre .1 .1) (sym (c .before .before .before .before .before .before .before .before .before .before .if1 .left) ∙ c .before .before .before .before .before .before .before .before .before .before .before .contains .ensures))
+append-requires c κs =
+    let p = c .before .before .before .before .before .before .before .before .before .before .before .before .before .before .before .before .before .before .before .pre in
+    (tt, lock-room _ _ _ _ _ (p .0 .fit) (p .0 .ground .neighbour _ (p .1)) (sym (c .before .before .before .before .before .before .before .before .before .before .before .if1 .left) ∙ c .before .before .before .before .before .before .before .before .before .before .before .before .contains .ensures))
 
--- src/lib.rt:137:5
 joined-requires-2 : tie.Need-joined-requires-2
-joined-requires-2 c κs = omega (arith, count-less (now (c .before .before .before .before .before .before .before .before .before .before .before .before .before .before .before .before .before .before .before .before .before .before .args .ids)) _ _ _ _ _ _ _ (c .before .before .before .before .before .before .before .before .before .before .before .before .before .before .before .before .before .before .before .before .before .before .pre .0) (c .before .before .before .before .before .before .before .before .before .before .before .before .before .before .before .before .before .before .before .before .before .before .pre .1 .0) (c .before .before .before .before .before .before .before .before .before .before .before .before .before .before .before .before .before .before .before .before .before .before .pre .1 .1) (sym (c .before .before .before .before .before .before .before .before .before .before .before .before .before .if1 .left) ∙ c .before .before .before .before .before .before .before .before .before .before .before .before .before .before .contains .ensures))
+joined-requires-2 c κs =
+    let p = c .before .before .before .before .before .before .before .before .before .before .before .before .before .before .before .before .before .before .before .before .before .before .pre in
+    let if1 = c .before .before .before .before .before .before .before .before .before .before .before .before .before .before .if1 in
+    let contains = c .before .before .before .before .before .before .before .before .before .before .before .before .before .before .before .contains in
+    omega (arith, count-less _ _ _ _ _ (p .0 .fit) (p .0 .ground .neighbour _ (p .1)) (sym (if1 .left) ∙ contains .ensures), p .0 .fit .small)
 
--- src/lib.rt:108:1
 same-length-3 : tie.Need-same-length-3
 same-length-3 c = search needs
 
--- src/lib.rt:108:1
 same-length-4 : tie.Need-same-length-4
 same-length-4 c = search needs
 
--- src/lib.rt:108:1
 returns-3 : tie.Need-returns-3
-returns-3 c = link-locked _ _ _ _ _ _ _ _ (c .before .before .before .before .before .before .before .before .before .before .before .before .before .before .before .before .before .before .before .before .before .before .before .pre .0) (c .before .before .before .before .before .before .before .before .before .before .before .before .before .before .before .before .before .before .before .before .before .before .before .pre .1 .0) (c .before .before .before .before .before .before .before .before .before .before .before .before .before .before .before .before .before .before .before .before .before .before .before .pre .1 .1) (sym (c .before .before .before .before .before .before .before .before .before .before .before .before .before .before .if1 .left) ∙ c .before .before .before .before .before .before .before .before .before .before .before .before .before .before .before .contains .ensures) (sym (not-false _ (c .before .before .before .before .before .before .before .if2 .left)) ∙ c .before .before .before .before .before .before .before .before .firelock .ensures) _ _ _ _ (c .joined2 .ensures) (c .before .before .before .before .before .before .before .before .before .before .before .before .insert .ensures) (one-added _ (c .before .before .before .append .ensures))
+returns-3 c =
+    let p = c .before .before .before .before .before .before .before .before .before .before .before .before .before .before .before .before .before .before .before .before .before .before .before .pre in
+    let if1 = c .before .before .before .before .before .before .before .before .before .before .before .before .before .before .before .if1 in
+    let contains = c .before .before .before .before .before .before .before .before .before .before .before .before .before .before .before .before .contains in
+    let if2 = c .before .before .before .before .before .before .before .if2 in
+    let firelock = c .before .before .before .before .before .before .before .before .firelock in
+    let insert = c .before .before .before .before .before .before .before .before .before .before .before .before .before .insert in
+    let append = c .before .before .before .append in
+    link-locked _ _ _ _ _ _ (p .0 .fit) (p .0 .ground .neighbour _ (p .1)) (sym (if1 .left) ∙ contains .ensures)
+    (sym (not-false _ (if2 .left)) ∙ firelock .ensures) _ _ _ _ (c .joined2 .ensures) (insert .ensures) (one-added _ (append .ensures))
 
 pub walk-link-spec : {M : Type 1} → statement M
 walk-link-spec =
     tie.close
     (tie.spec
+    element-copy-out-ids
+    element-copy-out-neighbours
     mul-a
     shared-slice-read-a
     contains-requires
     same-length
     returns
     insert-requires
-    shared-slice-read-t25
+    element-copy-out-locks
+    shared-slice-read-t35
     firelock-requires
     joined-requires
     same-length-2
     returns-2
-    mul-t14
-    shared-slice-read-t16
-    cast-t29
-    mul-t30
-    shared-slice-read-t32
+    mul-t21
+    shared-slice-read-t23
+    cast-t39
+    mul-t40
+    shared-slice-read-t42
     append-requires
     joined-requires-2
     same-length-3

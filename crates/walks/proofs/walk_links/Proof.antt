@@ -1,58 +1,62 @@
--- A loop over the part: what is left of it, and each turn one link. Assumes nothing.
+-- A loop over the turf's links: what is left of them, and each turn one link. Assumes nothing.
 use borrow.Author.Needs.{needs}
-use Prim.Native.Nat.{_≤_, _-_}
+use Prim.Native.Nat.{_-_}
 use native.Mathlib.Omega.{arith}
-use lib.ListN.{length}
 use Rattle.basics.specs.Loops.{run, upFrom}
 use Rattle.basics.proofs.Loops.{run-up, run-up-end}
+use Rattle.board_rules.specs.Board.{turfCount, linksOf}
+use Rattle.turfs.specs.Tables.{boardOf}
 use Rattle.walk_rules.specs.Walk.{walkLink}
-use Rattle.walks.specs.Reached.{at, walking, links}
+use Rattle.walks.specs.Reached.{at, walking}
 use Rattle.walks.proofs.Does.{Going, going-start, going-next, going-end}
 use Rattle.walks.proofs.Links.{written-room, kept-words, kept-area}
-use Rattle.walks.proofs.LinkParts.{run-start}
+use Rattle.walks.proofs.LinksOf.{links-run, links-end}
 use Rattle.walks.proofs.walk_links.Statement.{statement}
 use Rattle.walks.proofs.walk_links.Tie as tie
-use Rattle.walks.proofs.walk_links.Reads as reads
-use Rattle.walks.proofs.walk_links.Lts as lts
-use Rattle.walks.proofs.walk_link.Reads as walk-link-reads
 
 abbrev Inv-loop : tie.InvT-loop
-Inv-loop ids near locks row events₀ words₀ t₀ i₀ events words t i = (i ≤ length near) × Going (walking (length ids)) (run (walkLink (links ids near locks) row) (upFrom i (length near - i))) (run (walkLink (links ids near locks) row) (upFrom 0 (length near))) (at t₀ words₀ events₀) (at t words events)
+Inv-loop row rows marks words₀ events₀ to t₀ k₀ words events t k =
+    let b = boardOf rows marks 0 in
+    Going (walking (turfCount b)) (run (walkLink b row) (upFrom k (to - k))) (run (walkLink b row) (linksOf b row)) (at t₀ words₀ events₀) (at t words events)
 
 abbrev μ-loop : tie.MeasureT-loop
-μ-loop ids near locks row events₀ words₀ t₀ i₀ events words t i = length near - i
+μ-loop row rows marks words₀ events₀ to t₀ k₀ words events t k = to - k
 
--- src/lib.rt:156:5
+element-copy-out-links-of : tie.Need-element-copy-out-links-of Inv-loop μ-loop
+element-copy-out-links-of c = search needs
+
+links-of-requires : tie.Need-links-of-requires Inv-loop μ-loop
+links-of-requires c κs = let p = c .before .before .before .pre in omega (arith, p .inside, p .ground .parts .count)
+
 loop-holds : tie.Need-loop-holds Inv-loop μ-loop
-loop-holds c = (omega arith, going-start (walking _) (c .before .before .before .before .before .pre .0) (written-room _ _ (c .before .before .before .before .before .pre .0)) (λ v. run-start _ _ v))
+loop-holds c =
+    let p = c .before .before .before .before .pre in
+    let l = c .links-of .ensures in
+    going-start (walking _) (p .fit) (written-room _ _ (p .fit)) (λ v. links-run _ _ _ _ (l .0) (l .1) _ v)
 
--- src/lib.rt:157:9
 walk-link-requires : tie.Need-walk-link-requires Inv-loop μ-loop
-walk-link-requires c κs = (c .before .before .before .loop .inv .1 .fit, (c .before .before .before .before .before .before .before .before .before .pre .1, c .before .before .loop-test .taken))
+walk-link-requires c κs =
+    let p = c .before .before .before .before .before .before .before .before .pre in
+    let l = c .before .before .before .before .links-of .ensures in
+    (record { ground = p .ground; fit = c .before .before .before .loop .inv .fit; inside = p .inside }, omega (arith, links-end _ _ _ _ (l .0) (l .1) (p .ground) (p .inside), c .before .before .loop-test .taken))
 
--- src/lib.rt:158:9
-add-i : tie.Need-add-i Inv-loop μ-loop
-add-i c = search needs
+add-k : tie.Need-add-k Inv-loop μ-loop
+add-k c = search needs
 
--- src/lib.rt:156:5
 loop-less : tie.Need-loop-less Inv-loop μ-loop
 loop-less c = search needs
 
--- src/lib.rt:156:5
 loop-again : tie.Need-loop-again Inv-loop μ-loop
-loop-again c = (omega arith, going-next (walking _) _ _ (c .before .before .before .before .before .before .before .before .loop .inv .1) (c .before .before .before .before .walk-link .ensures) (λ es. run-up _ _ _ _ (c .before .before .before .before .before .before .before .loop-test .taken)))
+loop-again c = going-next (walking _) _ _ (c .before .before .before .before .before .before .before .before .loop .inv) (c .before .before .before .before .walk-link .ensures) (λ es. run-up _ _ _ _ (c .before .before .before .before .before .before .before .loop-test .taken))
 
--- src/lib.rt:141:1
 same-length : tie.Need-same-length Inv-loop μ-loop
-same-length c = kept-area (c .before .loop .inv .1)
+same-length c = kept-words (c .before .loop .inv)
 
--- src/lib.rt:141:1
 same-length-2 : tie.Need-same-length-2 Inv-loop μ-loop
-same-length-2 c = kept-words (c .before .loop .inv .1)
+same-length-2 c = kept-area (c .before .loop .inv)
 
--- src/lib.rt:141:1
 returns : tie.Need-returns Inv-loop μ-loop
-returns c = going-end (walking _) (c .before .loop .inv .1) (λ es. run-up-end _ _ _ _ (c .loop-test .left))
+returns c = going-end (walking _) (c .before .loop .inv) (λ es. run-up-end _ _ _ _ (c .loop-test .left))
 
 pub walk-links-spec : {M : Type 1} → statement M
 walk-links-spec =
@@ -60,9 +64,11 @@ walk-links-spec =
     (tie.spec
     Inv-loop
     μ-loop
+    element-copy-out-links-of
+    links-of-requires
     loop-holds
     walk-link-requires
-    add-i
+    add-k
     loop-less
     loop-again
     same-length

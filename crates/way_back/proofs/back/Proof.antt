@@ -1,95 +1,79 @@
 -- A turf without direction is skipped, any other goes back. Assumes nothing.
 use native.Mathlib.Omega.{arith}
-use denote.Ref.{now}
-use Rattle.way_back.specs.Backed.{air}
-use Rattle.way_back.proofs.Ways.{row-below, way-below, left-fit, left-room, back-skip, back-on}
+use Rattle.way_back.proofs.Ways.{row-below, way-below, points, back-skip, back-on}
 use borrow.Author.Needs.{needs}
 use Rattle.way_back.proofs.back.Statement.{statement}
 use Rattle.way_back.proofs.back.Tie as tie
-use Rattle.way_back.proofs.back.Reads as reads
-use Rattle.way_back.proofs.back.Lts as lts
-use Rattle.way_back.proofs.back_to.Reads as back-to-reads
 
--- src/lib.rt:141:16
+element-copy-out-ids : tie.Need-element-copy-out-ids
+element-copy-out-ids c = search needs
+
 sub-left : tie.Need-sub-left
 sub-left c = search needs
 
--- src/lib.rt:142:21
 mul-row : tie.Need-mul-row
 mul-row c = search needs
 
--- src/lib.rt:142:21
 add-row : tie.Need-add-row
 add-row c = search needs
 
--- src/lib.rt:142:15
 mul-row-2 : tie.Need-mul-row-2
 mul-row-2 c = search needs
 
--- src/lib.rt:142:15
 slice-read-row : tie.Need-slice-read-row
 slice-read-row c = search needs
 
--- src/lib.rt:143:21
 mul-way : tie.Need-mul-way
 mul-way c = search needs
 
--- src/lib.rt:143:29
 cast-way : tie.Need-cast-way
-cast-way c = omega (arith, row-below (air (now (c .before .before .before .before .before .before .before .before .before .args .ids)) (now (c .before .before .before .before .before .before .before .before .before .args .mixtures)) (now (c .before .before .before .before .before .before .before .before .before .args .immutable)) (c .before .before .before .before .before .before .before .before .before .args .gases)) (c .before .before .before .before .before .before .before .before .before .args .s) (now (c .before .before .before .before .before .before .before .before .before .args .gas)) (now (c .before .before .before .before .before .before .before .before .before .args .events)) (now (c .before .before .before .before .before .before .before .before .before .args .words)) (now (c .before .before .before .before .before .before .before .before .before .args .floats)) (c .before .before .before .before .before .before .before .before .before .pre .0 .0) (c .before .before .before .before .before .before .before .before .before .pre .1))
+cast-way c = let p = c .before .before .before .before .before .before .before .pre in omega (arith, row-below _ _ _ _ _ _ (p .0 .fit) (p .1), p .0 .fit .small)
 
--- src/lib.rt:143:21
 add-way : tie.Need-add-way
-add-way c = omega (arith, row-below (air (now (c .before .before .before .before .before .before .before .before .before .args .ids)) (now (c .before .before .before .before .before .before .before .before .before .args .mixtures)) (now (c .before .before .before .before .before .before .before .before .before .args .immutable)) (c .before .before .before .before .before .before .before .before .before .args .gases)) (c .before .before .before .before .before .before .before .before .before .args .s) (now (c .before .before .before .before .before .before .before .before .before .args .gas)) (now (c .before .before .before .before .before .before .before .before .before .args .events)) (now (c .before .before .before .before .before .before .before .before .before .args .words)) (now (c .before .before .before .before .before .before .before .before .before .args .floats)) (c .before .before .before .before .before .before .before .before .before .pre .0 .0) (c .before .before .before .before .before .before .before .before .before .pre .1))
+add-way c = let p = c .before .before .before .before .before .before .before .pre in omega (arith, row-below _ _ _ _ _ _ (p .0 .fit) (p .1), p .0 .fit .small)
 
--- src/lib.rt:143:15
 mul-way-2 : tie.Need-mul-way-2
-mul-way-2 c = omega (arith, row-below (air (now (c .before .before .before .before .before .before .before .before .before .args .ids)) (now (c .before .before .before .before .before .before .before .before .before .args .mixtures)) (now (c .before .before .before .before .before .before .before .before .before .args .immutable)) (c .before .before .before .before .before .before .before .before .before .args .gases)) (c .before .before .before .before .before .before .before .before .before .args .s) (now (c .before .before .before .before .before .before .before .before .before .args .gas)) (now (c .before .before .before .before .before .before .before .before .before .args .events)) (now (c .before .before .before .before .before .before .before .before .before .args .words)) (now (c .before .before .before .before .before .before .before .before .before .args .floats)) (c .before .before .before .before .before .before .before .before .before .pre .0 .0) (c .before .before .before .before .before .before .before .before .before .pre .1))
+mul-way-2 c = let p = c .before .before .before .before .before .before .before .pre in omega (arith, row-below _ _ _ _ _ _ (p .0 .fit) (p .1), p .0 .fit .small)
 
--- src/lib.rt:143:15
 slice-read-way : tie.Need-slice-read-way
-slice-read-way c = omega (arith, row-below (air (now (c .before .before .before .before .before .before .before .before .before .before .args .ids)) (now (c .before .before .before .before .before .before .before .before .before .before .args .mixtures)) (now (c .before .before .before .before .before .before .before .before .before .before .args .immutable)) (c .before .before .before .before .before .before .before .before .before .before .args .gases)) (c .before .before .before .before .before .before .before .before .before .before .args .s) (now (c .before .before .before .before .before .before .before .before .before .before .args .gas)) (now (c .before .before .before .before .before .before .before .before .before .before .args .events)) (now (c .before .before .before .before .before .before .before .before .before .before .args .words)) (now (c .before .before .before .before .before .before .before .before .before .before .args .floats)) (c .before .before .before .before .before .before .before .before .before .before .pre .0 .0) (c .before .before .before .before .before .before .before .before .before .before .pre .1), c .before .before .before .before .before .before .before .before .before .before .pre .0 .0 .words)
+slice-read-way c = let p = c .before .before .before .before .before .before .before .before .pre in omega (arith, row-below _ _ _ _ _ _ (p .0 .fit) (p .1), p .0 .fit .words)
 
--- src/lib.rt:150:9
 returns : tie.Need-returns
-returns c = (back-skip (air (now (c .before .before .before .before .before .before .before .before .before .before .before .args .ids)) (now (c .before .before .before .before .before .before .before .before .before .before .before .args .mixtures)) (now (c .before .before .before .before .before .before .before .before .before .before .before .args .immutable)) (c .before .before .before .before .before .before .before .before .before .before .before .args .gases)) (c .before .before .before .before .before .before .before .before .before .before .before .args .s) (now (c .before .before .before .before .before .before .before .before .before .before .before .args .gas)) (now (c .before .before .before .before .before .before .before .before .before .before .before .args .events)) (now (c .before .before .before .before .before .before .before .before .before .before .before .args .words)) (now (c .before .before .before .before .before .before .before .before .before .before .before .args .floats)) (c .before .before .before .before .before .before .before .before .before .before .before .pre .0 .0) (c .before .before .before .before .before .before .before .before .before .before .before .pre .1) (c .if1 .taken), omega (arith, c .before .before .before .before .before .before .before .before .before .before .before .pre .1))
+returns c = let p = c .before .before .before .before .before .before .before .before .before .pre in (back-skip _ _ _ _ _ _ (p .0 .fit) (p .1) (c .if1 .taken), omega (arith, p .1))
 
--- src/lib.rt:158:9
-cast-back-to : tie.Need-cast-back-to
-cast-back-to c = omega (arith, way-below (air (now (c .before .before .before .before .before .before .before .before .before .before .before .args .ids)) (now (c .before .before .before .before .before .before .before .before .before .before .before .args .mixtures)) (now (c .before .before .before .before .before .before .before .before .before .before .before .args .immutable)) (c .before .before .before .before .before .before .before .before .before .before .before .args .gases)) (c .before .before .before .before .before .before .before .before .before .before .before .args .s) (now (c .before .before .before .before .before .before .before .before .before .before .before .args .gas)) (now (c .before .before .before .before .before .before .before .before .before .before .before .args .events)) (now (c .before .before .before .before .before .before .before .before .before .before .before .args .words)) (now (c .before .before .before .before .before .before .before .before .before .before .before .args .floats)) (c .before .before .before .before .before .before .before .before .before .before .before .pre .0 .0) (c .before .before .before .before .before .before .before .before .before .before .before .pre .1))
+cast-d : tie.Need-cast-d
+cast-d c = let p = c .before .before .before .before .before .before .before .before .before .pre in omega (arith, way-below _ _ _ _ _ _ (p .0 .fit) (p .1), p .0 .fit .small)
 
--- src/lib.rt:158:9
-sub-back-to : tie.Need-sub-back-to
-sub-back-to c = search needs
+sub-d : tie.Need-sub-d
+sub-d c = search needs
 
--- src/lib.rt:152:5
 back-to-requires : tie.Need-back-to-requires
-back-to-requires c κs = ((left-fit (air (now (c .before .before .before .before .before .before .before .before .before .before .before .before .before .before .before .args .ids)) (now (c .before .before .before .before .before .before .before .before .before .before .before .before .before .before .before .args .mixtures)) (now (c .before .before .before .before .before .before .before .before .before .before .before .before .before .before .before .args .immutable)) (c .before .before .before .before .before .before .before .before .before .before .before .before .before .before .before .args .gases)) (c .before .before .before .before .before .before .before .before .before .before .before .before .before .before .before .args .s) (now (c .before .before .before .before .before .before .before .before .before .before .before .before .before .before .before .args .gas)) (now (c .before .before .before .before .before .before .before .before .before .before .before .before .before .before .before .args .events)) (now (c .before .before .before .before .before .before .before .before .before .before .before .before .before .before .before .args .words)) (now (c .before .before .before .before .before .before .before .before .before .before .before .before .before .before .before .args .floats)) (c .before .before .before .before .before .before .before .before .before .before .before .before .before .before .before .pre .0 .0) (c .before .before .before .before .before .before .before .before .before .before .before .before .before .before .before .pre .1), c .before .before .before .before .before .before .before .before .before .before .before .before .before .before .before .pre .0 .1), ((row-below (air (now (c .before .before .before .before .before .before .before .before .before .before .before .before .before .before .before .args .ids)) (now (c .before .before .before .before .before .before .before .before .before .before .before .before .before .before .before .args .mixtures)) (now (c .before .before .before .before .before .before .before .before .before .before .before .before .before .before .before .args .immutable)) (c .before .before .before .before .before .before .before .before .before .before .before .before .before .before .before .args .gases)) (c .before .before .before .before .before .before .before .before .before .before .before .before .before .before .before .args .s) (now (c .before .before .before .before .before .before .before .before .before .before .before .before .before .before .before .args .gas)) (now (c .before .before .before .before .before .before .before .before .before .before .before .before .before .before .before .args .events)) (now (c .before .before .before .before .before .before .before .before .before .before .before .before .before .before .before .args .words)) (now (c .before .before .before .before .before .before .before .before .before .before .before .before .before .before .before .args .floats)) (c .before .before .before .before .before .before .before .before .before .before .before .before .before .before .before .pre .0 .0) (c .before .before .before .before .before .before .before .before .before .before .before .before .before .before .before .pre .1), omega (arith, way-below (air (now (c .before .before .before .before .before .before .before .before .before .before .before .before .before .before .before .args .ids)) (now (c .before .before .before .before .before .before .before .before .before .before .before .before .before .before .before .args .mixtures)) (now (c .before .before .before .before .before .before .before .before .before .before .before .before .before .before .before .args .immutable)) (c .before .before .before .before .before .before .before .before .before .before .before .before .before .before .before .args .gases)) (c .before .before .before .before .before .before .before .before .before .before .before .before .before .before .before .args .s) (now (c .before .before .before .before .before .before .before .before .before .before .before .before .before .before .before .args .gas)) (now (c .before .before .before .before .before .before .before .before .before .before .before .before .before .before .before .args .events)) (now (c .before .before .before .before .before .before .before .before .before .before .before .before .before .before .before .args .words)) (now (c .before .before .before .before .before .before .before .before .before .before .before .before .before .before .before .args .floats)) (c .before .before .before .before .before .before .before .before .before .before .before .before .before .before .before .pre .0 .0) (c .before .before .before .before .before .before .before .before .before .before .before .before .before .before .before .pre .1), c .before .before .before .before .if1 .left)), left-room (air (now (c .before .before .before .before .before .before .before .before .before .before .before .before .before .before .before .args .ids)) (now (c .before .before .before .before .before .before .before .before .before .before .before .before .before .before .before .args .mixtures)) (now (c .before .before .before .before .before .before .before .before .before .before .before .before .before .before .before .args .immutable)) (c .before .before .before .before .before .before .before .before .before .before .before .before .before .before .before .args .gases)) (c .before .before .before .before .before .before .before .before .before .before .before .before .before .before .before .args .s) (now (c .before .before .before .before .before .before .before .before .before .before .before .before .before .before .before .args .gas)) (now (c .before .before .before .before .before .before .before .before .before .before .before .before .before .before .before .args .events)) (now (c .before .before .before .before .before .before .before .before .before .before .before .before .before .before .before .args .words)) (now (c .before .before .before .before .before .before .before .before .before .before .before .before .before .before .before .args .floats)) (c .before .before .before .before .before .before .before .before .before .before .before .before .before .before .before .pre .0 .0) (c .before .before .before .before .before .before .before .before .before .before .before .before .before .before .before .pre .1)))
+back-to-requires c κs = let p = c .before .before .before .before .before .before .before .before .before .before .before .before .before .pre in points _ _ _ _ _ _ (p .0 .fit) (p .1) (p .0 .ground) (c .before .before .before .before .if1 .left)
 
--- src/lib.rt:125:1
 same-length : tie.Need-same-length
 same-length c = search needs
 
--- src/lib.rt:125:1
 same-length-2 : tie.Need-same-length-2
 same-length-2 c = search needs
 
--- src/lib.rt:125:1
 same-length-3 : tie.Need-same-length-3
 same-length-3 c = search needs
 
--- src/lib.rt:125:1
 same-length-4 : tie.Need-same-length-4
 same-length-4 c = search needs
 
--- src/lib.rt:125:1
 returns-2 : tie.Need-returns-2
-returns-2 c = (back-on (air (now (c .before .before .before .before .before .before .before .before .before .before .before .before .before .before .before .before .before .before .before .before .before .before .before .before .args .ids)) (now (c .before .before .before .before .before .before .before .before .before .before .before .before .before .before .before .before .before .before .before .before .before .before .before .before .args .mixtures)) (now (c .before .before .before .before .before .before .before .before .before .before .before .before .before .before .before .before .before .before .before .before .before .before .before .before .args .immutable)) (c .before .before .before .before .before .before .before .before .before .before .before .before .before .before .before .before .before .before .before .before .before .before .before .before .args .gases)) (c .before .before .before .before .before .before .before .before .before .before .before .before .before .before .before .before .before .before .before .before .before .before .before .before .args .s) (now (c .before .before .before .before .before .before .before .before .before .before .before .before .before .before .before .before .before .before .before .before .before .before .before .before .args .gas)) (now (c .before .before .before .before .before .before .before .before .before .before .before .before .before .before .before .before .before .before .before .before .before .before .before .before .args .events)) (now (c .before .before .before .before .before .before .before .before .before .before .before .before .before .before .before .before .before .before .before .before .before .before .before .before .args .words)) (now (c .before .before .before .before .before .before .before .before .before .before .before .before .before .before .before .before .before .before .before .before .before .before .before .before .args .floats)) (c .before .before .before .before .before .before .before .before .before .before .before .before .before .before .before .before .before .before .before .before .before .before .before .before .pre .0 .0) (c .before .before .before .before .before .before .before .before .before .before .before .before .before .before .before .before .before .before .before .before .before .before .before .before .pre .1) (c .before .before .before .before .before .before .before .before .before .before .before .before .before .if1 .left) (c .before .before .before .before .before .before .before .before .back-to .ensures .0), omega (arith, c .before .before .before .before .before .before .before .before .back-to .ensures .1, c .before .before .before .before .before .before .before .before .before .before .before .before .before .before .before .before .before .before .before .before .before .before .before .before .pre .1))
+returns-2 c =
+    let p = c .before .before .before .before .before .before .before .before .before .before .before .before .before .before .before .before .before .before .before .before .before .before .pre in
+    let if1 = c .before .before .before .before .before .before .before .before .before .before .before .before .before .if1 in
+    let back-to = c .before .before .before .before .before .before .before .before .back-to in
+    (back-on _ _ _ _ _ _ (p .0 .fit) (p .1) (if1 .left) (back-to .ensures .0), omega (arith, back-to .ensures .1, p .1))
 
 pub back-spec : {M : Type 1} → statement M
 back-spec =
     tie.close
     (tie.spec
+    element-copy-out-ids
     sub-left
     mul-row
     add-row
@@ -101,8 +85,8 @@ back-spec =
     mul-way-2
     slice-read-way
     returns
-    cast-back-to
-    sub-back-to
+    cast-d
+    sub-d
     back-to-requires
     same-length
     same-length-2

@@ -1,86 +1,82 @@
 -- The air is cleared, and the amounts are added as they stand. Assumes nothing.
-use Prim.Native.Nat.{ℕ}
-use mathlib.Core.Path.{refl, ap, sym, _∙_}
-use mathlib.Core.List.{List}
-use lib.ListN.{getD}
+use mathlib.Core.Path.{refl}
+use native.Mathlib.Omega.{arith}
 use denote.Ref.{now}
-use Rattle.mixture_rules.specs.Mixture.{clearAir}
+use lib.ListN.{length-set}
+use Rattle.mixture.proofs.Parts.{holds-of}
+use Rattle.turfs.specs.Tables.{boardAt}
 use borrow.Author.Needs.{needs}
 use Rattle.way_back.proofs.settle.Statement.{statement}
 use Rattle.way_back.proofs.settle.Tie as tie
-use Rattle.way_back.proofs.settle.Reads as reads
-use Rattle.way_back.proofs.settle.Lts as lts
-use Rattle.mixture.proofs.clear_air.Reads as clear-air-reads
-use Rattle.mixture.proofs.total.Reads as total-reads
 
--- src/lib.rt:51:47
+element-copy-out-mixtures : tie.Need-element-copy-out-mixtures
+element-copy-out-mixtures c = search needs
+
+element-copy-out-clear-air : tie.Need-element-copy-out-clear-air
+element-copy-out-clear-air c = search needs
+
 mul-clear-air : tie.Need-mul-clear-air
 mul-clear-air c = search needs
 
--- src/lib.rt:51:47
 shared-slice-read-clear-air : tie.Need-shared-slice-read-clear-air
 shared-slice-read-clear-air c = search needs
 
--- src/lib.rt:51:47
 cast-clear-air : tie.Need-cast-clear-air
-cast-clear-air c = search needs
+cast-clear-air c = let p = c .before .before .before .before .before .before .pre in omega (arith, p .ground .mixture _ (p .from), p .ground .small .mixtures)
 
--- src/lib.rt:51:5
 clear-air-requires : tie.Need-clear-air-requires
-clear-air-requires c κs = search needs
+clear-air-requires c κs =
+    let p = c .before .before .before .before .before .before .pre in
+    let mix = p .ground .mixture _ (p .from) in
+    (mix, holds-of (now (c .before .before .before .before .before .before .args .gas)) _ _ _ (p .count) mix)
 
--- src/lib.rt:52:9
 total-requires : tie.Need-total-requires
-total-requires c κs = search needs
+total-requires c κs =
+    let p = c .before .before .before .before .before .before .before .before .before .before .pre in
+    (rw (p .ground .mixtures) (p .to), rw (c .before .before .gas .given) (holds-of (now (c .before .before .before .before .before .before .before .before .before .before .args .gas)) _ _ _ (p .count) (p .ground .mixture _ (p .to))))
 
--- src/lib.rt:53:16
 mul-mine : tie.Need-mul-mine
 mul-mine c = search needs
 
--- src/lib.rt:53:16
 slice-read-mine : tie.Need-slice-read-mine
 slice-read-mine c = search needs
 
--- src/lib.rt:54:5
 mul-floats : tie.Need-mul-floats
 mul-floats c = search needs
 
--- src/lib.rt:54:5
 slice-write-floats : tie.Need-slice-write-floats
 slice-write-floats c = search needs
 
--- src/lib.rt:55:18
 mul-theirs : tie.Need-mul-theirs
 mul-theirs c = search needs
 
--- src/lib.rt:55:18
 slice-read-theirs : tie.Need-slice-read-theirs
-slice-read-theirs c = search needs
+slice-read-theirs c = let p = c .before .before .before .before .before .before .before .before .before .before .before .before .before .pre in simp length-set (omega (arith, p .to, p .floats))
 
--- src/lib.rt:56:5
 mul-floats-2 : tie.Need-mul-floats-2
 mul-floats-2 c = search needs
 
--- src/lib.rt:56:5
 slice-write-floats-2 : tie.Need-slice-write-floats-2
-slice-write-floats-2 c = search needs
+slice-write-floats-2 c = let p = c .before .before .before .before .before .before .before .before .before .before .before .before .before .pre in simp length-set (omega (arith, p .to, p .floats))
 
--- src/lib.rt:37:1
 same-length : tie.Need-same-length
 same-length c = search needs
 
--- src/lib.rt:37:1
 same-length-2 : tie.Need-same-length-2
 same-length-2 c = search needs
 
--- src/lib.rt:37:1
 returns : tie.Need-returns
-returns c = λ b m i g. record { cleared = c .before .before .before .before .before .before .clear-air .ensures b i g ∙ ap (λ (l : List ℕ). clearAir b (getD l (c .before .before .before .before .before .before .before .before .before .before .before .before .before .args .row) 0) (now (c .before .before .before .before .before .before .before .before .before .before .before .before .before .args .gas))) (sym m); sum = c .before .before .total .ensures b m g; mine = refl; theirs = refl; amounts = refl }
+returns c =
+    let args = c .before .before .before .before .before .before .before .before .before .before .before .before .before .args in
+    let b = boardAt (args .rows) (args .marks) (args .gases) in
+    record { cleared = c .before .before .before .before .before .before .clear-air .ensures b refl refl; sum = c .before .before .total .ensures b refl refl; mine = refl; theirs = refl; amounts = refl }
 
 pub settle-spec : {M : Type 1} → statement M
 settle-spec =
     tie.close
     (tie.spec
+    element-copy-out-mixtures
+    element-copy-out-clear-air
     mul-clear-air
     shared-slice-read-clear-air
     cast-clear-air

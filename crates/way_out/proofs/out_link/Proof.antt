@@ -2,76 +2,100 @@
 use native.Mathlib.Omega.{arith}
 use mathlib.Core.Path.{_∙_, sym, refl}
 use denote.Ref.{now}
-use lib.ListN.{length}
-use Rattle.index_set.proofs.Queue.{Below-at}
+use Rattle.board_rules.specs.Board.{turfCount}
+use Rattle.turfs.specs.Tables.{boardAt}
 use Rattle.way_out.proofs.Joins.{order-set, order-member, link-immutable, link-old, link-new}
 use borrow.Author.Needs.{needs}
 use Rattle.way_out.proofs.out_link.Statement.{statement}
 use Rattle.way_out.proofs.out_link.Tie as tie
-use Rattle.way_out.proofs.out_link.Reads as reads
-use Rattle.way_out.proofs.out_link.Lts as lts
-use Rattle.index_set.proofs.contains.Reads as contains-reads
-use Rattle.turfs.proofs.is_immutable.Reads as is-immutable-reads
-use Rattle.way_out.proofs.out_to.Reads as out-to-reads
 
--- src/lib.rt:66:13
+element-copy-out-ids : tie.Need-element-copy-out-ids
+element-copy-out-ids c = search needs
+
+element-copy-out-neighbours : tie.Need-element-copy-out-neighbours
+element-copy-out-neighbours c = search needs
+
 mul-a : tie.Need-mul-a
 mul-a c = search needs
 
--- src/lib.rt:66:13
 shared-slice-read-a : tie.Need-shared-slice-read-a
 shared-slice-read-a c = search needs
 
--- src/lib.rt:67:49
+element-copy-out-is-immutable : tie.Need-element-copy-out-is-immutable
+element-copy-out-is-immutable c = search needs
+
+element-copy-out-is-immutable-2 : tie.Need-element-copy-out-is-immutable-2
+element-copy-out-is-immutable-2 c = search needs
+
 cast-is-immutable : tie.Need-cast-is-immutable
-cast-is-immutable c = omega (arith, Below-at _ _ _ (c .before .before .before .before .before .before .before .pre .1 .1 .0) (c .before .before .before .before .before .before .before .pre .1 .1 .1))
+cast-is-immutable c = let p = c .before .before .before .before .before .before .before .pre in omega (arith, p .0 .ground .neighbour _ (p .1), p .0 .fit .small)
 
--- src/lib.rt:67:8
 is-immutable-requires : tie.Need-is-immutable-requires
-is-immutable-requires c κs = (rw (c .before .before .before .before .before .before .before .pre .0 .1 .mixtures) (Below-at _ _ _ (c .before .before .before .before .before .before .before .pre .1 .1 .0) (c .before .before .before .before .before .before .before .pre .1 .1 .1)), c .before .before .before .before .before .before .before .pre .0 .1 .mixture _ (Below-at _ _ _ (c .before .before .before .before .before .before .before .pre .1 .1 .0) (c .before .before .before .before .before .before .before .pre .1 .1 .1)))
+is-immutable-requires c κs =
+    let p = c .before .before .before .before .before .before .before .pre in
+    let below = p .0 .ground .neighbour _ (p .1) in
+    (rw (p .0 .ground .mixtures) below, p .0 .ground .mixture _ below)
 
--- src/lib.rt:68:9
 returns : tie.Need-returns
-returns c = link-immutable (now (c .before .before .before .before .before .before .before .before .before .args .ids)) (now (c .before .before .before .before .before .before .before .before .before .args .mixtures)) (now (c .before .before .before .before .before .before .before .before .before .args .immutable)) (now (c .before .before .before .before .before .before .before .before .before .args .near)) _ _ _ _ _ (c .before .before .before .before .before .before .before .before .before .pre .0 .0) (sym (c .if1 .taken) ∙ c .before .is-immutable .ensures _ refl refl)
+returns c = link-immutable _ _ _ _ _ _ (c .before .before .before .before .before .before .before .before .before .pre .0 .fit) (sym (c .if1 .taken) ∙ c .before .is-immutable .ensures _ refl refl)
 
--- src/lib.rt:71:41
 mul-contains : tie.Need-mul-contains
 mul-contains c = search needs
 
--- src/lib.rt:71:8
 contains-requires : tie.Need-contains-requires
-contains-requires c κs = (order-set _ _ _ _ (c .before .before .before .before .before .before .before .before .before .before .pre .0 .0), Below-at _ _ _ (c .before .before .before .before .before .before .before .before .before .before .pre .1 .1 .0) (c .before .before .before .before .before .before .before .before .before .before .pre .1 .1 .1))
+contains-requires c κs = let p = c .before .before .before .before .before .before .before .before .before .before .pre in (order-set _ _ _ _ (p .0 .fit), p .0 .ground .neighbour _ (p .1))
 
--- src/lib.rt:72:9
 same-length : tie.Need-same-length
 same-length c = search needs
 
--- src/lib.rt:72:9
 returns-2 : tie.Need-returns-2
-returns-2 c = link-old (now (c .before .before .before .before .before .before .before .before .before .before .before .before .args .ids)) (now (c .before .before .before .before .before .before .before .before .before .before .before .before .args .mixtures)) (now (c .before .before .before .before .before .before .before .before .before .before .before .before .args .immutable)) (now (c .before .before .before .before .before .before .before .before .before .before .before .before .args .near)) _ _ _ _ _ (c .before .before .before .before .before .before .before .before .before .before .before .before .pre .0 .0) (sym (c .before .before .before .if1 .left) ∙ c .before .before .before .before .is-immutable .ensures _ refl refl) (order-member (length (now (c .before .before .before .before .before .before .before .before .before .before .before .before .args .ids))) (c .before .before .before .before .before .before .before .before .before .before .before .before .args .s) (now (c .before .before .before .before .before .before .before .before .before .before .before .before .args .words)) _ _ (sym (c .if2 .taken) ∙ c .before .contains .ensures))
+returns-2 c =
+    let args = c .before .before .before .before .before .before .before .before .before .before .before .before .args in
+    let n = turfCount (boardAt (args .rows) (args .marks) 0) in
+    link-old _ _ _ _ _ _ (c .before .before .before .before .before .before .before .before .before .before .before .before .pre .0 .fit) (sym (c .before .before .before .if1 .left) ∙ c .before .before .before .before .is-immutable .ensures _ refl refl)
+    (order-member n (args .s) (now (args .words)) _ _ (sym (c .if2 .taken) ∙ c .before .contains .ensures))
 
--- src/lib.rt:74:5
 out-to-requires : tie.Need-out-to-requires
-out-to-requires c κs = ((c .before .before .before .before .before .before .before .before .before .before .before .before .before .before .pre .0 .0, (c .before .before .before .before .before .before .before .before .before .before .before .before .before .before .pre .1 .0, Below-at _ _ _ (c .before .before .before .before .before .before .before .before .before .before .before .before .before .before .pre .1 .1 .0) (c .before .before .before .before .before .before .before .before .before .before .before .before .before .before .pre .1 .1 .1))), sym (order-member (length (now (c .before .before .before .before .before .before .before .before .before .before .before .before .before .before .args .ids))) (c .before .before .before .before .before .before .before .before .before .before .before .before .before .before .args .s) (now (c .before .before .before .before .before .before .before .before .before .before .before .before .before .before .args .words)) _ _ (sym (c .before .before .if2 .left) ∙ c .before .before .before .contains .ensures)))
+out-to-requires c κs =
+    let p = c .before .before .before .before .before .before .before .before .before .before .before .before .before .before .pre in
+    let args = c .before .before .before .before .before .before .before .before .before .before .before .before .before .before .args in
+    let n = turfCount (boardAt (args .rows) (args .marks) 0) in
+    record {
+      fit = p .0 .fit;
+      from = p .0 .inside;
+      inside = p .0 .ground .neighbour _ (p .1);
+      new = sym (order-member n (args .s) (now (args .words)) _ _ (sym (c .before .before .if2 .left) ∙ c .before .before .before .contains .ensures));
+    }
 
--- src/lib.rt:50:1
 same-length-2 : tie.Need-same-length-2
 same-length-2 c = search needs
 
--- src/lib.rt:50:1
 same-length-3 : tie.Need-same-length-3
 same-length-3 c = search needs
 
--- src/lib.rt:50:1
 returns-3 : tie.Need-returns-3
-returns-3 c = link-new (now (c .before .before .before .before .before .before .before .before .before .before .before .before .before .before .before .before .before .before .before .args .ids)) (now (c .before .before .before .before .before .before .before .before .before .before .before .before .before .before .before .before .before .before .before .args .mixtures)) (now (c .before .before .before .before .before .before .before .before .before .before .before .before .before .before .before .before .before .before .before .args .immutable)) (now (c .before .before .before .before .before .before .before .before .before .before .before .before .before .before .before .before .before .before .before .args .near)) _ _ _ _ _ (c .before .before .before .before .before .before .before .before .before .before .before .before .before .before .before .before .before .before .before .pre .0 .0) (sym (c .before .before .before .before .before .before .before .before .before .before .if1 .left) ∙ c .before .before .before .before .before .before .before .before .before .before .before .is-immutable .ensures _ refl refl) (order-member (length (now (c .before .before .before .before .before .before .before .before .before .before .before .before .before .before .before .before .before .before .before .args .ids))) (c .before .before .before .before .before .before .before .before .before .before .before .before .before .before .before .before .before .before .before .args .s) (now (c .before .before .before .before .before .before .before .before .before .before .before .before .before .before .before .before .before .before .before .args .words)) _ _ (sym (c .before .before .before .before .before .before .before .if2 .left) ∙ c .before .before .before .before .before .before .before .before .contains .ensures)) (c .before .before .before .before .out-to .ensures)
+returns-3 c =
+    let args = c .before .before .before .before .before .before .before .before .before .before .before .before .before .before .before .before .before .before .before .args in
+    let pre = c .before .before .before .before .before .before .before .before .before .before .before .before .before .before .before .before .before .before .before .pre in
+    let if1 = c .before .before .before .before .before .before .before .before .before .before .if1 in
+    let is-immutable = c .before .before .before .before .before .before .before .before .before .before .before .is-immutable in
+    let if2 = c .before .before .before .before .before .before .before .if2 in
+    let contains = c .before .before .before .before .before .before .before .before .contains in
+    let out-to = c .before .before .before .before .out-to in
+    let n = turfCount (boardAt (args .rows) (args .marks) 0) in
+    link-new _ _ _ _ _ _ (pre .0 .fit) (sym (if1 .left) ∙ is-immutable .ensures _ refl refl)
+    (order-member n (args .s) (now (args .words)) _ _ (sym (if2 .left) ∙ contains .ensures)) (out-to .ensures)
 
 pub out-link-spec : {M : Type 1} → statement M
 out-link-spec =
     tie.close
     (tie.spec
+    element-copy-out-ids
+    element-copy-out-neighbours
     mul-a
     shared-slice-read-a
+    element-copy-out-is-immutable
+    element-copy-out-is-immutable-2
     cast-is-immutable
     is-immutable-requires
     returns

@@ -1,58 +1,62 @@
--- A loop over the part: what is left of it, and each turn one link. Assumes nothing.
+-- A loop over the turf's links: what is left of them, and each turn one link. Assumes nothing.
 use borrow.Author.Needs.{needs}
-use Prim.Native.Nat.{_≤_, _-_}
+use Prim.Native.Nat.{_-_}
 use native.Mathlib.Omega.{arith}
-use lib.ListN.{length}
 use Rattle.basics.specs.Loops.{run, upFrom}
 use Rattle.basics.proofs.Loops.{run-up, run-up-end}
+use Rattle.board_rules.specs.Board.{turfCount, linksOf}
+use Rattle.turfs.specs.Tables.{boardOf}
 use Rattle.walks.proofs.Does.{Going, going-start, going-next, going-end}
-use Rattle.walks.proofs.LinkParts.{run-start}
+use Rattle.walks.proofs.LinksOf.{links-run, links-end}
 use Rattle.out_rules.specs.Out.{outLink}
-use Rattle.way_out.specs.Outed.{at, outing, shore}
+use Rattle.way_out.specs.Outed.{at, outing}
 use Rattle.way_out.proofs.Joins.{written-room, kept-words, kept-area}
 use Rattle.way_out.proofs.out_links.Statement.{statement}
 use Rattle.way_out.proofs.out_links.Tie as tie
-use Rattle.way_out.proofs.out_links.Reads as reads
-use Rattle.way_out.proofs.out_links.Lts as lts
-use Rattle.way_out.proofs.out_link.Reads as out-link-reads
 
 abbrev Inv-loop : tie.InvT-loop
-Inv-loop ids mixtures immutable near row events₀ words₀ t₀ i₀ events words t i = (i ≤ length near) × Going (outing (length ids)) (run (outLink (shore ids mixtures near immutable) row) (upFrom i (length near - i))) (run (outLink (shore ids mixtures near immutable) row) (upFrom 0 (length near))) (at t₀ words₀ events₀) (at t words events)
+Inv-loop row rows marks words₀ events₀ to t₀ k₀ words events t k =
+    let b = boardOf rows marks 0 in
+    Going (outing (turfCount b)) (run (outLink b row) (upFrom k (to - k))) (run (outLink b row) (linksOf b row)) (at t₀ words₀ events₀) (at t words events)
 
 abbrev μ-loop : tie.MeasureT-loop
-μ-loop ids mixtures immutable near row events₀ words₀ t₀ i₀ events words t i = length near - i
+μ-loop row rows marks words₀ events₀ to t₀ k₀ words events t k = to - k
 
--- src/lib.rt:94:5
+element-copy-out-links-of : tie.Need-element-copy-out-links-of Inv-loop μ-loop
+element-copy-out-links-of c = search needs
+
+links-of-requires : tie.Need-links-of-requires Inv-loop μ-loop
+links-of-requires c κs = let p = c .before .before .before .pre in omega (arith, p .inside, p .ground .parts .count)
+
 loop-holds : tie.Need-loop-holds Inv-loop μ-loop
-loop-holds c = (omega arith, going-start (outing _) (c .before .before .before .before .before .before .pre .0 .0) (written-room _ _ (c .before .before .before .before .before .before .pre .0 .0)) (λ v. run-start _ _ v))
+loop-holds c =
+    let p = c .before .before .before .before .pre in
+    let l = c .links-of .ensures in
+    going-start (outing _) (p .fit) (written-room _ _ (p .fit)) (λ v. links-run _ _ _ _ (l .0) (l .1) _ v)
 
--- src/lib.rt:95:9
 out-link-requires : tie.Need-out-link-requires Inv-loop μ-loop
-out-link-requires c κs = ((c .before .before .before .loop .inv .1 .fit, c .before .before .before .before .before .before .before .before .before .before .pre .0 .1), (c .before .before .before .before .before .before .before .before .before .before .pre .1 .0, (c .before .before .before .before .before .before .before .before .before .before .pre .1 .1, c .before .before .loop-test .taken)))
+out-link-requires c κs =
+    let p = c .before .before .before .before .before .before .before .before .pre in
+    let l = c .before .before .before .before .links-of .ensures in
+    (record { ground = p .ground; fit = c .before .before .before .loop .inv .fit; inside = p .inside }, omega (arith, links-end _ _ _ _ (l .0) (l .1) (p .ground) (p .inside), c .before .before .loop-test .taken))
 
--- src/lib.rt:96:9
-add-i : tie.Need-add-i Inv-loop μ-loop
-add-i c = search needs
+add-k : tie.Need-add-k Inv-loop μ-loop
+add-k c = search needs
 
--- src/lib.rt:94:5
 loop-less : tie.Need-loop-less Inv-loop μ-loop
 loop-less c = search needs
 
--- src/lib.rt:94:5
 loop-again : tie.Need-loop-again Inv-loop μ-loop
-loop-again c = (omega arith, going-next (outing _) _ _ (c .before .before .before .before .before .before .before .before .loop .inv .1) (c .before .before .before .before .out-link .ensures) (λ es. run-up _ _ _ _ (c .before .before .before .before .before .before .before .loop-test .taken)))
+loop-again c = going-next (outing _) _ _ (c .before .before .before .before .before .before .before .before .loop .inv) (c .before .before .before .before .out-link .ensures) (λ es. run-up _ _ _ _ (c .before .before .before .before .before .before .before .loop-test .taken))
 
--- src/lib.rt:78:1
 same-length : tie.Need-same-length Inv-loop μ-loop
-same-length c = kept-area (c .before .loop .inv .1)
+same-length c = kept-words (c .before .loop .inv)
 
--- src/lib.rt:78:1
 same-length-2 : tie.Need-same-length-2 Inv-loop μ-loop
-same-length-2 c = kept-words (c .before .loop .inv .1)
+same-length-2 c = kept-area (c .before .loop .inv)
 
--- src/lib.rt:78:1
 returns : tie.Need-returns Inv-loop μ-loop
-returns c = going-end (outing _) (c .before .loop .inv .1) (λ es. run-up-end _ _ _ _ (c .loop-test .left))
+returns c = going-end (outing _) (c .before .loop .inv) (λ es. run-up-end _ _ _ _ (c .loop-test .left))
 
 pub out-links-spec : {M : Type 1} → statement M
 out-links-spec =
@@ -60,9 +64,11 @@ out-links-spec =
     (tie.spec
     Inv-loop
     μ-loop
+    element-copy-out-links-of
+    links-of-requires
     loop-holds
     out-link-requires
-    add-i
+    add-k
     loop-less
     loop-again
     same-length

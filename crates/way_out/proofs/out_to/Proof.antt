@@ -1,109 +1,89 @@
 -- The stores are a join. Assumes nothing.
 use native.Mathlib.Omega.{arith}
 use lib.ListN.{length-set}
-use denote.Ref.{now}
+use Rattle.events.proofs.Areas.{one-added}
 use Rattle.way_out.proofs.Joins.{count-less, target-room, does-join}
 use borrow.Author.Needs.{needs}
-use Rattle.events.proofs.Areas.{one-added}
 use Rattle.way_out.proofs.out_to.Statement.{statement}
 use Rattle.way_out.proofs.out_to.Tie as tie
-use Rattle.way_out.proofs.out_to.Reads as reads
-use Rattle.way_out.proofs.out_to.Lts as lts
-use Rattle.events.proofs.append.Reads as append-reads
-use Rattle.index_set.proofs.insert.Reads as insert-reads
 
--- src/lib.rt:30:35
+element-copy-out-ids : tie.Need-element-copy-out-ids
+element-copy-out-ids c = search needs
+
 mul-insert : tie.Need-mul-insert
 mul-insert c = search needs
 
--- src/lib.rt:30:5
 insert-requires : tie.Need-insert-requires
-insert-requires c κs = (omega (arith, count-less (now (c .before .before .before .before .args .ids)) (c .before .before .before .before .args .row) (c .before .before .before .before .args .a) (c .before .before .before .before .args .s) (now (c .before .before .before .before .args .words)) (now (c .before .before .before .before .args .events)) (c .before .before .before .before .pre .0 .0) (c .before .before .before .before .pre .0 .1 .0) (c .before .before .before .before .pre .0 .1 .1) (c .before .before .before .before .pre .1), c .before .before .before .before .pre .0 .0 .words), (omega (arith, c .before .before .before .before .pre .0 .0 .words, c .before .before .before .before .pre .0 .1 .1), omega (arith, count-less (now (c .before .before .before .before .args .ids)) (c .before .before .before .before .args .row) (c .before .before .before .before .args .a) (c .before .before .before .before .args .s) (now (c .before .before .before .before .args .words)) (now (c .before .before .before .before .args .events)) (c .before .before .before .before .pre .0 .0) (c .before .before .before .before .pre .0 .1 .0) (c .before .before .before .before .pre .0 .1 .1) (c .before .before .before .before .pre .1), c .before .before .before .before .pre .0 .0 .small)))
+insert-requires c κs =
+    let p = c .before .before .before .before .pre in
+    let less = count-less _ _ _ _ _ _ p in
+    (omega (arith, less, p .fit .words), (omega (arith, p .fit .words, p .inside), omega (arith, less, p .fit .small)))
 
--- src/lib.rt:31:25
 add-words : tie.Need-add-words
 add-words c = search needs
 
--- src/lib.rt:31:11
 mul-words : tie.Need-mul-words
 mul-words c = search needs
 
--- src/lib.rt:31:11
 add-words-2 : tie.Need-add-words-2
 add-words-2 c = search needs
 
--- src/lib.rt:31:5
 mul-words-2 : tie.Need-mul-words-2
 mul-words-2 c = search needs
 
--- src/lib.rt:31:5
 slice-write-words : tie.Need-slice-write-words
 slice-write-words c = search needs
 
--- src/lib.rt:32:24
 mul-target : tie.Need-mul-target
 mul-target c = search needs
 
--- src/lib.rt:32:24
 add-target : tie.Need-add-target
 add-target c = search needs
 
--- src/lib.rt:32:18
 mul-target-2 : tie.Need-mul-target-2
 mul-target-2 c = search needs
 
--- src/lib.rt:32:18
 slice-read-target : tie.Need-slice-read-target
-slice-read-target c = simp length-set (omega (arith, c .before .before .before .before .before .before .before .before .pre .0 .0 .words, c .before .before .before .before .before .before .before .before .pre .0 .1 .0))
+slice-read-target c = let p = c .before .before .before .before .before .before .before .before .pre in simp length-set (omega (arith, p .fit .words, p .from))
 
--- src/lib.rt:33:11
 mul-words-3 : tie.Need-mul-words-3
 mul-words-3 c = search needs
 
--- src/lib.rt:33:11
 add-words-3 : tie.Need-add-words-3
 add-words-3 c = search needs
 
--- src/lib.rt:33:5
 mul-words-4 : tie.Need-mul-words-4
 mul-words-4 c = search needs
 
--- src/lib.rt:33:5
 slice-write-words-2 : tie.Need-slice-write-words-2
-slice-write-words-2 c = simp length-set (omega (arith, c .before .before .before .before .before .before .before .before .pre .0 .0 .words, c .before .before .before .before .before .before .before .before .pre .0 .1 .1))
+slice-write-words-2 c = let p = c .before .before .before .before .before .before .before .before .pre in simp length-set (omega (arith, p .fit .words, p .inside))
 
--- src/lib.rt:38:17
-mul-t16 : tie.Need-mul-t16
-mul-t16 c = search needs
+mul-id : tie.Need-mul-id
+mul-id c = search needs
 
--- src/lib.rt:38:17
-shared-slice-read-t15 : tie.Need-shared-slice-read-t15
-shared-slice-read-t15 c = search needs
+shared-slice-read-id : tie.Need-shared-slice-read-id
+shared-slice-read-id c = search needs
 
--- src/lib.rt:34:9
 append-requires : tie.Need-append-requires
-append-requires c κs = (tt, target-room (now (c .before .before .before .before .before .before .before .before .before .before .args .ids)) (c .before .before .before .before .before .before .before .before .before .before .args .row) (c .before .before .before .before .before .before .before .before .before .before .args .a) (c .before .before .before .before .before .before .before .before .before .before .args .s) (now (c .before .before .before .before .before .before .before .before .before .before .args .words)) (now (c .before .before .before .before .before .before .before .before .before .before .args .events)) (c .before .before .before .before .before .before .before .before .before .before .pre .0 .0) (c .before .before .before .before .before .before .before .before .before .before .pre .0 .1 .0) (c .before .before .before .before .before .before .before .before .before .before .pre .0 .1 .1) (c .before .before .before .before .before .before .before .before .before .before .pre .1))
+append-requires c κs = (tt, target-room _ _ _ _ _ _ (c .before .before .before .before .before .before .before .before .before .before .pre))
 
--- src/lib.rt:43:16
-add-t17 : tie.Need-add-t17
-add-t17 c = search needs
+add-t23 : tie.Need-add-t23
+add-t23 c = search needs
 
--- src/lib.rt:23:1
 same-length : tie.Need-same-length
 same-length c = search needs
 
--- src/lib.rt:23:1
 same-length-2 : tie.Need-same-length-2
 same-length-2 c = search needs
 
--- src/lib.rt:23:1
 returns : tie.Need-returns
-returns c = does-join (now (c .before .before .before .before .before .before .before .before .before .before .before .before .before .before .args .ids)) (c .before .before .before .before .before .before .before .before .before .before .before .before .before .before .args .row) (c .before .before .before .before .before .before .before .before .before .before .before .before .before .before .args .a) (c .before .before .before .before .before .before .before .before .before .before .before .before .before .before .args .s) (now (c .before .before .before .before .before .before .before .before .before .before .before .before .before .before .args .words)) (now (c .before .before .before .before .before .before .before .before .before .before .before .before .before .before .args .events)) (c .before .before .before .before .before .before .before .before .before .before .before .before .before .before .pre .0 .0) (c .before .before .before .before .before .before .before .before .before .before .before .before .before .before .pre .0 .1 .0) (c .before .before .before .before .before .before .before .before .before .before .before .before .before .before .pre .0 .1 .1) (c .before .before .before .before .before .before .before .before .before .before .before .before .before .before .pre .1) _ (c .before .before .before .before .before .before .before .before .before .insert .ensures) _ _ (one-added _ (c .before .before .before .append .ensures))
+returns c = does-join _ _ _ _ _ _ (c .before .before .before .before .before .before .before .before .before .before .before .before .before .before .pre) _ (c .before .before .before .before .before .before .before .before .before .insert .ensures) _ _ (one-added _ (c .before .before .before .append .ensures))
 
 pub out-to-spec : {M : Type 1} → statement M
 out-to-spec =
     tie.close
     (tie.spec
+    element-copy-out-ids
     mul-insert
     insert-requires
     add-words
@@ -119,10 +99,10 @@ out-to-spec =
     add-words-3
     mul-words-4
     slice-write-words-2
-    mul-t16
-    shared-slice-read-t15
+    mul-id
+    shared-slice-read-id
     append-requires
-    add-t17
+    add-t23
     same-length
     same-length-2
     returns)

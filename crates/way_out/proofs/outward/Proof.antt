@@ -1,18 +1,12 @@
 -- The arrays are made ready, and then the order is walked. Assumes nothing.
-use native.Mathlib.Omega.{arith}
 use mathlib.Core.Path.{refl}
-use denote.Ref.{now}
-use lib.ListN.{length}
-use Rattle.way_out.specs.Outed.{coast}
-use Rattle.way_out.proofs.Owns.{order-kept, start-fit, outed, cleared-ways, cleared-targets}
+use Rattle.way_out.proofs.Owns.{listed, start-passing, outed}
 use borrow.Author.Needs.{needs}
 use Rattle.way_out.proofs.outward.Statement.{statement}
 use Rattle.way_out.proofs.outward.Tie as tie
-use Rattle.way_out.proofs.outward.Reads as reads
-use Rattle.way_out.proofs.outward.Lts as lts
-use Rattle.basics.proofs.clear_part.Reads as clear-part-reads
-use Rattle.way_out.proofs.out_rows.Reads as out-rows-reads
-use Rattle.way_out.proofs.own_targets.Reads as own-targets-reads
+
+element-copy-out-ids : tie.Need-element-copy-out-ids
+element-copy-out-ids c = search needs
 
 mul-clear-part : tie.Need-mul-clear-part
 mul-clear-part c = search needs
@@ -27,10 +21,15 @@ clear-part-requires-2 : tie.Need-clear-part-requires-2
 clear-part-requires-2 c κs = search needs
 
 own-targets-requires : tie.Need-own-targets-requires
-own-targets-requires c κs = ((c .before .before .before .before .before .before .before .before .before .before .before .before .before .before .before .before .pre .0 .1 .0, (omega (arith, c .before .before .before .before .before .before .before .before .before .before .before .before .before .before .before .before .pre .0 .1 .1), c .before .before .before .before .before .before .before .before .before .before .before .before .before .before .before .before .pre .1 .0 .1 .0)), rw (order-kept (length (now (c .before .before .before .before .before .before .before .before .before .before .before .before .before .before .before .before .args .ids))) (now (c .before .before .before .before .before .before .before .before .before .before .before .before .before .before .before .before .args .words)) _ _ (cleared-ways (length (now (c .before .before .before .before .before .before .before .before .before .before .before .before .before .before .before .before .args .ids))) (now (c .before .before .before .before .before .before .before .before .before .before .before .before .before .before .before .before .args .words)) (c .before .before .before .before .before .before .before .before .before .before .before .before .before .before .before .before .pre .0 .1 .1) (c .before .before .before .before .before .before .before .clear-part .ensures)) (cleared-targets (length (now (c .before .before .before .before .before .before .before .before .before .before .before .before .before .before .before .before .args .ids))) (now (c .before .before .before .before .before .before .before .before .before .before .before .before .before .before .before .before .args .words)) (c .before .before .before .before .before .before .before .before .before .before .before .before .before .before .before .before .pre .0 .1 .1) (c .before .before .before .before .before .before .before .clear-part .ensures) (c .before .before .before .clear-part2 .ensures))) (c .before .before .before .before .before .before .before .before .before .before .before .before .before .before .before .before .pre .1 .1))
+own-targets-requires c κs = listed _ _ _ _ _ _ _ (c .before .before .before .before .before .before .before .before .before .before .before .before .pre) (c .before .before .before .before .before .before .before .clear-part .ensures) (c .before .before .before .clear-part2 .ensures)
 
 out-rows-requires : tie.Need-out-rows-requires
-out-rows-requires c κs = ((start-fit (coast (now (c .before .before .before .before .before .before .before .before .before .before .before .before .before .before .before .before .before .before .before .before .before .args .ids)) (now (c .before .before .before .before .before .before .before .before .before .before .before .before .before .before .before .before .before .before .before .before .before .args .mixtures)) (now (c .before .before .before .before .before .before .before .before .before .before .before .before .before .before .before .before .before .before .before .before .before .args .starts)) (now (c .before .before .before .before .before .before .before .before .before .before .before .before .before .before .before .before .before .before .before .before .before .args .neighbours)) (now (c .before .before .before .before .before .before .before .before .before .before .before .before .before .before .before .before .before .before .before .before .before .args .immutable))) (c .before .before .before .before .before .before .before .before .before .before .before .before .before .before .before .before .before .before .before .before .before .args .limit) (c .before .before .before .before .before .before .before .before .before .before .before .before .before .before .before .before .before .before .before .before .before .args .spaces) (c .before .before .before .before .before .before .before .before .before .before .before .before .before .before .before .before .before .before .before .before .before .args .used) (now (c .before .before .before .before .before .before .before .before .before .before .before .before .before .before .before .before .before .before .before .before .before .args .words)) _ _ _ (now (c .before .before .before .before .before .before .before .before .before .before .before .before .before .before .before .before .before .before .before .before .before .args .events)) (c .before .before .before .before .before .before .before .before .before .before .before .before .before .before .before .before .before .before .before .before .before .pre .0 .1 .0) (c .before .before .before .before .before .before .before .before .before .before .before .before .before .before .before .before .before .before .before .before .before .pre .0 .1 .1) (c .before .before .before .before .before .before .before .before .before .before .before .before .before .before .before .before .before .before .before .before .before .pre .1 .0 .0) (c .before .before .before .before .before .before .before .before .before .before .before .before .before .before .before .before .before .before .before .before .before .pre .1 .0 .1 .1) (cleared-ways (length (now (c .before .before .before .before .before .before .before .before .before .before .before .before .before .before .before .before .before .before .before .before .before .args .ids))) (now (c .before .before .before .before .before .before .before .before .before .before .before .before .before .before .before .before .before .before .before .before .before .args .words)) (c .before .before .before .before .before .before .before .before .before .before .before .before .before .before .before .before .before .before .before .before .before .pre .0 .1 .1) (c .before .before .before .before .before .before .before .before .before .before .before .before .clear-part .ensures)) (cleared-targets (length (now (c .before .before .before .before .before .before .before .before .before .before .before .before .before .before .before .before .before .before .before .before .before .args .ids))) (now (c .before .before .before .before .before .before .before .before .before .before .before .before .before .before .before .before .before .before .before .before .before .args .words)) (c .before .before .before .before .before .before .before .before .before .before .before .before .before .before .before .before .before .before .before .before .before .pre .0 .1 .1) (c .before .before .before .before .before .before .before .before .before .before .before .before .clear-part .ensures) (c .before .before .before .before .before .before .before .before .clear-part2 .ensures)) (omega arith) (omega arith) (c .before .before .before .before .own-targets .ensures), c .before .before .before .before .before .before .before .before .before .before .before .before .before .before .before .before .before .before .before .before .before .pre .0 .0), refl)
+out-rows-requires c κs =
+    let pre = c .before .before .before .before .before .before .before .before .before .before .before .before .before .before .before .before .before .pre in
+    let clear-part = c .before .before .before .before .before .before .before .before .before .before .before .before .clear-part in
+    let clear-part2 = c .before .before .before .before .before .before .before .before .clear-part2 in
+    let own-targets = c .before .before .before .before .own-targets in
+    (start-passing _ _ _ _ _ _ _ pre (clear-part .ensures) (clear-part2 .ensures) _ (own-targets .ensures), refl)
 
 same-length : tie.Need-same-length
 same-length c = search needs
@@ -39,12 +38,19 @@ same-length-2 : tie.Need-same-length-2
 same-length-2 c = search needs
 
 returns : tie.Need-returns
-returns c = outed (coast (now (c .before .before .before .before .before .before .before .before .before .before .before .before .before .before .before .before .before .before .before .before .before .before .before .before .before .before .args .ids)) (now (c .before .before .before .before .before .before .before .before .before .before .before .before .before .before .before .before .before .before .before .before .before .before .before .before .before .before .args .mixtures)) (now (c .before .before .before .before .before .before .before .before .before .before .before .before .before .before .before .before .before .before .before .before .before .before .before .before .before .before .args .starts)) (now (c .before .before .before .before .before .before .before .before .before .before .before .before .before .before .before .before .before .before .before .before .before .before .before .before .before .before .args .neighbours)) (now (c .before .before .before .before .before .before .before .before .before .before .before .before .before .before .before .before .before .before .before .before .before .before .before .before .before .before .args .immutable))) (c .before .before .before .before .before .before .before .before .before .before .before .before .before .before .before .before .before .before .before .before .before .before .before .before .before .before .args .limit) (c .before .before .before .before .before .before .before .before .before .before .before .before .before .before .before .before .before .before .before .before .before .before .before .before .before .before .args .spaces) (c .before .before .before .before .before .before .before .before .before .before .before .before .before .before .before .before .before .before .before .before .before .before .before .before .before .before .args .used) (now (c .before .before .before .before .before .before .before .before .before .before .before .before .before .before .before .before .before .before .before .before .before .before .before .before .before .before .args .words)) _ _ _ (now (c .before .before .before .before .before .before .before .before .before .before .before .before .before .before .before .before .before .before .before .before .before .before .before .before .before .before .args .events)) (c .before .before .before .before .before .before .before .before .before .before .before .before .before .before .before .before .before .before .before .before .before .before .before .before .before .before .pre .0 .1 .0) (c .before .before .before .before .before .before .before .before .before .before .before .before .before .before .before .before .before .before .before .before .before .before .before .before .before .before .pre .0 .1 .1) (c .before .before .before .before .before .before .before .before .before .before .before .before .before .before .before .before .before .before .before .before .before .before .before .before .before .before .pre .1 .0 .0) (c .before .before .before .before .before .before .before .before .before .before .before .before .before .before .before .before .before .before .before .before .before .before .before .before .before .before .pre .1 .0 .1 .1) (cleared-ways (length (now (c .before .before .before .before .before .before .before .before .before .before .before .before .before .before .before .before .before .before .before .before .before .before .before .before .before .before .args .ids))) (now (c .before .before .before .before .before .before .before .before .before .before .before .before .before .before .before .before .before .before .before .before .before .before .before .before .before .before .args .words)) (c .before .before .before .before .before .before .before .before .before .before .before .before .before .before .before .before .before .before .before .before .before .before .before .before .before .before .pre .0 .1 .1) (c .before .before .before .before .before .before .before .before .before .before .before .before .before .before .before .before .before .clear-part .ensures)) (cleared-targets (length (now (c .before .before .before .before .before .before .before .before .before .before .before .before .before .before .before .before .before .before .before .before .before .before .before .before .before .before .args .ids))) (now (c .before .before .before .before .before .before .before .before .before .before .before .before .before .before .before .before .before .before .before .before .before .before .before .before .before .before .args .words)) (c .before .before .before .before .before .before .before .before .before .before .before .before .before .before .before .before .before .before .before .before .before .before .before .before .before .before .pre .0 .1 .1) (c .before .before .before .before .before .before .before .before .before .before .before .before .before .before .before .before .before .clear-part .ensures) (c .before .before .before .before .before .before .before .before .before .before .before .before .before .clear-part2 .ensures)) (omega arith) (omega arith) (c .before .before .before .before .before .before .before .before .before .own-targets .ensures) (c .before .before .before .before .out-rows .ensures)
+returns c =
+    let pre = c .before .before .before .before .before .before .before .before .before .before .before .before .before .before .before .before .before .before .before .before .before .before .pre in
+    let clear-part = c .before .before .before .before .before .before .before .before .before .before .before .before .before .before .before .before .before .clear-part in
+    let clear-part2 = c .before .before .before .before .before .before .before .before .before .before .before .before .before .clear-part2 in
+    let own-targets = c .before .before .before .before .before .before .before .before .before .own-targets in
+    let out-rows = c .before .before .before .before .out-rows in
+    outed _ _ _ _ _ _ _ pre (clear-part .ensures) (clear-part2 .ensures) _ (own-targets .ensures) (out-rows .ensures)
 
 pub outward-spec : {M : Type 1} → statement M
 outward-spec =
     tie.close
     (tie.spec
+    element-copy-out-ids
     mul-clear-part
     clear-part-requires
     mul-clear-part-2

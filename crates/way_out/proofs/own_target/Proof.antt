@@ -4,74 +4,55 @@ use lib.ListN.{length-set}
 use borrow.Author.Needs.{needs}
 use Rattle.way_out.proofs.own_target.Statement.{statement}
 use Rattle.way_out.proofs.own_target.Tie as tie
-use Rattle.way_out.proofs.own_target.Reads as reads
-use Rattle.way_out.proofs.own_target.Lts as lts
 
--- src/lib.rt:191:21
 mul-row : tie.Need-mul-row
 mul-row c = search needs
 
--- src/lib.rt:191:21
 add-row : tie.Need-add-row
 add-row c = search needs
 
--- src/lib.rt:191:15
 mul-row-2 : tie.Need-mul-row-2
 mul-row-2 c = search needs
 
--- src/lib.rt:191:15
 slice-read-row : tie.Need-slice-read-row
 slice-read-row c = search needs
 
--- src/lib.rt:191:15
 cast-row : tie.Need-cast-row
 cast-row c = search needs
 
--- src/lib.rt:192:22
 cast-words : tie.Need-cast-words
 cast-words c = search needs
 
--- src/lib.rt:192:11
 add-words : tie.Need-add-words
 add-words c = search needs
 
--- src/lib.rt:192:5
 mul-words : tie.Need-mul-words
 mul-words c = search needs
 
--- src/lib.rt:192:5
 slice-write-words : tie.Need-slice-write-words
 slice-write-words c = search needs
 
--- src/lib.rt:193:26
 mul-words-2 : tie.Need-mul-words-2
 mul-words-2 c = search needs
 
--- src/lib.rt:193:26
 shared-slice-read-words : tie.Need-shared-slice-read-words
 shared-slice-read-words c = search needs
 
--- src/lib.rt:193:11
 mul-words-3 : tie.Need-mul-words-3
 mul-words-3 c = search needs
 
--- src/lib.rt:193:11
 add-words-2 : tie.Need-add-words-2
 add-words-2 c = search needs
 
--- src/lib.rt:193:5
 mul-words-4 : tie.Need-mul-words-4
 mul-words-4 c = search needs
 
--- src/lib.rt:193:5
 slice-write-words-2 : tie.Need-slice-write-words-2
-slice-write-words-2 c = simp length-set (omega (arith, c .before .before .pre .0, c .before .before .pre .1))
+slice-write-words-2 c = let p = c .before .before .pre in simp length-set (omega (arith, p .words, p .row))
 
--- src/lib.rt:185:1
 same-length : tie.Need-same-length
 same-length c = search needs
 
--- src/lib.rt:185:1
 returns : tie.Need-returns
 returns c = search needs
 

@@ -3,27 +3,34 @@ use mathlib.Core.List.{List, [], _∷_}
 use mathlib.Core.Bool.{Bool}
 use Prim.Native.Nat.{ℕ}
 use lib.Dec.{T}
-use lib.Ieee.{Float, add, sub, sum as isum, mul, div, neg, round, size, span, climb, units, odd, ofInt, ofBits, ofFields, toBits, lt, le, eq, ne}
+use lib.Ieee.{add, sub, sum as isum, mul, div, neg, round, size, span, climb, units, odd, ofInt, ofBits, ofFields, toBits, lt, le, eq, ne}
 use Rattle.basics.specs.Loops.{run, times, every, allOf, member, first, same, upFrom}
 use Rattle.basics.specs.Floats.{finiteSignClear, bits, whole}
 use Rattle.board_rules.specs.Board.{Board, enabled, planetary, immutable, firelock, linksOf, rowOf}
 use Rattle.board_rules.specs.Refuse.{pairwise, distinct, sizesFit, tablesFit, rowFits, linksFit}
-use Rattle.board_rules.specs.Draw.{Turf, to, lock, turf, planet, space, startsFrom, allWays, draw, lockedPair, lockedChain, twenty, asIs}
+use Rattle.board_rules.specs.Draw.{Turf, to, lock, turf, planet, space, startsFrom, allWays, draw, lockedChain, twenty, asIs}
 use Rattle.mixture_rules.specs.Mixture.{amountFits}
 use Rattle.event_rules.specs.Events.{kindOf, fieldsOf, wordsBytes, encode, encodeAll}
 use Rattle.event_rules.specs.declared.Event.{Event}
 use Rattle.event_rules.specs.declared.Event.the-variants.{Firelock}
 use Rattle.lent_rules.specs.Lent.{wordsRoom, floatsRoom, firstFailed, refusal, after}
-use Rattle.lent_rules.specs.Worked.{lend, left}
+use Rattle.lent_rules.specs.Worked.{lend, left, unchanged, lessArea}
 use Rattle.walk_rules.specs.Walk.{walkLink, spread, walkNext, walk}
 use Rattle.walk_rules.specs.Visit.{visitPlanet}
-use Rattle.planet_walk.specs.Planet.{planetFrom, planetWalk, planetRoom, planetNumber, planetDone, planetResult}
+use Rattle.planet_rules.specs.Planet.{planetFrom, planetWalk, planetRoom, planetNumber, planetDone, planetResult}
 
 -- limit, id, gas; then the bytes and the events
 unfoldable pub walksPlanet : Board → ℕ → ℕ → List ℕ → ℕ → List Event → Bool
 walksPlanet b limit id gas bytes es =
     let o = planetResult b limit id (lend b (planetRoom b) (whole gas)) in
     allOf (same (o .answer .number ∷ o .answer .bytes ∷ []) (0 ∷ bytes ∷ []) ∷ left b (planetRoom b) (whole gas) es (o .lent) ∷ [])
+
+-- a call whose area is one byte short: the number, and every lent cell as it was
+unfoldable pub refusesPlanet : Board → List ℕ → ℕ → Bool
+refusesPlanet b gas number =
+    let l = lessArea 4 (lend b (planetRoom b) (whole gas)) in
+    let o = planetResult b 10 10 l in
+    allOf (same (o .answer .number ∷ o .answer .bytes ∷ []) (number ∷ 0 ∷ []) ∷ unchanged l (o .lent) ∷ [])
 
 -- 10 planetary; firelocks from 10 to 20 and 30, and from 30 to 40
 abbrev pub fork : (Turf → Turf) → Board
@@ -41,8 +48,10 @@ pub worked : T (allOf (
     -- the limit, and an unknown id
     ∷ walksPlanet (fork asIs) 2 10 (1 ∷ 2 ∷ 3 ∷ 4 ∷ []) 24 (Firelock 10 20 ∷ Firelock 10 30 ∷ [])
     ∷ walksPlanet (fork asIs) 10 11 (1 ∷ 2 ∷ 3 ∷ 4 ∷ []) 0 []
+    -- a refusal answers its number
+    ∷ refusesPlanet (fork asIs) (1 ∷ 2 ∷ 3 ∷ 4 ∷ []) 7
     ∷ []))
-unfolding walksPlanet lend left run times every allOf member first same upFrom finiteSignClear bits whole enabled planetary immutable firelock linksOf rowOf pairwise distinct sizesFit tablesFit rowFits linksFit startsFrom allWays draw amountFits
+unfolding walksPlanet refusesPlanet lend left unchanged run times every allOf member first same upFrom finiteSignClear bits whole enabled planetary immutable firelock linksOf rowOf pairwise distinct sizesFit tablesFit rowFits linksFit startsFrom allWays draw amountFits
     kindOf fieldsOf wordsBytes encode encodeAll wordsRoom floatsRoom firstFailed refusal after walkLink spread walkNext walk visitPlanet planetFrom planetWalk planetNumber planetDone planetResult
     add sub isum mul div neg round size span climb units odd ofInt ofBits ofFields toBits lt le eq ne
 worked = tt

@@ -1,6 +1,5 @@
 -- `planet_equalize`: the firelocks on the way from a turf, and the whole of a call.
 use mathlib.Core.List.{List, []}
-use mathlib.Core.Bool.{Bool, true, cond}
 use Prim.Native.Nat.{ℕ, _*_}
 use lib.Dec.{eqb}
 use lib.ListN.{length}
@@ -13,7 +12,7 @@ use Rattle.event_rules.specs.declared.Event.{Event}
 use Rattle.lent_rules.specs.Lent.{Lent, Result, noExtra, refusal, after}
 use Rattle.walk_rules.specs.Walk.{walk}
 use Rattle.walk_rules.specs.Visit.{visitPlanet}
-use Rattle.planet_walk.specs.declared.PlanetAnswer.{PlanetAnswer}
+use Rattle.planet_rules.specs.declared.PlanetAnswer.{PlanetAnswer}
 
 module _ (b : Board) where
   -- an unknown id writes none

@@ -1,0 +1,2 @@
+pub mod Planet
+pub mod Worked
