@@ -2,24 +2,23 @@
 use equalize::EqualizeAnswer;
 use equalize::bit;
 use fill_all::Filling;
-use turfs::FLAGS;
-use turfs::IDS;
-use turfs::IMMUTABLE;
-use turfs::LINK_FLAGS;
-use turfs::MIXTURES;
+use fill_rules::Settings;
+use lent::Room;
 use turfs::Marks;
-use turfs::NEIGHBOURS;
-use turfs::PLANETARY;
 use turfs::Rows;
-use turfs::STARTS;
 ghost use mathlib.Core.Path.{_≡_};
-ghost use Rattle.turfs.specs.Tables.{board, boardAt};
+ghost use Rattle.turfs.specs.Tables.{boardAt};
 ghost use Rattle.lent_rules.specs.Lent.{Lent};
-ghost use Rattle.lent.specs.Given.{lent};
-ghost use Rattle.fill_all.specs.Held.{ask};
+ghost use Rattle.lent.specs.Given.{lentAt};
+ghost use Rattle.fill_all.specs.Held.{asked};
 ghost use Rattle.equalize.specs.Equalize.{Ask, fillAll, played, equalize};
 ghost use Rattle.equalize.specs.Result.{refusedEqualize, equalizeNumber, equalizeResult};
 ghost use Rattle.equalize_call.specs.Parts.{cancelledAt, Fills, Filled, Comes};
+
+// The event bytes that a call may write: two requests for each turf, one pressure record for each link.
+const REQUESTS: u8 = 16;
+
+const PRESSURE: u8 = 20;
 
 // What the parts came to.
 pub struct Outcome {
@@ -52,53 +51,26 @@ fn play(
     rows: &Rows,
     marks: &Marks,
     gases: usize,
-    amounts: &mut [f32],
-    events: &mut [u8],
+    gas: &mut [f32],
     words: &mut [u32],
     floats: &mut [f32],
+    events: &mut [u8],
 ) -> Outcome
-    requires { ⌜ Filled (boardAt rows marks gases) s (lent (now amounts) (now events) (now words) (now floats)) ⌝ }
-    ensures { λ r. let b = boardAt (rows .entry) (marks .entry) gases in ⌜ ((q : Ask) (l : Lent) → Fills b q s l (lent (now (amounts .entry)) (now (events .entry)) (now (words .entry)) (now (floats .entry))) → Comes b (played b (l .gas) q (now (turns .entry)) (fillAll b (l .gas) q)) r l (lent (now (amounts .exit)) (now (events .exit)) (now (words .exit)) (now (floats .exit)))) ⌝ }
+    requires { ⌜ Filled (boardAt rows marks gases) s (lentAt gas events words floats) ⌝ }
+    ensures { λ r. let b = boardAt (rows .entry) (marks .entry) gases in ⌜ ((q : Ask) (l : Lent) → Fills b q s l (lentAt (gas .entry) (events .entry) (words .entry) (floats .entry))
+        → Comes b (played b (l .gas) q (now (turns .entry)) (fillAll b (l .gas) q)) r l (lentAt (gas .exit) (events .exit) (words .exit) (floats .exit))) ⌝ }
 {
-    let ids = rows[IDS];
-    let mixtures = rows[MIXTURES];
-    let starts = rows[STARTS];
-    let neighbours = rows[NEIGHBOURS];
-    let n = ids.len();
-    let e = neighbours.len();
-    let nodes = flood_fill::nodes_at(n, e);
-    let place = nodes + n + e;
-    plan_all::plan_all(
-        s.zones,
-        mixtures,
-        gases,
-        amounts,
-        starts,
-        neighbours,
-        n,
-        e,
-        words,
-        floats,
-    );
-    let first = flood_fill::starts_at(n, e);
-    let apart = apart::apart(
-        s.zones,
-        first,
-        nodes,
-        place,
-        mixtures,
-        marks[IMMUTABLE],
-        words,
-    );
+    plan_all::plan_all(s.zones, rows, marks, gases, gas, words, floats);
+    let apart = apart::apart(s.zones, rows, marks, words);
     let used = finish_turns::finish_all(
         s.zones,
         turns,
         s.used,
-        gases,
         rows,
         marks,
+        gases,
+        gas,
         words,
-        amounts,
         floats,
         events,
     );
@@ -120,13 +92,14 @@ fn timed(
     rows: &Rows,
     marks: &Marks,
     gases: usize,
-    amounts: &mut [f32],
-    events: &mut [u8],
+    gas: &mut [f32],
     words: &mut [u32],
     floats: &mut [f32],
+    events: &mut [u8],
 ) -> Outcome
-    requires { ⌜ Filled (boardAt rows marks gases) s (lent (now amounts) (now events) (now words) (now floats)) ⌝ }
-    ensures { λ r. let b = boardAt (rows .entry) (marks .entry) gases in ⌜ ((q : Ask) (l : Lent) → q .allowance ≡ allowance → Fills b q s l (lent (now (amounts .entry)) (now (events .entry)) (now (words .entry)) (now (floats .entry))) → Comes b (equalize b (l .gas) q (now (turns .entry))) r l (lent (now (amounts .exit)) (now (events .exit)) (now (words .exit)) (now (floats .exit)))) ⌝ }
+    requires { ⌜ Filled (boardAt rows marks gases) s (lentAt gas events words floats) ⌝ }
+    ensures { λ r. let b = boardAt (rows .entry) (marks .entry) gases in ⌜ ((q : Ask) (l : Lent) → q .allowance ≡ allowance → Fills b q s l (lentAt (gas .entry) (events .entry) (words .entry) (floats .entry))
+        → Comes b (equalize b (l .gas) q (now (turns .entry))) r l (lentAt (gas .exit) (events .exit) (words .exit) (floats .exit))) ⌝ }
 {
     let tests = s.tests;
     if s.cancelled {
@@ -138,42 +111,33 @@ fn timed(
     if tests + 2 > allowance as usize {
         return cancel(s.nodes, tests + 2, s.used);
     }
-    play(s, turns, rows, marks, gases, amounts, events, words, floats)
+    play(s, turns, rows, marks, gases, gas, words, floats, events)
 }
 
 // Tables that were accepted: filled, then planned and finished in time.
 fn accepted(
+    hot: &[u32],
+    turns: &[u32],
+    settings: Settings,
     rows: &Rows,
     marks: &Marks,
     gases: usize,
-    amounts: &mut [f32],
-    hot: &[u32],
-    turns: &[u32],
-    threshold: f32,
-    limit: u32,
-    allowance: u32,
-    events: &mut [u8],
+    gas: &mut [f32],
     words: &mut [u32],
     floats: &mut [f32],
+    events: &mut [u8],
 ) -> Outcome
-    requires { ⌜ equalizeNumber (boardAt rows marks gases) (ask (now hot) threshold limit allowance) (now turns) (lent (now amounts) (now events) (now words) (now floats)) ≡ 0 ⌝ }
-    ensures { λ r. let b = boardAt (rows .entry) (marks .entry) gases in ⌜ Comes b (equalize b (now (amounts .entry)) (ask (now (hot .entry)) threshold limit allowance) (now (turns .entry))) r (lent (now (amounts .entry)) (now (events .entry)) (now (words .entry)) (now (floats .entry))) (lent (now (amounts .exit)) (now (events .exit)) (now (words .exit)) (now (floats .exit))) ⌝ }
+    requires { ⌜ equalizeNumber (boardAt rows marks gases) (asked (now hot) settings) (now turns) (lentAt gas events words floats) ≡ 0 ⌝ }
+    ensures { λ r. let b = boardAt (rows .entry) (marks .entry) gases in ⌜ Comes b (equalize b (now (gas .entry)) (asked (now (hot .entry)) settings) (now (turns .entry))) r
+        (lentAt (gas .entry) (events .entry) (words .entry) (floats .entry)) (lentAt (gas .exit) (events .exit) (words .exit) (floats .exit)) ⌝ }
 {
     let s = fill_all::fill_all(
         hot,
-        threshold,
-        limit,
-        allowance,
-        rows[IDS],
-        marks[FLAGS],
-        marks[PLANETARY],
-        rows[MIXTURES],
-        rows[STARTS],
-        rows[NEIGHBOURS],
-        marks[LINK_FLAGS],
-        marks[IMMUTABLE],
+        settings,
+        rows,
+        marks,
         gases,
-        amounts,
+        gas,
         words,
         floats,
         events,
@@ -181,14 +145,14 @@ fn accepted(
     timed(
         s,
         turns,
-        allowance,
+        settings.allowance,
         rows,
         marks,
         gases,
-        amounts,
-        events,
+        gas,
         words,
         floats,
+        events,
     )
 }
 
@@ -208,68 +172,52 @@ fn refused(number: u32) -> EqualizeAnswer
 }
 
 // Evens out the gas of the rooms around the hot ones, by turns.
-pub fn equalize<'a>(
-    ids: &'a [u32],
-    flags: &'a [u8],
-    planetary: &'a [u8],
-    mixtures: &'a [u32],
-    starts: &'a [u32],
-    neighbours: &'a [u32],
-    link_flags: &'a [u8],
-    immutable: &'a [u8],
-    gases: u32,
-    amounts: &mut [f32],
+pub fn equalize(
     hot: &[u32],
     turns: &[u32],
-    threshold: f32,
-    limit: u32,
-    allowance: u32,
-    events: &mut [u8],
+    settings: Settings,
+    rows: &Rows,
+    marks: &Marks,
+    gases: u32,
+    gas: &mut [f32],
     words: &mut [u32],
     floats: &mut [f32],
+    events: &mut [u8],
 ) -> EqualizeAnswer
-    ensures { λ r. ⌜ record { answer = r; lent = lent (now (amounts .exit)) (now (events .exit)) (now (words .exit)) (now (floats .exit)) }
-        ≡ equalizeResult (board (now (ids .entry)) (now (flags .entry)) (now (planetary .entry)) (now (mixtures .entry)) (now (starts .entry)) (now (neighbours .entry)) (now («link_flags» .entry)) (now (immutable .entry)) gases) (ask (now (hot .entry)) threshold limit allowance) (now (turns .entry)) (lent (now (amounts .entry)) (now (events .entry)) (now (words .entry)) (now (floats .entry))) ⌝ }
+    ensures { λ r. ⌜ record { answer = r; lent = lentAt (gas .exit) (events .exit) (words .exit) (floats .exit) }
+        ≡ equalizeResult (boardAt (rows .entry) (marks .entry) gases) (asked (now (hot .entry)) settings) (now (turns .entry)) (lentAt (gas .entry) (events .entry) (words .entry) (floats .entry)) ⌝ }
 {
-    let extra = equalize::extra_tests(hot, turns.len(), threshold);
+    let extra = equalize::extra_tests(hot, turns.len(), settings.threshold);
     let number = lent::refusal(
-        ids,
-        flags,
-        planetary,
-        mixtures,
-        starts,
-        neighbours,
-        link_flags,
-        immutable,
+        rows,
+        marks,
         gases,
-        amounts,
-        events,
+        gas,
         words,
         floats,
-        16,
-        20,
+        events,
+        Room {
+            per_turf: REQUESTS,
+            per_link: PRESSURE,
+        },
         extra,
     );
     if number != 0 {
         return refused(number);
     }
-    let rows = [ids, mixtures, starts, neighbours];
-    let marks = [flags, planetary, link_flags, immutable];
     let o = accepted(
-        &rows,
-        &marks,
-        gases as usize,
-        amounts,
         hot,
         turns,
-        threshold,
-        limit,
-        allowance,
-        events,
+        settings,
+        rows,
+        marks,
+        gases as usize,
+        gas,
         words,
         floats,
+        events,
     );
-    lent::clear_scratch(ids, neighbours, immutable, words, floats);
+    lent::clear_scratch(rows, marks, words, floats);
     EqualizeAnswer {
         number: 0,
         cancelled: o.cancelled,

@@ -1,9 +1,10 @@
 // The C interface: each function writes its answer into an array and returns the number, which is the answer's first.
+use fill_rules::Settings;
 ghost use mathlib.Core.Path.{_≡_};
 ghost use lib.ListN.{getD};
 ghost use Rattle.turfs.specs.Tables.{board};
 ghost use Rattle.events.specs.Interface.{readEvent, writeEvent};
-ghost use Rattle.lent.specs.Given.{lent};
+ghost use Rattle.lent.specs.Given.{lentAt};
 ghost use Rattle.fill_all.specs.Held.{ask};
 ghost use Rattle.equalize.specs.Result.{equalizeResult};
 ghost use Rattle.planet_rules.specs.Planet.{planetResult};
@@ -12,15 +13,15 @@ ghost use Rattle.katmos.specs.Answers.{Answers, equalizeNumbers, planetN
 
 // Evens out the gas of the rooms around the hot ones: number, cancelled, processed, tests, zones, apart, bytes.
 #[no_mangle]
-pub extern "C" fn katmos_equalize(
-    ids: &[u32],
-    flags: &[u8],
-    planetary: &[u8],
-    mixtures: &[u32],
-    starts: &[u32],
-    neighbours: &[u32],
-    link_flags: &[u8],
-    immutable: &[u8],
+pub extern "C" fn katmos_equalize<'a>(
+    ids: &'a [u32],
+    flags: &'a [u8],
+    planetary: &'a [u8],
+    mixtures: &'a [u32],
+    starts: &'a [u32],
+    neighbours: &'a [u32],
+    link_flags: &'a [u8],
+    immutable: &'a [u8],
     gases: u32,
     amounts: &mut [f32],
     hot: &[u32],
@@ -33,27 +34,27 @@ pub extern "C" fn katmos_equalize(
     floats: &mut [f32],
     answer: &mut [u32; 7],
 ) -> u32
-    ensures { λ r. ⌜ Answers equalizeNumbers (equalizeResult (board (now (ids .entry)) (now (flags .entry)) (now (planetary .entry)) (now (mixtures .entry)) (now (starts .entry)) (now (neighbours .entry)) (now («link_flags» .entry)) (now (immutable .entry)) gases) (ask (now (hot .entry)) threshold limit allowance) (now (turns .entry)) (lent (now (amounts .entry)) (now (events .entry)) (now (words .entry)) (now (floats .entry)))) r (now (answer .exit)) (lent (now (amounts .exit)) (now (events .exit)) (now (words .exit)) (now (floats .exit))) ⌝ }
+    ensures { λ r. let b = board (now (ids .entry)) (now (flags .entry)) (now (planetary .entry)) (now (mixtures .entry)) (now (starts .entry)) (now (neighbours .entry)) (now («link_flags» .entry)) (now (immutable .entry)) gases in
+        ⌜ Answers equalizeNumbers (equalizeResult b (ask (now (hot .entry)) threshold limit allowance) (now (turns .entry)) (lentAt (amounts .entry) (events .entry) (words .entry) (floats .entry))) r (now (answer .exit)) (lentAt (amounts .exit) (events .exit) (words .exit) (floats .exit)) ⌝ }
 {
-    let a = equalize_call::equalize(
-        ids,
-        flags,
-        planetary,
-        mixtures,
-        starts,
-        neighbours,
-        link_flags,
-        immutable,
-        gases,
-        amounts,
-        hot,
-        turns,
+    let rows = [ids, mixtures, starts, neighbours];
+    let marks = [flags, planetary, link_flags, immutable];
+    let settings = Settings {
         threshold,
         limit,
         allowance,
-        events,
+    };
+    let a = equalize_call::equalize(
+        hot,
+        turns,
+        settings,
+        &rows,
+        &marks,
+        gases,
+        amounts,
         words,
         floats,
+        events,
     );
     *answer = [
         a.number,
@@ -69,15 +70,15 @@ pub extern "C" fn katmos_equalize(
 
 // The planet walk from the turf `id`: number, bytes.
 #[no_mangle]
-pub extern "C" fn katmos_planet_walk(
-    ids: &[u32],
-    flags: &[u8],
-    planetary: &[u8],
-    mixtures: &[u32],
-    starts: &[u32],
-    neighbours: &[u32],
-    link_flags: &[u8],
-    immutable: &[u8],
+pub extern "C" fn katmos_planet_walk<'a>(
+    ids: &'a [u32],
+    flags: &'a [u8],
+    planetary: &'a [u8],
+    mixtures: &'a [u32],
+    starts: &'a [u32],
+    neighbours: &'a [u32],
+    link_flags: &'a [u8],
+    immutable: &'a [u8],
     gases: u32,
     amounts: &[f32],
     id: u32,
@@ -87,24 +88,21 @@ pub extern "C" fn katmos_planet_walk(
     floats: &mut [f32],
     answer: &mut [u32; 2],
 ) -> u32
-    ensures { λ r. ⌜ Answers planetNumbers (planetResult (board (now (ids .entry)) (now (flags .entry)) (now (planetary .entry)) (now (mixtures .entry)) (now (starts .entry)) (now (neighbours .entry)) (now («link_flags» .entry)) (now (immutable .entry)) gases) limit id (lent (now (amounts .entry)) (now (events .entry)) (now (words .entry)) (now (floats .entry)))) r (now (answer .exit)) (lent (now (amounts .entry)) (now (events .exit)) (now (words .exit)) (now (floats .exit))) ⌝ }
+    ensures { λ r. let b = board (now (ids .entry)) (now (flags .entry)) (now (planetary .entry)) (now (mixtures .entry)) (now (starts .entry)) (now (neighbours .entry)) (now («link_flags» .entry)) (now (immutable .entry)) gases in
+        ⌜ Answers planetNumbers (planetResult b limit id (lentAt (amounts .entry) (events .entry) (words .entry) (floats .entry))) r (now (answer .exit)) (lentAt (amounts .entry) (events .exit) (words .exit) (floats .exit)) ⌝ }
 {
+    let rows = [ids, mixtures, starts, neighbours];
+    let marks = [flags, planetary, link_flags, immutable];
     let a = planet_walk::planet_walk(
-        ids,
-        flags,
-        planetary,
-        mixtures,
-        starts,
-        neighbours,
-        link_flags,
-        immutable,
-        gases,
-        amounts,
         id,
         limit,
-        events,
+        &rows,
+        &marks,
+        gases,
+        amounts,
         words,
         floats,
+        events,
     );
     *answer = [a.number, a.bytes];
     a.number
@@ -112,15 +110,15 @@ pub extern "C" fn katmos_planet_walk(
 
 // Depressurizes from the turf `id`: number, outcome, bytes.
 #[no_mangle]
-pub extern "C" fn katmos_depressurize(
-    ids: &[u32],
-    flags: &[u8],
-    planetary: &[u8],
-    mixtures: &[u32],
-    starts: &[u32],
-    neighbours: &[u32],
-    link_flags: &[u8],
-    immutable: &[u8],
+pub extern "C" fn katmos_depressurize<'a>(
+    ids: &'a [u32],
+    flags: &'a [u8],
+    planetary: &'a [u8],
+    mixtures: &'a [u32],
+    starts: &'a [u32],
+    neighbours: &'a [u32],
+    link_flags: &'a [u8],
+    immutable: &'a [u8],
     gases: u32,
     amounts: &mut [f32],
     id: u32,
@@ -130,24 +128,21 @@ pub extern "C" fn katmos_depressurize(
     floats: &mut [f32],
     answer: &mut [u32; 3],
 ) -> u32
-    ensures { λ r. ⌜ Answers depressurizeNumbers (depressurizeResult (board (now (ids .entry)) (now (flags .entry)) (now (planetary .entry)) (now (mixtures .entry)) (now (starts .entry)) (now (neighbours .entry)) (now («link_flags» .entry)) (now (immutable .entry)) gases) limit id (lent (now (amounts .entry)) (now (events .entry)) (now (words .entry)) (now (floats .entry)))) r (now (answer .exit)) (lent (now (amounts .exit)) (now (events .exit)) (now (words .exit)) (now (floats .exit))) ⌝ }
+    ensures { λ r. let b = board (now (ids .entry)) (now (flags .entry)) (now (planetary .entry)) (now (mixtures .entry)) (now (starts .entry)) (now (neighbours .entry)) (now («link_flags» .entry)) (now (immutable .entry)) gases in
+        ⌜ Answers depressurizeNumbers (depressurizeResult b limit id (lentAt (amounts .entry) (events .entry) (words .entry) (floats .entry))) r (now (answer .exit)) (lentAt (amounts .exit) (events .exit) (words .exit) (floats .exit)) ⌝ }
 {
+    let rows = [ids, mixtures, starts, neighbours];
+    let marks = [flags, planetary, link_flags, immutable];
     let a = depressurize::depressurize(
-        ids,
-        flags,
-        planetary,
-        mixtures,
-        starts,
-        neighbours,
-        link_flags,
-        immutable,
-        gases,
-        amounts,
         id,
         limit,
-        events,
+        &rows,
+        &marks,
+        gases,
+        amounts,
         words,
         floats,
+        events,
     );
     *answer = [a.number, a.outcome, a.bytes];
     a.number

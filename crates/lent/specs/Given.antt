@@ -2,6 +2,7 @@
 use mathlib.Core.List.{List, _++_}
 use Prim.Native.Nat.{ℕ, _+_, _*_, _≤_}
 use lib.ListN.{length, drop, replicate}
+use denote.Ref.{RefT}
 use lib.Ieee.{Float}
 use Rattle.board_rules.specs.Board.{Board, turfCount, linkCount}
 use Rattle.turfs.specs.Tables.{Small}
@@ -21,6 +22,10 @@ cleared z n xs = replicate n z ++ drop n xs
 -- the areas, in the order of the C interface
 abbrev pub lent : List Float → List ℕ → List ℕ → List Float → Lent
 lent gas area words floats = record { gas = gas; area = area; words = words; floats = floats }
+
+-- the same of references to them, as contracts have it
+abbrev pub lentAt : RefT (List Float) → RefT (List ℕ) → RefT (List ℕ) → RefT (List Float) → Lent
+lentAt gas events words floats = lent (gas .now) (events .now) (words .now) (floats .now)
 
 -- the code's answers to what only equalize is lent
 abbrev pub extraOf : ExtraTests → Extra
