@@ -106,6 +106,10 @@ onFilled g v = record { filled = g (v .filled); around = v .around }
 abbrev pub startsIn : ℕ → ℕ → List ℕ → List ℕ
 startsIn n e w = region (sizes n e) 11 w
 
+-- which turfs are found
+abbrev pub foundIn : ℕ → ℕ → List ℕ → List ℕ
+foundIn n e w = region (sizes n e) 8 w
+
 -- the areas are long enough, the zones' nodes stand one after the other, and there are at most as many nodes as zones and owned links
 pub record Stored (n e : ℕ) (s : Filling) (w : List ℕ) (f : List Float) : Type 0 where
   pub sizes : Sizes n e
