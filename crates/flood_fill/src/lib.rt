@@ -47,7 +47,7 @@ pub struct Met {
     pub planet: bool,
 }
 
-// Where the arrays start that a fill works with, of n turfs and e links.
+// Where the marks of what is found start, of n turfs and e links.
 pub fn found_at(n: usize, e: usize) -> usize
     requires { ⌜ Sizes n e ⌝ }
     ensures { λ r. ⌜ r ≡ foundAt n e ⌝ }
@@ -55,6 +55,7 @@ pub fn found_at(n: usize, e: usize) -> usize
     e + e + n + n + n + n + n + n
 }
 
+// Where the words start that say where each zone's nodes start.
 pub fn starts_at(n: usize, e: usize) -> usize
     requires { ⌜ Sizes n e ⌝ }
     ensures { λ r. ⌜ r ≡ startsAt n e ⌝ }
@@ -62,6 +63,7 @@ pub fn starts_at(n: usize, e: usize) -> usize
     e + e + n + n + n + n + n + n + n + n + n
 }
 
+// Where the nodes of all zones start.
 pub fn nodes_at(n: usize, e: usize) -> usize
     requires { ⌜ Sizes n e ⌝ }
     ensures { λ r. ⌜ r ≡ nodesAt n e ⌝ }
