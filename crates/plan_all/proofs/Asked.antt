@@ -35,7 +35,7 @@ module _ (b : Board) (q : Ask) (gas : List Float) (s : Filling) {wâ‚€ w : List â
 
   room : Room n e w f
   unfolding wordsRoom floatsRoom
-  room = record { sizes = d .stored .sizes; words = omega (arith, words-room); reals = omega (arith, floats-room) }
+  room = record { sizes = d .stored .sizes; words = omega (arith, words-room); floats = omega (arith, floats-room) }
 
   zoned : Zoned n e (s .zones) w f
   zoned = zoned-of b (fillAll b gas q .zones) room (d .stored .zones) (zones-are d)

@@ -21,7 +21,7 @@ use Rattle.finalize_eq.specs.Turns.{Zone, zoneAt}
 use Rattle.equalize.specs.Equalize.{Filled, planAll}
 use Rattle.reverse_links.specs.Reverse.{Reverses}
 use Rattle.reverse_links.specs.Words.{Outside, But}
-use Rattle.plan_state.specs.Held.{Area, area, wsizes, rsizes, viewIn, View, view, Fit, Frame, top, nodesOf}
+use Rattle.plan_state.specs.Held.{Area, area, wsizes, fsizes, viewIn, View, view, Fit, Frame, top, nodesOf}
 use Rattle.plan_state.specs.Pairs.{firsts, seconds}
 use Rattle.plan_state.proofs.Pairs.{firsts-all, seconds-all}
 use Rattle.plan_state.proofs.Stores.{frame-none, frame-then, owner-at}
@@ -35,11 +35,11 @@ use Rattle.plan_all.proofs.Zones.{Alike, zone-alike, zoned-alike, alike
 -- ---- a blank plan
 
 -- the floats past the plan's
-pub reals-rest : (n e : ℕ) (a : Area) → view n e a .restR ≡ drop (e + n + n) (a .reals)
+pub floats-rest : (n e : ℕ) (a : Area) → view n e a .restF ≡ drop (e + n + n) (a .floats)
 unfolding view
-reals-rest n e a =
+floats-rest n e a =
     let k : e + (n + n + 0) ≡ e + n + n = omega arith in
-    cut-rest (rsizes n e) (a .reals) ∙ ap (λ (m : ℕ). drop m (a .reals)) k
+    cut-rest (fsizes n e) (a .floats) ∙ ap (λ (m : ℕ). drop m (a .floats)) k
 
 pub blanked : {n e : ℕ} {w : List ℕ} {f : List Float} (w₁ w₂ : List ℕ) (f′ : List Float) → Fit n e (area w f)
     → w₁ ≡ take (e + e) w ++ (replicate (n + n) 0 ++ drop (n + n) (drop (e + e) w))
@@ -55,19 +55,19 @@ blanked {n} {e} {w} {f} w₁ w₂ f′ h q₁ q₂ q l₂ l₁ l =
     ap (cut (wsizes n e)) q₂
     ∙ cut-part (wsizes n e) w₁ 3 (replicate n 0) (e + e + n + n) n (omega arith) (omega (arith, h .words, l₁)) (omega arith) refl (length-replicate {A = ℕ} n 0)
     ∙ ap (λ (x : List (List ℕ)). set x 3 (replicate n 0)) c₁ in
-    let k : e + n + n ≡ base (rsizes n e) (length (rsizes n e)) = omega arith in
-    let t : drop (e + n + n) f ≡ drop (n + n) (drop e f) = sym (reals-rest n e (area w f)) in
-    let c : cut (rsizes n e) f′ ≡ replicate e 0f ∷ replicate (n + n) 0f ∷ drop (n + n) (drop e f) ∷ [] =
-    ap (cut (rsizes n e)) (q ∙ ap₂ (λ (m : ℕ) (x : List Float). replicate m 0f ++ x) k t) ∙ cut-clear 0f (rsizes n e) (drop (n + n) (drop e f)) in
+    let k : e + n + n ≡ base (fsizes n e) (length (fsizes n e)) = omega arith in
+    let t : drop (e + n + n) f ≡ drop (n + n) (drop e f) = sym (floats-rest n e (area w f)) in
+    let c : cut (fsizes n e) f′ ≡ replicate e 0f ∷ replicate (n + n) 0f ∷ drop (n + n) (drop e f) ∷ [] =
+    ap (cut (fsizes n e)) (q ∙ ap₂ (λ (m : ℕ) (x : List Float). replicate m 0f ++ x) k t) ∙ cut-clear 0f (fsizes n e) (drop (n + n) (drop e f)) in
     let v : view n e (area w₂ f′) ≡ viewIn (set (set (cut (wsizes n e) w) 2 (replicate (n + n) 0)) 3 (replicate n 0)) (replicate e 0f ∷ replicate (n + n) 0f ∷ drop (n + n) (drop e f) ∷ []) =
     ap₂ viewIn c₂ c in
     record {
-      fit = record { words = omega (arith, h .words, l₂); reals = omega (arith, h .reals, l); turfs = h .turfs; links = h .links };
+      fit = record { words = omega (arith, h .words, l₂); floats = omega (arith, h .floats, l); turfs = h .turfs; links = h .links };
       frame = record {
         owner = ap (λ (x : View). x .owner) v;
         reverse = ap (λ (x : View). x .reverse) v;
         restW = ap (λ (x : View). x .restW) v;
-        restR = ap (λ (x : View). x .restR) v;
+        restF = ap (λ (x : View). x .restF) v;
       };
       plan = ap (λ (x : View). x .plan) v ∙ halves n e;
     }
@@ -94,8 +94,8 @@ zone-planned {n} {e} {z} {w = w} {f} b gas es h t eq d = record {
 pub record Going (n e zones : ℕ) (b : Board) (gas : List Float) (a a′ : Area) (z : ℕ) : Type 0 where
   pub fit : Fit n e a′
   pub frame : Frame n e a a′
-  pub on : planZones b gas (zoneOf n e (a .words) (a .reals)) (upFrom z (zones - z)) (view n e a .owner) (view n e a′ .plan)
-      ≡ planZones b gas (zoneOf n e (a .words) (a .reals)) (upFrom 0 zones) (view n e a .owner) (view n e a .plan)
+  pub on : planZones b gas (zoneOf n e (a .words) (a .floats)) (upFrom z (zones - z)) (view n e a .owner) (view n e a′ .plan)
+      ≡ planZones b gas (zoneOf n e (a .words) (a .floats)) (upFrom 0 zones) (view n e a .owner) (view n e a .plan)
 
 pub going-start : {n e zones : ℕ} (b : Board) (gas : List Float) {a : Area} → Fit n e a → Going n e zones b gas a a 0
 going-start {n} {e} {zones} b gas {a} h =
@@ -103,17 +103,17 @@ going-start {n} {e} {zones} b gas {a} h =
     record {
       fit = h;
       frame = frame-none;
-      on = ap (λ (m : ℕ). planZones b gas (zoneOf n e (a .words) (a .reals)) (upFrom 0 m) (view n e a .owner) (view n e a .plan)) k;
+      on = ap (λ (m : ℕ). planZones b gas (zoneOf n e (a .words) (a .floats)) (upFrom 0 m) (view n e a .owner) (view n e a .plan)) k;
     }
 
 pub going-next : {n e zones z : ℕ} {b : Board} {gas : List Float} {a a′ a″ : Area} → Going n e zones b gas a a′ z → z < zones
-    → Plans n e (λ o p. planZone b o z gas (zoneOf n e (a′ .words) (a′ .reals) z .nodes) (zoneOf n e (a′ .words) (a′ .reals) z .moles) p) a′ a″
+    → Plans n e (λ o p. planZone b o z gas (zoneOf n e (a′ .words) (a′ .floats) z .nodes) (zoneOf n e (a′ .words) (a′ .floats) z .moles) p) a′ a″
     → Going n e zones b gas a a″ (z + 1)
 going-next {n} {e} {zones} {z} {b} {gas} {a} {a′} {a″} g l d =
-    let f : ℕ → Plan → Plan = λ y q. planZone b (view n e a .owner) y gas (zoneOf n e (a .words) (a .reals) y .nodes) (zoneOf n e (a .words) (a .reals) y .moles) q in
+    let f : ℕ → Plan → Plan = λ y q. planZone b (view n e a .owner) y gas (zoneOf n e (a .words) (a .floats) y .nodes) (zoneOf n e (a .words) (a .floats) y .moles) q in
     let s : view n e a″ .plan ≡ f z (view n e a′ .plan) =
     d .plan
-    ∙ ap (λ (o : List ℕ). planZone b o z gas (zoneOf n e (a′ .words) (a′ .reals) z .nodes) (zoneOf n e (a′ .words) (a′ .reals) z .moles) (view n e a′ .plan)) (g .frame .owner)
+    ∙ ap (λ (o : List ℕ). planZone b o z gas (zoneOf n e (a′ .words) (a′ .floats) z .nodes) (zoneOf n e (a′ .words) (a′ .floats) z .moles) (view n e a′ .plan)) (g .frame .owner)
     ∙ ap (λ (y : ℕ → Zone). planZone b (view n e a .owner) z gas (y z .nodes) (y z .moles) (view n e a′ .plan)) (zone-alike (frame-alike (g .frame))) in
     record {
       fit = d .fit;
@@ -122,11 +122,11 @@ going-next {n} {e} {zones} {z} {b} {gas} {a} {a′} {a″} g l d =
     }
 
 pub going-end : {n e zones z : ℕ} {b : Board} {gas : List Float} {a a′ : Area} → Going n e zones b gas a a′ z → zones ≤ z
-    → Plans n e (planZones b gas (zoneOf n e (a .words) (a .reals)) (upFrom 0 zones)) a a′
+    → Plans n e (planZones b gas (zoneOf n e (a .words) (a .floats)) (upFrom 0 zones)) a a′
 going-end {n} {e} {zones} {z} {b} {gas} {a} {a′} g l = record {
   fit = g .fit;
   frame = g .frame;
-  plan = sym (run-up-end (λ y q. planZone b (view n e a .owner) y gas (zoneOf n e (a .words) (a .reals) y .nodes) (zoneOf n e (a .words) (a .reals) y .moles) q) z zones (view n e a′ .plan) l) ∙ g .on;
+  plan = sym (run-up-end (λ y q. planZone b (view n e a .owner) y gas (zoneOf n e (a .words) (a .floats) y .nodes) (zoneOf n e (a .words) (a .floats) y .moles) q) z zones (view n e a′ .plan) l) ∙ g .on;
 }
 
 -- ---- what the definition says of the zones as they stand in the areas
@@ -206,7 +206,7 @@ module _ {n e zones : ℕ} {w w₁ w₂ : List ℕ} {f f₂ : List Float} (z : Z
       len = l ∙ b₁ .len;
       same = λ i o. word-stays (d .frame) i o ∙ b₁ .same i (⊎-elim (λ q. inl q) (λ q. inr (omega (arith, q))) o);
     };
-    reals = (m, sym (reals-rest n e (area w₃ f₃)) ∙ since (d .frame) .restR ∙ reals-rest n e (area w₁ f));
+    floats = (m, sym (floats-rest n e (area w₃ f₃)) ∙ since (d .frame) .restF ∙ floats-rest n e (area w₁ f));
     reverses = λ c es et. subst (Reverses c n) (sym (since (d .frame) .reverse)) (v c es et);
     plan = d .plan
         ∙ ap (λ (y : ℕ → Zone). planZones b gas y (upFrom 0 zones) (view n e (area w₂ f₂) .owner) (view n e (area w₂ f₂) .plan)) (zone-alike all-alike)

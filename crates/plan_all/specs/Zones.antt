@@ -44,7 +44,7 @@ filledOf n e zones w f = record {
 pub record Room (n e : ℕ) (w : List ℕ) (f : List Float) : Type 0 where
   pub sizes : Sizes n e
   pub words : nodesAt n e + n + e ≤ length w
-  pub reals : molesAt n e + n ≤ length f
+  pub floats : molesAt n e + n ≤ length f
 
 -- zone z has nodes, at most n, which are rows
 pub record Ready (n e z : ℕ) (w : List ℕ) (f : List Float) : Type 0 where
@@ -78,6 +78,6 @@ planZones b gas zone zs o p = run (λ z q. planZone b o z gas (zone z .nodes) (z
 -- All zones are planned, as `planAll` says. Every word but the reverses and those that planning works with is as it was, and every float past the plan's.
 pub record PlansAll (n e zones : ℕ) (b : Board) (gas : List Float) (w w′ : List ℕ) (f f′ : List Float) : Type 0 where
   pub words : But e (top n e) w w′
-  pub reals : (length f′ ≡ length f) × (drop (e + n + n) f′ ≡ drop (e + n + n) f)
+  pub floats : (length f′ ≡ length f) × (drop (e + n + n) f′ ≡ drop (e + n + n) f)
   pub reverses : (c : Board) → c .starts ≡ b .starts → c .neighbours ≡ b .neighbours → Reverses c n (take e (drop e w′))
   pub plan : view n e (area w′ f′) .plan ≡ planAll b gas (filledOf n e zones w f)

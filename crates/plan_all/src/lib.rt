@@ -11,14 +11,14 @@ ghost use Rattle.plan_zone.specs.Zone.{Gassed, Plans};
 ghost use Rattle.plan_all.specs.Zones.{zoneOf, Room, Ready, Zoned, Blanks, planZones, PlansAll};
 
 // Nothing is planned yet: no weights, no planning state.
-fn clear_plan(n: usize, e: usize, words: &mut [u32], reals: &mut [f32])
-    requires { ⌜ Fit n e (area (now words) (now reals)) ⌝ }
-    ensures { λ _. ⌜ Blanks n e (area (now (words .entry)) (now (reals .entry))) (area (now (words .exit)) (now (reals .exit))) ⌝ }
+fn clear_plan(n: usize, e: usize, words: &mut [u32], floats: &mut [f32])
+    requires { ⌜ Fit n e (area (now words) (now floats)) ⌝ }
+    ensures { λ _. ⌜ Blanks n e (area (now (words .entry)) (now (floats .entry))) (area (now (words .exit)) (now (floats .exit))) ⌝ }
 {
     let pairs = e + e;
     basics::clear_part(words, pairs, n + n);
     basics::clear_part(words, pairs + n + n, n);
-    basics::clear_floats(reals, e + n + n);
+    basics::clear_floats(floats, e + n + n);
 }
 
 // The zone z.
@@ -32,17 +32,17 @@ fn plan_zone_at(
     n: usize,
     e: usize,
     words: &mut [u32],
-    reals: &mut [f32],
+    floats: &mut [f32],
 )
-    requires { ⌜ Gassed n (now mixtures) gases (now gas) × (Linked n (now starts) (now neighbours) × ((length (now neighbours) ≡ e) × (Room n e (now words) (now reals) × (z < n)))) ⌝ }
-    requires { ⌜ Reverses (grid n (now starts) (now neighbours)) n (view n e (area (now words) (now reals)) .reverse) × Ready n e z (now words) (now reals) ⌝ }
-    ensures { λ _. ⌜ Plans n e (λ o p. planZone (ground n (now (starts .entry)) (now (neighbours .entry)) (now (mixtures .entry)) gases) o z (now (gas .entry)) (zoneOf n e (now (words .entry)) (now (reals .entry)) z .nodes) (zoneOf n e (now (words .entry)) (now (reals .entry)) z .moles) p) (area (now (words .entry)) (now (reals .entry))) (area (now (words .exit)) (now (reals .exit))) ⌝ }
+    requires { ⌜ Gassed n (now mixtures) gases (now gas) × (Linked n (now starts) (now neighbours) × ((length (now neighbours) ≡ e) × (Room n e (now words) (now floats) × (z < n)))) ⌝ }
+    requires { ⌜ Reverses (grid n (now starts) (now neighbours)) n (view n e (area (now words) (now floats)) .reverse) × Ready n e z (now words) (now floats) ⌝ }
+    ensures { λ _. ⌜ Plans n e (λ o p. planZone (ground n (now (starts .entry)) (now (neighbours .entry)) (now (mixtures .entry)) gases) o z (now (gas .entry)) (zoneOf n e (now (words .entry)) (now (floats .entry)) z .nodes) (zoneOf n e (now (words .entry)) (now (floats .entry)) z .moles) p) (area (now (words .entry)) (now (floats .entry))) (area (now (words .exit)) (now (floats .exit))) ⌝ }
 {
     let at = flood_fill::starts_at(n, e) + z;
     let from = words[at] as usize;
     let to = words[at + 1] as usize;
     let first = flood_fill::nodes_at(n, e) + from;
-    let moles = reals[e + n + n + e + z];
+    let moles = floats[e + n + n + e + z];
     plan_zone::process_zone(
         first,
         to - from,
@@ -56,7 +56,7 @@ fn plan_zone_at(
         n,
         e,
         words,
-        reals,
+        floats,
     );
 }
 
@@ -71,11 +71,11 @@ fn plan_zones(
     n: usize,
     e: usize,
     words: &mut [u32],
-    reals: &mut [f32],
+    floats: &mut [f32],
 )
-    requires { ⌜ Gassed n (now mixtures) gases (now gas) × (Linked n (now starts) (now neighbours) × ((length (now neighbours) ≡ e) × Zoned n e zones (now words) (now reals))) ⌝ }
-    requires { ⌜ Reverses (grid n (now starts) (now neighbours)) n (view n e (area (now words) (now reals)) .reverse) ⌝ }
-    ensures { λ _. ⌜ Plans n e (planZones (ground n (now (starts .entry)) (now (neighbours .entry)) (now (mixtures .entry)) gases) (now (gas .entry)) (zoneOf n e (now (words .entry)) (now (reals .entry))) (upFrom 0 zones)) (area (now (words .entry)) (now (reals .entry))) (area (now (words .exit)) (now (reals .exit))) ⌝ }
+    requires { ⌜ Gassed n (now mixtures) gases (now gas) × (Linked n (now starts) (now neighbours) × ((length (now neighbours) ≡ e) × Zoned n e zones (now words) (now floats))) ⌝ }
+    requires { ⌜ Reverses (grid n (now starts) (now neighbours)) n (view n e (area (now words) (now floats)) .reverse) ⌝ }
+    ensures { λ _. ⌜ Plans n e (planZones (ground n (now (starts .entry)) (now (neighbours .entry)) (now (mixtures .entry)) gases) (now (gas .entry)) (zoneOf n e (now (words .entry)) (now (floats .entry))) (upFrom 0 zones)) (area (now (words .entry)) (now (floats .entry))) (area (now (words .exit)) (now (floats .exit))) ⌝ }
 {
     let mut z = 0;
     while z < zones {
@@ -89,7 +89,7 @@ fn plan_zones(
             n,
             e,
             words,
-            reals,
+            floats,
         );
         z += 1;
     }
@@ -106,14 +106,14 @@ pub fn plan_all(
     n: usize,
     e: usize,
     words: &mut [u32],
-    reals: &mut [f32],
+    floats: &mut [f32],
 )
     requires { ⌜ Gassed n (now mixtures) gases (now gas) × (Linked n (now starts) (now neighbours) × (length (now neighbours) ≡ e)) ⌝ }
-    requires { ⌜ Zoned n e zones (now words) (now reals) ⌝ }
-    ensures { λ _. ⌜ PlansAll n e zones (ground n (now (starts .entry)) (now (neighbours .entry)) (now (mixtures .entry)) gases) (now (gas .entry)) (now (words .entry)) (now (words .exit)) (now (reals .entry)) (now (reals .exit)) ⌝ }
+    requires { ⌜ Zoned n e zones (now words) (now floats) ⌝ }
+    ensures { λ _. ⌜ PlansAll n e zones (ground n (now (starts .entry)) (now (neighbours .entry)) (now (mixtures .entry)) gases) (now (gas .entry)) (now (words .entry)) (now (words .exit)) (now (floats .entry)) (now (floats .exit)) ⌝ }
 {
     reverse_links::find_reverses(starts, neighbours, n, e, words);
-    clear_plan(n, e, words, reals);
+    clear_plan(n, e, words, floats);
     plan_zones(
         zones,
         mixtures,
@@ -124,6 +124,6 @@ pub fn plan_all(
         n,
         e,
         words,
-        reals,
+        floats,
     );
 }

@@ -30,46 +30,46 @@ pub fn hand_on(
     n: usize,
     e: usize,
     words: &[u32],
-    reals: &mut [f32],
+    floats: &mut [f32],
 )
-    requires { ⌜ Fit n e (area (now words) (now reals)) × ((r < n) × (d < n)) ⌝ }
+    requires { ⌜ Fit n e (area (now words) (now floats)) × ((r < n) × (d < n)) ⌝ }
     requires { ⌜ Found (λ k. k < e) there × Found (λ k. k < e) back ⌝ }
-    ensures { λ _. ⌜ Does n e (λ o p. handOn there back r d p) (area (now (words .entry)) (now (reals .entry))) (area (now (words .exit)) (now (reals .exit))) ⌝ }
+    ensures { λ _. ⌜ Does n e (λ o p. handOn there back r d p) (area (now (words .entry)) (now (floats .entry))) (area (now (words .exit)) (now (floats .exit))) ⌝ }
 {
-    let x = reals[e + r + r + 1];
-    adjust_eq_movement(there, back, x, reals);
-    reals[e + d + d + 1] = reals[e + d + d + 1] + x;
-    reals[e + r + r + 1] = 0.0;
+    let x = floats[e + r + r + 1];
+    adjust_eq_movement(there, back, x, floats);
+    floats[e + d + d + 1] = floats[e + d + d + 1] + x;
+    floats[e + r + r + 1] = 0.0;
 }
 
 // The turf r of the queue, on the way back.
-pub fn drain_turf(r: u32, z: u32, n: usize, e: usize, words: &[u32], reals: &mut [f32])
-    requires { ⌜ Fit n e (area (now words) (now reals)) × ((z < 4096) × ((r < n) × Within n e (view n e (area (now words) (now reals))) r)) ⌝ }
-    ensures { λ _. ⌜ Does n e (λ o p. drainVia (view n e (area (now (words .entry)) (now (reals .entry))) .reverse) (view n e (area (now (words .entry)) (now (reals .entry))) .via) z o r p) (area (now (words .entry)) (now (reals .entry))) (area (now (words .exit)) (now (reals .exit))) ⌝ }
+pub fn drain_turf(r: u32, z: u32, n: usize, e: usize, words: &[u32], floats: &mut [f32])
+    requires { ⌜ Fit n e (area (now words) (now floats)) × ((z < 4096) × ((r < n) × Within n e (view n e (area (now words) (now floats))) r)) ⌝ }
+    ensures { λ _. ⌜ Does n e (λ o p. drainVia (view n e (area (now (words .entry)) (now (floats .entry))) .reverse) (view n e (area (now (words .entry)) (now (floats .entry))) .via) z o r p) (area (now (words .entry)) (now (floats .entry))) (area (now (words .exit)) (now (floats .exit))) ⌝ }
 {
     let row = r as usize;
-    let i = load(row, n, e, words, reals);
+    let i = load(row, n, e, words, floats);
     let amount = i.amount;
     let direction = i.direction as usize;
     if amount != 0.0 {
         if direction != 0 {
             let k = words[e + e + row + row + 1] as usize;
             let there = back_link(k, z, e, words);
-            hand_on(there, Spot::At(k), row, direction - 1, n, e, words, reals);
+            hand_on(there, Spot::At(k), row, direction - 1, n, e, words, floats);
         }
     }
 }
 
 // The rows of the queue from the place `to` back to the place `from`.
-pub fn drain(from: usize, to: usize, z: u32, n: usize, e: usize, words: &[u32], reals: &mut [f32])
-    requires { ⌜ Fit n e (area (now words) (now reals)) × ((z < 4096) × (to ≤ n)) ⌝ }
-    requires { ⌜ ((i : ℕ) → i < to → (getD (view n e (area (now words) (now reals)) .queue) i 0 < n) × Within n e (view n e (area (now words) (now reals))) (getD (view n e (area (now words) (now reals)) .queue) i 0)) ⌝ }
-    ensures { λ _. ⌜ Does n e (λ o p. run (drainVia (view n e (area (now (words .entry)) (now (reals .entry))) .reverse) (view n e (area (now (words .entry)) (now (reals .entry))) .via) z o) (reverse (take (to - from) (drop from (view n e (area (now (words .entry)) (now (reals .entry))) .queue)))) p) (area (now (words .entry)) (now (reals .entry))) (area (now (words .exit)) (now (reals .exit))) ⌝ }
+pub fn drain(from: usize, to: usize, z: u32, n: usize, e: usize, words: &[u32], floats: &mut [f32])
+    requires { ⌜ Fit n e (area (now words) (now floats)) × ((z < 4096) × (to ≤ n)) ⌝ }
+    requires { ⌜ ((i : ℕ) → i < to → (getD (view n e (area (now words) (now floats)) .queue) i 0 < n) × Within n e (view n e (area (now words) (now floats))) (getD (view n e (area (now words) (now floats)) .queue) i 0)) ⌝ }
+    ensures { λ _. ⌜ Does n e (λ o p. run (drainVia (view n e (area (now (words .entry)) (now (floats .entry))) .reverse) (view n e (area (now (words .entry)) (now (floats .entry))) .via) z o) (reverse (take (to - from) (drop from (view n e (area (now (words .entry)) (now (floats .entry))) .queue)))) p) (area (now (words .entry)) (now (floats .entry))) (area (now (words .exit)) (now (floats .exit))) ⌝ }
 {
     let queue = index_set::queue_at(n, e);
     let mut i = to;
     while i > from {
         i -= 1;
-        drain_turf(words[queue + i], z, n, e, words, reals);
+        drain_turf(words[queue + i], z, n, e, words, floats);
     }
 }

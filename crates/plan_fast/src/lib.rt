@@ -55,17 +55,17 @@ fn fast_move(
     n: usize,
     e: usize,
     words: &[u32],
-    reals: &mut [f32],
+    floats: &mut [f32],
 )
-    requires { ⌜ Fit n e (area (now words) (now reals)) × ((r < n) × (a < n)) ⌝ }
+    requires { ⌜ Fit n e (area (now words) (now floats)) × ((r < n) × (a < n)) ⌝ }
     requires { ⌜ Found (λ k. k < e) there × Found (λ k. k < e) back ⌝ }
-    ensures { λ _. ⌜ Does n e (λ o p. moveAt there back r x a p) (area (now (words .entry)) (now (reals .entry))) (area (now (words .exit)) (now (reals .exit))) ⌝ }
+    ensures { λ _. ⌜ Does n e (λ o p. moveAt there back r x a p) (area (now (words .entry)) (now (floats .entry))) (area (now (words .exit)) (now (floats .exit))) ⌝ }
 {
-    adjust_eq_movement(there, back, x, reals);
+    adjust_eq_movement(there, back, x, floats);
     let from = e + r + r;
     let to = e + a + a;
-    reals[from] = reals[from] - x;
-    reals[to] = reals[to] + x;
+    floats[from] = floats[from] - x;
+    floats[to] = floats[to] + x;
 }
 
 // The link k of the turf r, which ends at the row a: x moves if the turf there has no fast mark.
@@ -78,11 +78,11 @@ fn fast_link(
     n: usize,
     e: usize,
     words: &[u32],
-    reals: &mut [f32],
+    floats: &mut [f32],
 )
-    requires { ⌜ Fit n e (area (now words) (now reals)) × ((z < 4096) × ((r < n) × ((a < n) × (k < e)))) ⌝ }
-    requires { ⌜ getD (view n e (area (now words) (now reals)) .reverse) k 0 ≤ e ⌝ }
-    ensures { λ _. ⌜ Does n e (λ o p. fastVia (view n e (area (now (words .entry)) (now (reals .entry))) .reverse) z r x o k a p) (area (now (words .entry)) (now (reals .entry))) (area (now (words .exit)) (now (reals .exit))) ⌝ }
+    requires { ⌜ Fit n e (area (now words) (now floats)) × ((z < 4096) × ((r < n) × ((a < n) × (k < e)))) ⌝ }
+    requires { ⌜ getD (view n e (area (now words) (now floats)) .reverse) k 0 ≤ e ⌝ }
+    ensures { λ _. ⌜ Does n e (λ o p. fastVia (view n e (area (now (words .entry)) (now (floats .entry))) .reverse) z r x o k a p) (area (now (words .entry)) (now (floats .entry))) (area (now (words .exit)) (now (floats .exit))) ⌝ }
 {
     if words[k] != z + 1 {
         return;
@@ -92,7 +92,7 @@ fn fast_link(
         return;
     }
     let back = back_link(k, z, e, words);
-    fast_move(Spot::At(k), back, r, to, x, n, e, words, reals);
+    fast_move(Spot::At(k), back, r, to, x, n, e, words, floats);
 }
 
 // The links of the turf r, which are handed on as a part of the link list that starts at `from`.
@@ -105,15 +105,15 @@ fn fast_row(
     n: usize,
     e: usize,
     words: &[u32],
-    reals: &mut [f32],
+    floats: &mut [f32],
 )
-    requires { ⌜ Fit n e (area (now words) (now reals)) × ((z < 4096) × ((r < n) × (Below n (now part) × (from + length (now part) ≤ e)))) ⌝ }
-    requires { ⌜ ((i : ℕ) → i < length (now part) → getD (view n e (area (now words) (now reals)) .reverse) (from + i) 0 ≤ e) ⌝ }
-    ensures { λ _. ⌜ Does n e (λ o p. run (λ i t. fastVia (view n e (area (now (words .entry)) (now (reals .entry))) .reverse) z r x o (from + i) (getD (now (part .entry)) i 0) t) (upFrom 0 (length (now (part .entry)))) p) (area (now (words .entry)) (now (reals .entry))) (area (now (words .exit)) (now (reals .exit))) ⌝ }
+    requires { ⌜ Fit n e (area (now words) (now floats)) × ((z < 4096) × ((r < n) × (Below n (now part) × (from + length (now part) ≤ e)))) ⌝ }
+    requires { ⌜ ((i : ℕ) → i < length (now part) → getD (view n e (area (now words) (now floats)) .reverse) (from + i) 0 ≤ e) ⌝ }
+    ensures { λ _. ⌜ Does n e (λ o p. run (λ i t. fastVia (view n e (area (now (words .entry)) (now (floats .entry))) .reverse) z r x o (from + i) (getD (now (part .entry)) i 0) t) (upFrom 0 (length (now (part .entry)))) p) (area (now (words .entry)) (now (floats .entry))) (area (now (words .exit)) (now (floats .exit))) ⌝ }
 {
     let mut i = 0;
     while i < part.len() {
-        fast_link(r, x, from + i, part[i], z, n, e, words, reals);
+        fast_link(r, x, from + i, part[i], z, n, e, words, floats);
         i += 1;
     }
 }
@@ -127,14 +127,14 @@ fn fast_turf(
     n: usize,
     e: usize,
     words: &mut [u32],
-    reals: &mut [f32],
+    floats: &mut [f32],
 )
-    requires { ⌜ Linked n (now starts) (now neighbours) × ((length (now neighbours) ≡ e) × (Fit n e (area (now words) (now reals)) × ((z < 4096) × (r < n)))) ⌝ }
-    requires { ⌜ Reverses (grid n (now starts) (now neighbours)) n (view n e (area (now words) (now reals)) .reverse) ⌝ }
-    ensures { λ _. ⌜ Does n e (λ o p. fastTurf (grid n (now (starts .entry)) (now (neighbours .entry))) o z r p) (area (now (words .entry)) (now (reals .entry))) (area (now (words .exit)) (now (reals .exit))) ⌝ }
+    requires { ⌜ Linked n (now starts) (now neighbours) × ((length (now neighbours) ≡ e) × (Fit n e (area (now words) (now floats)) × ((z < 4096) × (r < n)))) ⌝ }
+    requires { ⌜ Reverses (grid n (now starts) (now neighbours)) n (view n e (area (now words) (now floats)) .reverse) ⌝ }
+    ensures { λ _. ⌜ Does n e (λ o p. fastTurf (grid n (now (starts .entry)) (now (neighbours .entry))) o z r p) (area (now (words .entry)) (now (floats .entry))) (area (now (words .exit)) (now (floats .exit))) ⌝ }
 {
     let row = r as usize;
-    let i = load(row, n, e, words, reals);
+    let i = load(row, n, e, words, floats);
     let delta = i.delta;
     let done = MonstermosInfo {
         delta,
@@ -142,13 +142,13 @@ fn fast_turf(
         direction: i.direction,
         fast: 1,
     };
-    store(row, done, n, e, words, reals);
+    store(row, done, n, e, words, floats);
     if delta > 0.0 {
         let from = starts[row] as usize;
         let to = starts[row + 1] as usize;
         let count = count_eligible(&neighbours[from..to], from, z, n, e, words);
         let x = delta / (count as f32);
-        fast_row(row, x, &neighbours[from..to], from, z, n, e, words, reals);
+        fast_row(row, x, &neighbours[from..to], from, z, n, e, words, floats);
     }
 }
 
@@ -162,15 +162,15 @@ pub fn fast_all(
     n: usize,
     e: usize,
     words: &mut [u32],
-    reals: &mut [f32],
+    floats: &mut [f32],
 )
-    requires { ⌜ Linked n (now starts) (now neighbours) × ((length (now neighbours) ≡ e) × (Fit n e (area (now words) (now reals)) × (z < 4096))) ⌝ }
-    requires { ⌜ Reverses (grid n (now starts) (now neighbours)) n (view n e (area (now words) (now reals)) .reverse) × Nodes n e first count (area (now words) (now reals)) ⌝ }
-    ensures { λ _. ⌜ Does n e (λ o p. run (fastTurf (grid n (now (starts .entry)) (now (neighbours .entry))) o z) (nodesOf n e (view n e (area (now (words .entry)) (now (reals .entry)))) first count) p) (area (now (words .entry)) (now (reals .entry))) (area (now (words .exit)) (now (reals .exit))) ⌝ }
+    requires { ⌜ Linked n (now starts) (now neighbours) × ((length (now neighbours) ≡ e) × (Fit n e (area (now words) (now floats)) × (z < 4096))) ⌝ }
+    requires { ⌜ Reverses (grid n (now starts) (now neighbours)) n (view n e (area (now words) (now floats)) .reverse) × Nodes n e first count (area (now words) (now floats)) ⌝ }
+    ensures { λ _. ⌜ Does n e (λ o p. run (fastTurf (grid n (now (starts .entry)) (now (neighbours .entry))) o z) (nodesOf n e (view n e (area (now (words .entry)) (now (floats .entry)))) first count) p) (area (now (words .entry)) (now (floats .entry))) (area (now (words .exit)) (now (floats .exit))) ⌝ }
 {
     let mut i = 0;
     while i < count {
-        fast_turf(words[first + i], starts, neighbours, z, n, e, words, reals);
+        fast_turf(words[first + i], starts, neighbours, z, n, e, words, floats);
         i += 1;
     }
 }

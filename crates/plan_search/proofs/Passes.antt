@@ -24,7 +24,7 @@ use Rattle.plan_search.proofs.Rows.{leaves-then, keeps-next}
 
 -- a step that has nothing to do
 passes-none : {side : Side} {n e z r from : ℕ} {part : List ℕ} {count : ℕ} (f : ℕ → List ℕ → Seek → Seek) {a : Area} → Seeking n e count a
-    → ((g : ℕ) → g < n → settled side (getD (a .reals) (e + g + g) nan) ≡ false → Sought n e (f g) count count a a) → Passes side n e f z r from part count count a a
+    → ((g : ℕ) → g < n → settled side (getD (a .floats) (e + g + g) nan) ≡ false → Sought n e (f g) count count a a) → Passes side n e f z r from part count count a a
 passes-none f h s = record { seeking = h; sought = s; met = keeps-none; idle = λ first. idle-none; deltas = λ g hg. refl }
 
 module _ (side : Side) (r k a z n e count : ℕ) (w : List ℕ) (f : List Float) (h : Seeking n e count (area w f)) (hk : k < e) (ha : a < n) where

@@ -84,9 +84,9 @@ pub record Row (side : Side) (g r : ℕ) (part : List ℕ) (from z n e count fir
   pub on : Onward n e (λ o s. run (alongPart side g r part from z o) (upFrom i (length part - i)) s) (λ o s. run (alongPart side g r part from z o) (upFrom 0 (length part)) s) count c a a′
   pub met : KeepsMet n e z r from part count c a a′
   pub idle : KeepsIdle n e count first c f a a′
-  pub unsettled : settled side (getD (a′ .reals) (e + g + g) nan) ≡ false
+  pub unsettled : settled side (getD (a′ .floats) (e + g + g) nan) ≡ false
 
-pub row-start : {side : Side} {g r : ℕ} {part : List ℕ} {from z n e count first : ℕ} {A : Area} → Seeking n e count A → settled side (getD (A .reals) (e + g + g) nan) ≡ false
+pub row-start : {side : Side} {g r : ℕ} {part : List ℕ} {from z n e count first : ℕ} {A : Area} → Seeking n e count A → settled side (getD (A .floats) (e + g + g) nan) ≡ false
     → Row side g r part from z n e count first count first 0 A A
 row-start h t = record { on = onward-start h (λ o s. rw sub-zero); met = keeps-none; idle = idle-none; unsettled = t }
 
@@ -104,7 +104,7 @@ row-passes {side} {g} {r} {part} {from} {z} {i = i} {j = j} t hg l m p = record 
 -- one link
 pub row-next : {side : Side} {g r : ℕ} {part : List ℕ} {from z n e count first c c′ f f′ i : ℕ} {A B C : Area} → Row side g r part from z n e count first c f i A B → i < length part
     → Sought n e (λ o s. cond (eqb (getD o (from + i) 0) (z + 1)) (seekTo side g r (getD part i 0) s) s) c c′ B C → KeepsMet n e z r (from + i) (getD part i 0 ∷ []) c c′ B C
-    → KeepsIdle n e c f c′ f′ B C → settled side (getD (C .reals) (e + g + g) nan) ≡ false → Row side g r part from z n e count first c′ f′ (i + 1) A C
+    → KeepsIdle n e c f c′ f′ B C → settled side (getD (C .floats) (e + g + g) nan) ≡ false → Row side g r part from z n e count first c′ f′ (i + 1) A C
 unfolding alongPart
 row-next {side} {g} {r} {part} {from} {z} {i = i} t l d k m u = record {
   on = onward-next _ _ (t .on) d (λ o s. run-up (alongPart side g r part from z o) i (length part) s l);

@@ -20,7 +20,7 @@ use Rattle.process_zone.specs.Plan.{Plan, Seek, settled, wants, meet, seekTo}
 use Rattle.process_zone.specs.declared.Side.{Side}
 use Rattle.index_set.specs.Line.{Line, array, Holds}
 use Rattle.index_set.proofs.Queue.{not-member, count-below, take-more, line-more}
-use Rattle.plan_state.specs.Held.{Area, area, wsizes, rsizes, View, viewIn, view, Fit, onPlan, Does}
+use Rattle.plan_state.specs.Held.{Area, area, wsizes, fsizes, View, viewIn, view, Fit, onPlan, Does}
 use Rattle.plan_state.proofs.Stores.{frame-none, owner-at, delta-at, direction-length, via-length, amount-length, paired, via-view}
 use Rattle.plan_trade.specs.Search.{Seeking, seekOf, Leaves, Sought, Leads, Met, AllMet, KeepsMet, Idle, KeepsIdle}
 use Rattle.plan_trade.specs.Steps.{lesser, point}
@@ -148,7 +148,7 @@ module _ (side : Side) (g r k a z n e count : ℕ) (w : List ℕ) (f : List Floa
           places = set (view n e (area w f) .places) a count;
           list = view n e (area w f) .list;
           restW = view n e (area w f) .restW;
-          restR = view n e (area w f) .restR;
+          restF = view n e (area w f) .restF;
         }
 
         module _ (w′ : List ℕ) (s : w′ ≡ set (set w (queue + count) a) (places + a) count) where
@@ -162,13 +162,13 @@ module _ (side : Side) (g r k a z n e count : ℕ) (w : List ℕ) (f : List Floa
             places = set (view n e (area w f) .places) a count;
             list = view n e (area w f) .list;
             restW = view n e (area w f) .restW;
-            restR = view n e (area w f) .restR;
+            restF = view n e (area w f) .restF;
           }
 
           line-view : view n e (area w′ f) ≡ lined
           unfolding view
           line-view =
-              rw s (ap (λ rs. viewIn rs (cut (rsizes n e) f))
+              rw s (ap (λ rs. viewIn rs (cut (fsizes n e) f))
               (cut-set (wsizes n e) (set w (queue + count) a) 5 a count (places + a) (omega arith) ha (omega arith)
               ∙ ap (λ rs. set rs 5 (set (getD rs 5 []) a count)) (cut-set (wsizes n e) w 4 count a (queue + count) (omega arith) link-room (omega arith))))
 
@@ -179,7 +179,7 @@ module _ (side : Side) (g r k a z n e count : ℕ) (w : List ℕ) (f : List Floa
           pub push-fit : Fit n e (area (set w′ (e + e + a + a + 1) k) f)
           push-fit = record {
             words = rw s (simp length-set (h .fit .words));
-            reals = h .fit .reals;
+            floats = h .fit .floats;
             turfs = h .fit .turfs;
             links = h .fit .links;
           }
@@ -201,7 +201,7 @@ module _ (side : Side) (g r k a z n e count : ℕ) (w : List ℕ) (f : List Floa
                   owner = ap (λ (v : View). v .owner) after;
                   reverse = ap (λ (v : View). v .reverse) after;
                   restW = ap (λ (v : View). v .restW) after;
-                  restR = ap (λ (v : View). v .restR) after;
+                  restF = ap (λ (v : View). v .restF) after;
                 };
                 list = ap (λ (v : View). v .list) after;
               };

@@ -28,7 +28,7 @@ use Rattle.process_zone.specs.declared.Side.{Side}
 use Rattle.index_set.specs.Line.{Below, Apart, Line}
 use Rattle.index_set.proofs.Queue.{take-more, line-more}
 use Rattle.reverse_links.specs.Reverse.{InRow, Linked, Reverses}
-use Rattle.plan_state.specs.Held.{grid, Area, area, wsizes, rsizes, View, viewIn, view, Fit, Does, Frame, Serves}
+use Rattle.plan_state.specs.Held.{grid, Area, area, wsizes, fsizes, View, viewIn, view, Fit, Does, Frame, Serves}
 use Rattle.plan_state.specs.Steps.{backLink, adjustAt}
 use Rattle.plan_state.proofs.Stores.{frame-then, does-frame, store-amount, setAmount, direction-length, amount-length}
 use Rattle.plan_state.proofs.Links.{link-below, edge-there, edge-back, reverse-within}
@@ -135,17 +135,17 @@ module _ (n e g : ℕ) (w w′ : List ℕ) (f : List Float) (h : Fit n e (area w
     places = set (view n e (area w f) .places) g 0;
     list = view n e (area w f) .list;
     restW = view n e (area w f) .restW;
-    restR = view n e (area w f) .restR;
+    restF = view n e (area w f) .restF;
   }
   unfolding view
   begun-view =
-      rw s (ap (λ rs. viewIn rs (cut (rsizes n e) f))
+      rw s (ap (λ rs. viewIn rs (cut (fsizes n e) f))
       (cut-set (wsizes n e) (set w (queue + 0) g) 5 g 0 (places + g) (omega arith) hg (omega arith)
       ∙ ap (λ rs. set rs 5 (set (getD rs 5 []) g 0)) (cut-set (wsizes n e) w 4 0 g (queue + 0) (omega arith) (omega arith) (omega arith))))
 
   pub begun : Seeking n e 1 (area w′ f)
   begun = record {
-    fit = record { words = rw s (simp lib.ListN.length-set (h .words)); reals = h .reals; turfs = h .turfs; links = h .links };
+    fit = record { words = rw s (simp lib.ListN.length-set (h .words)); floats = h .floats; turfs = h .turfs; links = h .links };
     line = subst (λ (v : View). Line n 1 (v .queue) (v .places)) (sym begun-view) (line-more (seeking-none n e (area w f) h .line) g hg empty);
   }
 
@@ -194,7 +194,7 @@ module _ (n e g : ℕ) (w w′ : List ℕ) (f : List Float) (h : Fit n e (area w
       owner = ap (λ (v : View). v .owner) begun-view;
       reverse = ap (λ (v : View). v .reverse) begun-view;
       restW = ap (λ (v : View). v .restW) begun-view;
-      restR = ap (λ (v : View). v .restR) begun-view;
+      restF = ap (λ (v : View). v .restF) begun-view;
     };
     list = ap (λ (v : View). v .list) begun-view;
   }

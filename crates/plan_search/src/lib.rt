@@ -58,14 +58,14 @@ fn seek_link(
     count: usize,
     first: usize,
     words: &mut [u32],
-    reals: &mut [f32],
+    floats: &mut [f32],
 ) -> Step
-    requires { ⌜ Seeking n e count (area (now words) (now reals)) × ((z < 4096) × (settled side (getD (now reals) (e + g + g) nan) ≡ false)) ⌝ }
+    requires { ⌜ Seeking n e count (area (now words) (now floats)) × ((z < 4096) × (settled side (getD (now floats) (e + g + g) nan) ≡ false)) ⌝ }
     requires { ⌜ (g < n) × ((r < n) × ((a < n) × (k < e))) ⌝ }
-    ensures { λ c. ⌜ Sought n e (λ o s. cond (eqb (getD o k 0) (z + 1)) (seekTo side g r a s) s) count (c .count) (area (now (words .entry)) (now (reals .entry))) (area (now (words .exit)) (now (reals .exit))) ⌝ }
-    ensures { λ c. ⌜ KeepsMet n e z r k (a ∷ []) count (c .count) (area (now (words .entry)) (now (reals .entry))) (area (now (words .exit)) (now (reals .exit))) ⌝ }
-    ensures { λ c. ⌜ KeepsIdle n e count first (c .count) (c .first) (area (now (words .entry)) (now (reals .entry))) (area (now (words .exit)) (now (reals .exit))) ⌝ }
-    ensures { λ c. ⌜ c .done ≡ settled side (getD (now (reals .exit)) (e + g + g) nan) ⌝ }
+    ensures { λ c. ⌜ Sought n e (λ o s. cond (eqb (getD o k 0) (z + 1)) (seekTo side g r a s) s) count (c .count) (area (now (words .entry)) (now (floats .entry))) (area (now (words .exit)) (now (floats .exit))) ⌝ }
+    ensures { λ c. ⌜ KeepsMet n e z r k (a ∷ []) count (c .count) (area (now (words .entry)) (now (floats .entry))) (area (now (words .exit)) (now (floats .exit))) ⌝ }
+    ensures { λ c. ⌜ KeepsIdle n e count first (c .count) (c .first) (area (now (words .entry)) (now (floats .entry))) (area (now (words .exit)) (now (floats .exit))) ⌝ }
+    ensures { λ c. ⌜ c .done ≡ settled side (getD (now (floats .exit)) (e + g + g) nan) ⌝ }
 {
     if words[k] != z + 1 {
         return Step {
@@ -86,11 +86,11 @@ fn seek_link(
     insert(a, count, queue, places, words);
     let row = a as usize;
     words[e + e + row + row + 1] = k as u32;
-    let traded = meet(side, g, r, row, n, e, words, reals);
+    let traded = meet(side, g, r, row, n, e, words, floats);
     Step {
         count: count + 1,
         first: first_traded(traded, first, count),
-        done: settles(traded, side, reals[e + g + g]),
+        done: settles(traded, side, floats[e + g + g]),
     }
 }
 
@@ -111,12 +111,12 @@ fn pass_link(
     e: usize,
     count: usize,
     words: &mut [u32],
-    reals: &mut [f32],
+    floats: &mut [f32],
 ) -> Passed
-    requires { ⌜ Seeking n e count (area (now words) (now reals)) × (z < 4096) ⌝ }
+    requires { ⌜ Seeking n e count (area (now words) (now floats)) × (z < 4096) ⌝ }
     requires { ⌜ (r < n) × ((a < n) × (k < e)) ⌝ }
-    ensures { λ p. ⌜ (p .wants ≡ true → area (now (words .exit)) (now (reals .exit)) ≡ area (now (words .entry)) (now (reals .entry))) ⌝ }
-    ensures { λ p. ⌜ (p .wants ≡ false → Passes side n e (λ g o s. cond (eqb (getD o k 0) (z + 1)) (seekTo side g r a s) s) z r k (a ∷ []) count (p .count) (area (now (words .entry)) (now (reals .entry))) (area (now (words .exit)) (now (reals .exit)))) ⌝ }
+    ensures { λ p. ⌜ (p .wants ≡ true → area (now (words .exit)) (now (floats .exit)) ≡ area (now (words .entry)) (now (floats .entry))) ⌝ }
+    ensures { λ p. ⌜ (p .wants ≡ false → Passes side n e (λ g o s. cond (eqb (getD o k 0) (z + 1)) (seekTo side g r a s) s) z r k (a ∷ []) count (p .count) (area (now (words .entry)) (now (floats .entry))) (area (now (words .exit)) (now (floats .exit)))) ⌝ }
 {
     if words[k] != z + 1 {
         return Passed {
@@ -133,12 +133,12 @@ fn pass_link(
         };
     }
     let row = a as usize;
-    if wants(side, reals[e + row + row]) {
+    if wants(side, floats[e + row + row]) {
         return Passed { count, wants: true };
     }
     insert(a, count, queue, places, words);
     words[e + e + row + row + 1] = k as u32;
-    point(row, r + 1, n, e, words, reals);
+    point(row, r + 1, n, e, words, floats);
     Passed {
         count: count + 1,
         wants: false,
@@ -163,17 +163,17 @@ fn pass_links(
     e: usize,
     count: usize,
     words: &mut [u32],
-    reals: &mut [f32],
+    floats: &mut [f32],
 ) -> Pass
-    requires { ⌜ Seeking n e count (area (now words) (now reals)) × (z < 4096) ⌝ }
+    requires { ⌜ Seeking n e count (area (now words) (now floats)) × (z < 4096) ⌝ }
     requires { ⌜ (r < n) × (Below n (now part) × ((from + length (now part) ≤ e) × (at ≤ length (now part)))) ⌝ }
     ensures { λ p. ⌜ (at ≤ p .at) × (p .at ≤ length (now (part .entry))) ⌝ }
-    ensures { λ p. ⌜ Passes side n e (λ g o s. run (alongPart side g r (now (part .entry)) from z o) (upFrom at (p .at - at)) s) z r from (now (part .entry)) count (p .count) (area (now (words .entry)) (now (reals .entry))) (area (now (words .exit)) (now (reals .exit))) ⌝ }
+    ensures { λ p. ⌜ Passes side n e (λ g o s. run (alongPart side g r (now (part .entry)) from z o) (upFrom at (p .at - at)) s) z r from (now (part .entry)) count (p .count) (area (now (words .entry)) (now (floats .entry))) (area (now (words .exit)) (now (floats .exit))) ⌝ }
 {
     let mut c = count;
     let mut i = at;
     while i < part.len() {
-        let p = pass_link(side, r, from + i, part[i], z, n, e, c, words, reals);
+        let p = pass_link(side, r, from + i, part[i], z, n, e, c, words, floats);
         if p.wants {
             return Pass { count: c, at: i };
         }
@@ -196,23 +196,23 @@ fn seek_row(
     count: usize,
     first: usize,
     words: &mut [u32],
-    reals: &mut [f32],
+    floats: &mut [f32],
 ) -> Reach
-    requires { ⌜ Seeking n e count (area (now words) (now reals)) × ((z < 4096) × (settled side (getD (now reals) (e + g + g) nan) ≡ false)) ⌝ }
+    requires { ⌜ Seeking n e count (area (now words) (now floats)) × ((z < 4096) × (settled side (getD (now floats) (e + g + g) nan) ≡ false)) ⌝ }
     requires { ⌜ (g < n) × ((r < n) × (Below n (now part) × (from + length (now part) ≤ e))) ⌝ }
-    ensures { λ c. ⌜ Sought n e (λ o s. run (alongPart side g r (now (part .entry)) from z o) (upFrom 0 (length (now (part .entry)))) s) count (c .count) (area (now (words .entry)) (now (reals .entry))) (area (now (words .exit)) (now (reals .exit))) ⌝ }
-    ensures { λ c. ⌜ KeepsMet n e z r from (now (part .entry)) count (c .count) (area (now (words .entry)) (now (reals .entry))) (area (now (words .exit)) (now (reals .exit))) ⌝ }
-    ensures { λ c. ⌜ KeepsIdle n e count first (c .count) (c .first) (area (now (words .entry)) (now (reals .entry))) (area (now (words .exit)) (now (reals .exit))) ⌝ }
+    ensures { λ c. ⌜ Sought n e (λ o s. run (alongPart side g r (now (part .entry)) from z o) (upFrom 0 (length (now (part .entry)))) s) count (c .count) (area (now (words .entry)) (now (floats .entry))) (area (now (words .exit)) (now (floats .exit))) ⌝ }
+    ensures { λ c. ⌜ KeepsMet n e z r from (now (part .entry)) count (c .count) (area (now (words .entry)) (now (floats .entry))) (area (now (words .exit)) (now (floats .exit))) ⌝ }
+    ensures { λ c. ⌜ KeepsIdle n e count first (c .count) (c .first) (area (now (words .entry)) (now (floats .entry))) (area (now (words .exit)) (now (floats .exit))) ⌝ }
 {
     let mut c = count;
     let mut f = first;
     let mut i = 0;
     while i < part.len() {
-        let pass = pass_links(side, r, part, i, from, z, n, e, c, words, reals);
+        let pass = pass_links(side, r, part, i, from, z, n, e, c, words, floats);
         c = pass.count;
         i = pass.at;
         if i < part.len() {
-            let step = seek_link(side, g, r, from + i, part[i], z, n, e, c, f, words, reals);
+            let step = seek_link(side, g, r, from + i, part[i], z, n, e, c, f, words, floats);
             c = step.count;
             f = step.first;
             i += 1;
@@ -237,13 +237,13 @@ fn seek_turf(
     count: usize,
     first: usize,
     words: &mut [u32],
-    reals: &mut [f32],
+    floats: &mut [f32],
 ) -> Reach
-    requires { ⌜ Seeking n e count (area (now words) (now reals)) × ((z < 4096) × (settled side (getD (now reals) (e + g + g) nan) ≡ false)) ⌝ }
+    requires { ⌜ Seeking n e count (area (now words) (now floats)) × ((z < 4096) × (settled side (getD (now floats) (e + g + g) nan) ≡ false)) ⌝ }
     requires { ⌜ (g < n) × ((r < n) × (Linked n (now starts) (now neighbours) × (length (now neighbours) ≡ e))) ⌝ }
-    ensures { λ c. ⌜ Sought n e (λ o s. run (seekLink (grid n (now (starts .entry)) (now (neighbours .entry))) o z side g r) (edgesOf (grid n (now (starts .entry)) (now (neighbours .entry))) o z r) s) count (c .count) (area (now (words .entry)) (now (reals .entry))) (area (now (words .exit)) (now (reals .exit))) ⌝ }
-    ensures { λ c. ⌜ (AllMet n z (now (starts .entry)) (now (neighbours .entry)) (view n e (area (now (words .entry)) (now (reals .entry)))) count → AllMet n z (now (starts .entry)) (now (neighbours .entry)) (view n e (area (now (words .exit)) (now (reals .exit)))) (c .count)) ⌝ }
-    ensures { λ c. ⌜ KeepsIdle n e count first (c .count) (c .first) (area (now (words .entry)) (now (reals .entry))) (area (now (words .exit)) (now (reals .exit))) ⌝ }
+    ensures { λ c. ⌜ Sought n e (λ o s. run (seekLink (grid n (now (starts .entry)) (now (neighbours .entry))) o z side g r) (edgesOf (grid n (now (starts .entry)) (now (neighbours .entry))) o z r) s) count (c .count) (area (now (words .entry)) (now (floats .entry))) (area (now (words .exit)) (now (floats .exit))) ⌝ }
+    ensures { λ c. ⌜ (AllMet n z (now (starts .entry)) (now (neighbours .entry)) (view n e (area (now (words .entry)) (now (floats .entry)))) count → AllMet n z (now (starts .entry)) (now (neighbours .entry)) (view n e (area (now (words .exit)) (now (floats .exit)))) (c .count)) ⌝ }
+    ensures { λ c. ⌜ KeepsIdle n e count first (c .count) (c .first) (area (now (words .entry)) (now (floats .entry))) (area (now (words .exit)) (now (floats .exit))) ⌝ }
 {
     let row = r as usize;
     let from = starts[row] as usize;
@@ -260,7 +260,7 @@ fn seek_turf(
         count,
         first,
         words,
-        reals,
+        floats,
     )
 }
 
@@ -281,21 +281,21 @@ fn seek(
     n: usize,
     e: usize,
     words: &mut [u32],
-    reals: &mut [f32],
+    floats: &mut [f32],
 ) -> Sweep
-    requires { ⌜ Seeking n e 1 (area (now words) (now reals)) × (z < 4096) ⌝ }
-    requires { ⌜ (g < n) × (Linked n (now starts) (now neighbours) × ((length (now neighbours) ≡ e) × AllMet n z (now starts) (now neighbours) (view n e (area (now words) (now reals))) 1)) ⌝ }
-    requires { ⌜ Idle (view n e (area (now words) (now reals))) 1 n ⌝ }
-    ensures { λ c. ⌜ Searched n e (λ o s. times (seekNext (grid n (now (starts .entry)) (now (neighbours .entry))) o z side g) n s) 1 (c .count) (c .looked) (area (now (words .entry)) (now (reals .entry))) (area (now (words .exit)) (now (reals .exit))) ⌝ }
-    ensures { λ c. ⌜ AllMet n z (now (starts .entry)) (now (neighbours .entry)) (view n e (area (now (words .exit)) (now (reals .exit)))) (c .count) ⌝ }
-    ensures { λ c. ⌜ Idle (view n e (area (now (words .exit)) (now (reals .exit)))) (c .count) (c .first) ⌝ }
+    requires { ⌜ Seeking n e 1 (area (now words) (now floats)) × (z < 4096) ⌝ }
+    requires { ⌜ (g < n) × (Linked n (now starts) (now neighbours) × ((length (now neighbours) ≡ e) × AllMet n z (now starts) (now neighbours) (view n e (area (now words) (now floats))) 1)) ⌝ }
+    requires { ⌜ Idle (view n e (area (now words) (now floats))) 1 n ⌝ }
+    ensures { λ c. ⌜ Searched n e (λ o s. times (seekNext (grid n (now (starts .entry)) (now (neighbours .entry))) o z side g) n s) 1 (c .count) (c .looked) (area (now (words .entry)) (now (floats .entry))) (area (now (words .exit)) (now (floats .exit))) ⌝ }
+    ensures { λ c. ⌜ AllMet n z (now (starts .entry)) (now (neighbours .entry)) (view n e (area (now (words .exit)) (now (floats .exit)))) (c .count) ⌝ }
+    ensures { λ c. ⌜ Idle (view n e (area (now (words .exit)) (now (floats .exit)))) (c .count) (c .first) ⌝ }
 {
     let queue = index_set::queue_at(n, e);
     let mut count = 1;
     let mut first = n;
     let mut looked = 0;
     while looked < count {
-        if settled(side, reals[e + g + g]) {
+        if settled(side, floats[e + g + g]) {
             return Sweep {
                 count,
                 first,
@@ -314,7 +314,7 @@ fn seek(
             count,
             first,
             words,
-            reals,
+            floats,
         );
         count = reach.count;
         first = reach.first;
@@ -337,26 +337,26 @@ pub fn serve(
     n: usize,
     e: usize,
     words: &mut [u32],
-    reals: &mut [f32],
+    floats: &mut [f32],
 )
-    requires { ⌜ Linked n (now starts) (now neighbours) × ((length (now neighbours) ≡ e) × (Fit n e (area (now words) (now reals)) × ((z < 4096) × (g < n)))) ⌝ }
-    requires { ⌜ Reverses (grid n (now starts) (now neighbours)) n (view n e (area (now words) (now reals)) .reverse) ⌝ }
-    ensures { λ _. ⌜ Serves n e (λ o p. serve (grid n (now (starts .entry)) (now (neighbours .entry))) o z side g p) (area (now (words .entry)) (now (reals .entry))) (area (now (words .exit)) (now (reals .exit))) ⌝ }
+    requires { ⌜ Linked n (now starts) (now neighbours) × ((length (now neighbours) ≡ e) × (Fit n e (area (now words) (now floats)) × ((z < 4096) × (g < n)))) ⌝ }
+    requires { ⌜ Reverses (grid n (now starts) (now neighbours)) n (view n e (area (now words) (now floats)) .reverse) ⌝ }
+    ensures { λ _. ⌜ Serves n e (λ o p. serve (grid n (now (starts .entry)) (now (neighbours .entry))) o z side g p) (area (now (words .entry)) (now (floats .entry))) (area (now (words .exit)) (now (floats .exit))) ⌝ }
 {
     let row = g as usize;
-    let i = load(row, n, e, words, reals);
+    let i = load(row, n, e, words, floats);
     let start = MonstermosInfo {
         delta: i.delta,
         amount: 0.0,
         direction: 0,
         fast: i.fast,
     };
-    store(row, start, n, e, words, reals);
+    store(row, start, n, e, words, floats);
     let queue = index_set::queue_at(n, e);
     let places = index_set::places_at(n, e);
     insert(g, 0, queue, places, words);
-    let sweep = seek(side, row, starts, neighbours, z, n, e, words, reals);
+    let sweep = seek(side, row, starts, neighbours, z, n, e, words, floats);
     let first = least(sweep.first, sweep.count);
-    drain(first, sweep.count, z, n, e, words, reals);
-    drain(0, least(first, sweep.looked), z, n, e, words, reals);
+    drain(first, sweep.count, z, n, e, words, floats);
+    drain(0, least(first, sweep.looked), z, n, e, words, floats);
 }

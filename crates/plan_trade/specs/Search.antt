@@ -74,10 +74,10 @@ pub record KeepsMet (n e z r from : ℕ) (part : List ℕ) (count count′ : ℕ
 -- over such links without a trade: from a to a′ by the step f g, whichever turf g is in hand, as long as it isn't settled
 pub record Passes (side : Side) (n e : ℕ) (f : ℕ → List ℕ → Seek → Seek) (z r from : ℕ) (part : List ℕ) (count count′ : ℕ) (a a′ : Area) : Type 0 where
   pub seeking : Seeking n e count′ a′
-  pub sought : (g : ℕ) → g < n → settled side (getD (a .reals) (e + g + g) nan) ≡ false → Sought n e (f g) count count′ a a′
+  pub sought : (g : ℕ) → g < n → settled side (getD (a .floats) (e + g + g) nan) ≡ false → Sought n e (f g) count count′ a a′
   pub met : KeepsMet n e z r from part count count′ a a′
   pub idle : (first : ℕ) → KeepsIdle n e count first count′ first a a′
-  pub deltas : (g : ℕ) → g < n → getD (a′ .reals) (e + g + g) nan ≡ getD (a .reals) (e + g + g) nan
+  pub deltas : (g : ℕ) → g < n → getD (a′ .floats) (e + g + g) nan ≡ getD (a .floats) (e + g + g) nan
 
 -- what the way back reads is within the areas
 pub record Within (n e : ℕ) (v : View) (a : ℕ) : Type 0 where

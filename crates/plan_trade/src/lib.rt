@@ -104,25 +104,25 @@ pub fn trade(
     n: usize,
     e: usize,
     words: &mut [u32],
-    reals: &mut [f32],
+    floats: &mut [f32],
 )
-    requires { ⌜ Fit n e (area (now words) (now reals)) × ((g < n) × (a < n)) ⌝ }
-    ensures { λ _. ⌜ Does n e (λ o p. trade side g a p) (area (now (words .entry)) (now (reals .entry))) (area (now (words .exit)) (now (reals .exit))) ⌝ }
+    requires { ⌜ Fit n e (area (now words) (now floats)) × ((g < n) × (a < n)) ⌝ }
+    ensures { λ _. ⌜ Does n e (λ o p. trade side g a p) (area (now (words .entry)) (now (floats .entry))) (area (now (words .exit)) (now (floats .exit))) ⌝ }
 {
-    let hand = load(g, n, e, words, reals);
-    let met = load(a, n, e, words, reals);
+    let hand = load(g, n, e, words, floats);
+    let met = load(a, n, e, words, floats);
     let both = barter(side, hand, met);
-    store(a, both.met, n, e, words, reals);
-    store(g, both.hand, n, e, words, reals);
+    store(a, both.met, n, e, words, floats);
+    store(g, both.hand, n, e, words, floats);
 }
 
 // The turf at row a points at d - 1, and has moved nothing yet.
-pub fn point(a: usize, d: u32, n: usize, e: usize, words: &mut [u32], reals: &mut [f32])
-    requires { ⌜ Fit n e (area (now words) (now reals)) × (a < n) ⌝ }
-    ensures { λ _. ⌜ Does n e (λ o p. point a d p) (area (now (words .entry)) (now (reals .entry))) (area (now (words .exit)) (now (reals .exit))) ⌝ }
+pub fn point(a: usize, d: u32, n: usize, e: usize, words: &mut [u32], floats: &mut [f32])
+    requires { ⌜ Fit n e (area (now words) (now floats)) × (a < n) ⌝ }
+    ensures { λ _. ⌜ Does n e (λ o p. point a d p) (area (now (words .entry)) (now (floats .entry))) (area (now (words .exit)) (now (floats .exit))) ⌝ }
 {
     words[e + e + a + a] = d;
-    reals[e + a + a + 1] = 0.0;
+    floats[e + a + a + 1] = 0.0;
 }
 
 // A turf that is met for the first time, from r; whether it traded.
@@ -134,16 +134,16 @@ pub fn meet(
     n: usize,
     e: usize,
     words: &mut [u32],
-    reals: &mut [f32],
+    floats: &mut [f32],
 ) -> bool
-    requires { ⌜ Fit n e (area (now words) (now reals)) × ((g < n) × ((a < n) × (r < n))) ⌝ }
-    ensures { λ _. ⌜ Does n e (λ o p. meet side g r a p) (area (now (words .entry)) (now (reals .entry))) (area (now (words .exit)) (now (reals .exit))) ⌝ }
-    ensures { λ t. ⌜ t ≡ wants side (getD (view n e (area (now (words .entry)) (now (reals .entry))) .plan .delta) a nan) ⌝ }
+    requires { ⌜ Fit n e (area (now words) (now floats)) × ((g < n) × ((a < n) × (r < n))) ⌝ }
+    ensures { λ _. ⌜ Does n e (λ o p. meet side g r a p) (area (now (words .entry)) (now (floats .entry))) (area (now (words .exit)) (now (floats .exit))) ⌝ }
+    ensures { λ t. ⌜ t ≡ wants side (getD (view n e (area (now (words .entry)) (now (floats .entry))) .plan .delta) a nan) ⌝ }
 {
-    point(a, r + 1, n, e, words, reals);
-    let can = wants(side, reals[e + a + a]);
+    point(a, r + 1, n, e, words, floats);
+    let can = wants(side, floats[e + a + a]);
     if can {
-        trade(side, g, a, n, e, words, reals);
+        trade(side, g, a, n, e, words, floats);
     }
     can
 }

@@ -32,12 +32,12 @@ fn picks(side: Side, x: f32) -> bool
 }
 
 // One more, if the turf r gives.
-fn count_one(r: u32, c: usize, e: usize, reals: &[f32]) -> usize
-    requires { ⌜ (e + r + r < length (now reals)) × (c < 4096) ⌝ }
-    ensures { λ k. ⌜ k ≡ cond (picks Giving (getD (now (reals .entry)) (e + r + r) nan)) (c + 1) c ⌝ }
+fn count_one(r: u32, c: usize, e: usize, floats: &[f32]) -> usize
+    requires { ⌜ (e + r + r < length (now floats)) × (c < 4096) ⌝ }
+    ensures { λ k. ⌜ k ≡ cond (picks Giving (getD (now (floats .entry)) (e + r + r) nan)) (c + 1) c ⌝ }
 {
     let row = r as usize;
-    if picks(Side::Giving, reals[e + row + row]) {
+    if picks(Side::Giving, floats[e + row + row]) {
         c + 1
     } else {
         c
@@ -51,15 +51,15 @@ fn count_givers(
     n: usize,
     e: usize,
     words: &[u32],
-    reals: &[f32],
+    floats: &[f32],
 ) -> usize
-    requires { ⌜ Fit n e (area (now words) (now reals)) × (Nodes n e first count (area (now words) (now reals)) × (count ≤ 4096)) ⌝ }
-    ensures { λ k. ⌜ k ≡ length (chosen Giving (nodesOf n e (view n e (area (now (words .entry)) (now (reals .entry)))) first count) (view n e (area (now (words .entry)) (now (reals .entry))) .plan)) ⌝ }
+    requires { ⌜ Fit n e (area (now words) (now floats)) × (Nodes n e first count (area (now words) (now floats)) × (count ≤ 4096)) ⌝ }
+    ensures { λ k. ⌜ k ≡ length (chosen Giving (nodesOf n e (view n e (area (now (words .entry)) (now (floats .entry)))) first count) (view n e (area (now (words .entry)) (now (floats .entry))) .plan)) ⌝ }
 {
     let mut c = 0;
     let mut i = 0;
     while i < count {
-        c = count_one(words[first + i], c, e, reals);
+        c = count_one(words[first + i], c, e, floats);
         i += 1;
     }
     c
@@ -81,13 +81,13 @@ fn choose(
     list: usize,
     e: usize,
     words: &mut [u32],
-    reals: &[f32],
+    floats: &[f32],
 ) -> usize
-    requires { ⌜ (list + c < length (now words)) × ((e + r + r < length (now reals)) × (c < 4096)) ⌝ }
-    ensures { λ k. ⌜ (k ≡ cond (picks side (getD (now (reals .entry)) (e + r + r) nan)) (c + 1) c) × (now (words .exit) ≡ cond (picks side (getD (now (reals .entry)) (e + r + r) nan)) (set (now (words .entry)) (list + c) r) (now (words .entry))) ⌝ }
+    requires { ⌜ (list + c < length (now words)) × ((e + r + r < length (now floats)) × (c < 4096)) ⌝ }
+    ensures { λ k. ⌜ (k ≡ cond (picks side (getD (now (floats .entry)) (e + r + r) nan)) (c + 1) c) × (now (words .exit) ≡ cond (picks side (getD (now (floats .entry)) (e + r + r) nan)) (set (now (words .entry)) (list + c) r) (now (words .entry))) ⌝ }
 {
     let row = r as usize;
-    if picks(side, reals[e + row + row]) {
+    if picks(side, floats[e + row + row]) {
         words[list + c] = r;
         return c + 1;
     }
@@ -102,16 +102,16 @@ fn gather(
     n: usize,
     e: usize,
     words: &mut [u32],
-    reals: &[f32],
+    floats: &[f32],
 ) -> usize
-    requires { ⌜ Fit n e (area (now words) (now reals)) × (Nodes n e first count (area (now words) (now reals)) × (count ≤ n)) ⌝ }
-    ensures { λ k. ⌜ Picked n e (chosen side (nodesOf n e (view n e (area (now (words .entry)) (now (reals .entry)))) first count) (view n e (area (now (words .entry)) (now (reals .entry))) .plan)) k (area (now (words .entry)) (now (reals .entry))) (area (now (words .exit)) (now (reals .exit))) ⌝ }
+    requires { ⌜ Fit n e (area (now words) (now floats)) × (Nodes n e first count (area (now words) (now floats)) × (count ≤ n)) ⌝ }
+    ensures { λ k. ⌜ Picked n e (chosen side (nodesOf n e (view n e (area (now (words .entry)) (now (floats .entry)))) first count) (view n e (area (now (words .entry)) (now (floats .entry))) .plan)) k (area (now (words .entry)) (now (floats .entry))) (area (now (words .exit)) (now (floats .exit))) ⌝ }
 {
     let list = list_at(n, e);
     let mut c = 0;
     let mut i = 0;
     while i < count {
-        c = choose(side, words[first + i], c, list, e, words, reals);
+        c = choose(side, words[first + i], c, list, e, words, floats);
         i += 1;
     }
     c
@@ -127,11 +127,11 @@ fn serve_all(
     n: usize,
     e: usize,
     words: &mut [u32],
-    reals: &mut [f32],
+    floats: &mut [f32],
 )
-    requires { ⌜ Linked n (now starts) (now neighbours) × ((length (now neighbours) ≡ e) × (Fit n e (area (now words) (now reals)) × (z < 4096))) ⌝ }
-    requires { ⌜ Reverses (grid n (now starts) (now neighbours)) n (view n e (area (now words) (now reals)) .reverse) × ((count ≤ n) × Below n (take count (view n e (area (now words) (now reals)) .list))) ⌝ }
-    ensures { λ _. ⌜ Serves n e (λ o p. run (serve (grid n (now (starts .entry)) (now (neighbours .entry))) o z side) (take count (view n e (area (now (words .entry)) (now (reals .entry))) .list)) p) (area (now (words .entry)) (now (reals .entry))) (area (now (words .exit)) (now (reals .exit))) ⌝ }
+    requires { ⌜ Linked n (now starts) (now neighbours) × ((length (now neighbours) ≡ e) × (Fit n e (area (now words) (now floats)) × (z < 4096))) ⌝ }
+    requires { ⌜ Reverses (grid n (now starts) (now neighbours)) n (view n e (area (now words) (now floats)) .reverse) × ((count ≤ n) × Below n (take count (view n e (area (now words) (now floats)) .list))) ⌝ }
+    ensures { λ _. ⌜ Serves n e (λ o p. run (serve (grid n (now (starts .entry)) (now (neighbours .entry))) o z side) (take count (view n e (area (now (words .entry)) (now (floats .entry))) .list)) p) (area (now (words .entry)) (now (floats .entry))) (area (now (words .exit)) (now (floats .exit))) ⌝ }
 {
     let list = list_at(n, e);
     let mut i = 0;
@@ -145,7 +145,7 @@ fn serve_all(
             n,
             e,
             words,
-            reals,
+            floats,
         );
         i += 1;
     }
@@ -172,18 +172,18 @@ fn fast_pass(
     n: usize,
     e: usize,
     words: &mut [u32],
-    reals: &mut [f32],
+    floats: &mut [f32],
 )
-    requires { ⌜ Linked n (now starts) (now neighbours) × ((length (now neighbours) ≡ e) × (Fit n e (area (now words) (now reals)) × (z < 4096))) ⌝ }
-    requires { ⌜ Reverses (grid n (now starts) (now neighbours)) n (view n e (area (now words) (now reals)) .reverse) × (Nodes n e first count (area (now words) (now reals)) × ((0 < count) × (count ≤ 4096))) ⌝ }
-    ensures { λ _. ⌜ Does n e (λ o p. fastPass (grid n (now (starts .entry)) (now (neighbours .entry))) o z (nodesOf n e (view n e (area (now (words .entry)) (now (reals .entry)))) first count) p) (area (now (words .entry)) (now (reals .entry))) (area (now (words .exit)) (now (reals .exit))) ⌝ }
+    requires { ⌜ Linked n (now starts) (now neighbours) × ((length (now neighbours) ≡ e) × (Fit n e (area (now words) (now floats)) × (z < 4096))) ⌝ }
+    requires { ⌜ Reverses (grid n (now starts) (now neighbours)) n (view n e (area (now words) (now floats)) .reverse) × (Nodes n e first count (area (now words) (now floats)) × ((0 < count) × (count ≤ 4096))) ⌝ }
+    ensures { λ _. ⌜ Does n e (λ o p. fastPass (grid n (now (starts .entry)) (now (neighbours .entry))) o z (nodesOf n e (view n e (area (now (words .entry)) (now (floats .entry)))) first count) p) (area (now (words .entry)) (now (floats .entry))) (area (now (words .exit)) (now (floats .exit))) ⌝ }
 {
-    let givers = count_givers(first, count, n, e, words, reals);
+    let givers = count_givers(first, count, n, e, words, floats);
     let takers = count - givers;
     let most = log2(count as u32) as usize;
     if most < givers {
         if most < takers {
-            fast_all(first, count, starts, neighbours, z, n, e, words, reals);
+            fast_all(first, count, starts, neighbours, z, n, e, words, floats);
         }
     }
 }
@@ -198,16 +198,16 @@ fn share_out(
     n: usize,
     e: usize,
     words: &mut [u32],
-    reals: &mut [f32],
+    floats: &mut [f32],
 )
-    requires { ⌜ Linked n (now starts) (now neighbours) × ((length (now neighbours) ≡ e) × (Fit n e (area (now words) (now reals)) × (z < 4096))) ⌝ }
-    requires { ⌜ Reverses (grid n (now starts) (now neighbours)) n (view n e (area (now words) (now reals)) .reverse) × (Nodes n e first count (area (now words) (now reals)) × (count ≤ n)) ⌝ }
-    ensures { λ _. ⌜ Plans n e (λ o p. shareOut (grid n (now (starts .entry)) (now (neighbours .entry))) o z (nodesOf n e (view n e (area (now (words .entry)) (now (reals .entry)))) first count) p) (area (now (words .entry)) (now (reals .entry))) (area (now (words .exit)) (now (reals .exit))) ⌝ }
+    requires { ⌜ Linked n (now starts) (now neighbours) × ((length (now neighbours) ≡ e) × (Fit n e (area (now words) (now floats)) × (z < 4096))) ⌝ }
+    requires { ⌜ Reverses (grid n (now starts) (now neighbours)) n (view n e (area (now words) (now floats)) .reverse) × (Nodes n e first count (area (now words) (now floats)) × (count ≤ n)) ⌝ }
+    ensures { λ _. ⌜ Plans n e (λ o p. shareOut (grid n (now (starts .entry)) (now (neighbours .entry))) o z (nodesOf n e (view n e (area (now (words .entry)) (now (floats .entry)))) first count) p) (area (now (words .entry)) (now (floats .entry))) (area (now (words .exit)) (now (floats .exit))) ⌝ }
 {
-    let givers = count_givers(first, count, n, e, words, reals);
+    let givers = count_givers(first, count, n, e, words, floats);
     let side = side_of(givers, count - givers);
-    let listed = gather(side, first, count, n, e, words, reals);
-    serve_all(side, listed, starts, neighbours, z, n, e, words, reals);
+    let listed = gather(side, first, count, n, e, words, floats);
+    serve_all(side, listed, starts, neighbours, z, n, e, words, floats);
 }
 
 // The planning state of the turf r at first.
@@ -220,10 +220,10 @@ fn first_delta(
     n: usize,
     e: usize,
     words: &mut [u32],
-    reals: &mut [f32],
+    floats: &mut [f32],
 )
-    requires { ⌜ Gassed n (now mixtures) gases (now gas) × (Fit n e (area (now words) (now reals)) × (r < n)) ⌝ }
-    ensures { λ _. ⌜ Does n e (λ o p. store p r (record { delta = total (ground 0 [] [] (now (mixtures .entry)) gases) (now (gas .entry)) r -f average; amount = 0f; direction = 0; fast = 0 })) (area (now (words .entry)) (now (reals .entry))) (area (now (words .exit)) (now (reals .exit))) ⌝ }
+    requires { ⌜ Gassed n (now mixtures) gases (now gas) × (Fit n e (area (now words) (now floats)) × (r < n)) ⌝ }
+    ensures { λ _. ⌜ Does n e (λ o p. store p r (record { delta = total (ground 0 [] [] (now (mixtures .entry)) gases) (now (gas .entry)) r -f average; amount = 0f; direction = 0; fast = 0 })) (area (now (words .entry)) (now (floats .entry))) (area (now (words .exit)) (now (floats .exit))) ⌝ }
 {
     let row = r as usize;
     let moles = mixture::total(mixtures, gas, gases, row);
@@ -233,7 +233,7 @@ fn first_delta(
         direction: 0,
         fast: 0,
     };
-    store(row, info, n, e, words, reals);
+    store(row, info, n, e, words, floats);
 }
 
 // The deltas of the nodes.
@@ -247,10 +247,10 @@ fn all_deltas(
     n: usize,
     e: usize,
     words: &mut [u32],
-    reals: &mut [f32],
+    floats: &mut [f32],
 )
-    requires { ⌜ Gassed n (now mixtures) gases (now gas) × (Fit n e (area (now words) (now reals)) × Nodes n e first count (area (now words) (now reals))) ⌝ }
-    ensures { λ _. ⌜ Does n e (λ o p. deltas (ground 0 [] [] (now (mixtures .entry)) gases) o 0 (now (gas .entry)) (nodesOf n e (view n e (area (now (words .entry)) (now (reals .entry)))) first count) average p) (area (now (words .entry)) (now (reals .entry))) (area (now (words .exit)) (now (reals .exit))) ⌝ }
+    requires { ⌜ Gassed n (now mixtures) gases (now gas) × (Fit n e (area (now words) (now floats)) × Nodes n e first count (area (now words) (now floats))) ⌝ }
+    ensures { λ _. ⌜ Does n e (λ o p. deltas (ground 0 [] [] (now (mixtures .entry)) gases) o 0 (now (gas .entry)) (nodesOf n e (view n e (area (now (words .entry)) (now (floats .entry)))) first count) average p) (area (now (words .entry)) (now (floats .entry))) (area (now (words .exit)) (now (floats .exit))) ⌝ }
 {
     let mut i = 0;
     while i < count {
@@ -263,7 +263,7 @@ fn all_deltas(
             n,
             e,
             words,
-            reals,
+            floats,
         );
         i += 1;
     }
@@ -283,11 +283,11 @@ pub fn process_zone(
     n: usize,
     e: usize,
     words: &mut [u32],
-    reals: &mut [f32],
+    floats: &mut [f32],
 )
-    requires { ⌜ Gassed n (now mixtures) gases (now gas) × (Linked n (now starts) (now neighbours) × ((length (now neighbours) ≡ e) × (Fit n e (area (now words) (now reals)) × (z < 4096)))) ⌝ }
-    requires { ⌜ Reverses (grid n (now starts) (now neighbours)) n (view n e (area (now words) (now reals)) .reverse) × (Nodes n e first count (area (now words) (now reals)) × ((0 < count) × (count ≤ n))) ⌝ }
-    ensures { λ _. ⌜ Plans n e (λ o p. planZone (ground n (now (starts .entry)) (now (neighbours .entry)) (now (mixtures .entry)) gases) o z (now (gas .entry)) (nodesOf n e (view n e (area (now (words .entry)) (now (reals .entry)))) first count) moles p) (area (now (words .entry)) (now (reals .entry))) (area (now (words .exit)) (now (reals .exit))) ⌝ }
+    requires { ⌜ Gassed n (now mixtures) gases (now gas) × (Linked n (now starts) (now neighbours) × ((length (now neighbours) ≡ e) × (Fit n e (area (now words) (now floats)) × (z < 4096)))) ⌝ }
+    requires { ⌜ Reverses (grid n (now starts) (now neighbours)) n (view n e (area (now words) (now floats)) .reverse) × (Nodes n e first count (area (now words) (now floats)) × ((0 < count) × (count ≤ n))) ⌝ }
+    ensures { λ _. ⌜ Plans n e (λ o p. planZone (ground n (now (starts .entry)) (now (neighbours .entry)) (now (mixtures .entry)) gases) o z (now (gas .entry)) (nodesOf n e (view n e (area (now (words .entry)) (now (floats .entry)))) first count) moles p) (area (now (words .entry)) (now (floats .entry))) (area (now (words .exit)) (now (floats .exit))) ⌝ }
 {
     let size = count as u16;
     let average = moles / (size as f32);
@@ -301,8 +301,8 @@ pub fn process_zone(
         n,
         e,
         words,
-        reals,
+        floats,
     );
-    fast_pass(first, count, starts, neighbours, z, n, e, words, reals);
-    share_out(first, count, starts, neighbours, z, n, e, words, reals);
+    fast_pass(first, count, starts, neighbours, z, n, e, words, floats);
+    share_out(first, count, starts, neighbours, z, n, e, words, floats);
 }

@@ -12,12 +12,12 @@ use Rattle.plan_all.proofs.plan_zones.Statement.{statement}
 use Rattle.plan_all.proofs.plan_zones.Tie as tie
 
 abbrev Inv-loop : tie.InvT-loop
-Inv-loop zones mixtures gases gas starts neighbours n e words₀ reals₀ z₀ words reals z =
-    ((z ≤ zones) × ((length words ≡ length words₀) × (length reals ≡ length reals₀)))
-    × Going n e zones (ground n starts neighbours mixtures gases) gas (area words₀ reals₀) (area words reals) z
+Inv-loop zones mixtures gases gas starts neighbours n e words₀ floats₀ z₀ words floats z =
+    ((z ≤ zones) × ((length words ≡ length words₀) × (length floats ≡ length floats₀)))
+    × Going n e zones (ground n starts neighbours mixtures gases) gas (area words₀ floats₀) (area words floats) z
 
 abbrev μ-loop : tie.MeasureT-loop
-μ-loop zones mixtures gases gas starts neighbours n e words₀ reals₀ z₀ words reals z = zones - z
+μ-loop zones mixtures gases gas starts neighbours n e words₀ floats₀ z₀ words floats z = zones - z
 
 loop-holds : tie.Need-loop-holds Inv-loop μ-loop
 loop-holds c = ((omega arith, (refl, refl)), going-start _ _ (room-fit (c .before .before .before .before .before .before .pre .0 .1 .1 .1 .room)))

@@ -14,14 +14,14 @@ use Rattle.plan_drain.proofs.drain.Statement.{statement}
 use Rattle.plan_drain.proofs.drain.Tie as tie
 
 abbrev Inv-loop : tie.InvT-loop
-Inv-loop from to z n e words reals₀ queue i₀ reals i =
-    ((i ≤ to) × (length reals ≡ length reals₀))
-    × Onto n e (λ o p. run (drainVia (view n e (area words reals₀) .reverse) (view n e (area words reals₀) .via) z o) (reverse (take (i - from) (drop from (view n e (area words reals₀) .queue)))) p)
-    (λ o p. run (drainVia (view n e (area words reals₀) .reverse) (view n e (area words reals₀) .via) z o) (reverse (take (to - from) (drop from (view n e (area words reals₀) .queue)))) p)
-    (area words reals₀) (area words reals)
+Inv-loop from to z n e words floats₀ queue i₀ floats i =
+    ((i ≤ to) × (length floats ≡ length floats₀))
+    × Onto n e (λ o p. run (drainVia (view n e (area words floats₀) .reverse) (view n e (area words floats₀) .via) z o) (reverse (take (i - from) (drop from (view n e (area words floats₀) .queue)))) p)
+    (λ o p. run (drainVia (view n e (area words floats₀) .reverse) (view n e (area words floats₀) .via) z o) (reverse (take (to - from) (drop from (view n e (area words floats₀) .queue)))) p)
+    (area words floats₀) (area words floats)
 
 abbrev μ-loop : tie.MeasureT-loop
-μ-loop from to z n e words reals₀ queue i₀ reals i = i
+μ-loop from to z n e words floats₀ queue i₀ floats i = i
 
 queue-at-requires : tie.Need-queue-at-requires Inv-loop μ-loop
 queue-at-requires c κs = (c .before .before .pre .0 .0 .links, c .before .before .pre .0 .0 .turfs)

@@ -12,13 +12,13 @@ use Rattle.plan_fast.proofs.fast_all.Statement.{statement}
 use Rattle.plan_fast.proofs.fast_all.Tie as tie
 
 abbrev Inv-loop : tie.InvT-loop
-Inv-loop first count starts neighbours z n e words₀ reals₀ i₀ words reals i =
-    ((i ≤ count) × ((length words ≡ length words₀) × (length reals ≡ length reals₀)))
-    × Onto n e (λ o p. run (fastTurf (grid n starts neighbours) o z) (drop i (nodesOf n e (view n e (area words₀ reals₀)) first count)) p)
-    (λ o p. run (fastTurf (grid n starts neighbours) o z) (nodesOf n e (view n e (area words₀ reals₀)) first count) p) (area words₀ reals₀) (area words reals)
+Inv-loop first count starts neighbours z n e words₀ floats₀ i₀ words floats i =
+    ((i ≤ count) × ((length words ≡ length words₀) × (length floats ≡ length floats₀)))
+    × Onto n e (λ o p. run (fastTurf (grid n starts neighbours) o z) (drop i (nodesOf n e (view n e (area words₀ floats₀)) first count)) p)
+    (λ o p. run (fastTurf (grid n starts neighbours) o z) (nodesOf n e (view n e (area words₀ floats₀)) first count) p) (area words₀ floats₀) (area words floats)
 
 abbrev μ-loop : tie.MeasureT-loop
-μ-loop first count starts neighbours z n e words₀ reals₀ i₀ words reals i = count - i
+μ-loop first count starts neighbours z n e words₀ floats₀ i₀ words floats i = count - i
 
 loop-holds : tie.Need-loop-holds Inv-loop μ-loop
 loop-holds c = ((omega arith, (refl, refl)), onto-start _ (c .before .before .before .before .pre .0 .1 .1 .0))

@@ -23,14 +23,14 @@ abbrev step : ℕ → Float → List ℕ → ℕ → ℕ → List ℕ → List �
 step r x part from z rev o j s = fastVia rev z r x o (from + j) (getD part j 0) s
 
 abbrev Inv-loop : tie.InvT-loop
-Inv-loop r x part from z n e words reals₀ i₀ reals i =
-    ((i ≤ length part) × (length reals ≡ length reals₀))
-    × Onto n e (λ o p. run (step r x part from z (view n e (area words reals₀) .reverse) o) (upFrom i (length part - i)) p)
-    (λ o p. run (step r x part from z (view n e (area words reals₀) .reverse) o) (upFrom 0 (length part)) p)
-    (area words reals₀) (area words reals)
+Inv-loop r x part from z n e words floats₀ i₀ floats i =
+    ((i ≤ length part) × (length floats ≡ length floats₀))
+    × Onto n e (λ o p. run (step r x part from z (view n e (area words floats₀) .reverse) o) (upFrom i (length part - i)) p)
+    (λ o p. run (step r x part from z (view n e (area words floats₀) .reverse) o) (upFrom 0 (length part)) p)
+    (area words floats₀) (area words floats)
 
 abbrev μ-loop : tie.MeasureT-loop
-μ-loop r x part from z n e words reals₀ i₀ reals i = length part - i
+μ-loop r x part from z n e words floats₀ i₀ floats i = length part - i
 
 loop-holds : tie.Need-loop-holds Inv-loop μ-loop
 loop-holds c = ((omega arith, refl), record { fit = c .before .before .before .pre .0 .0; on = rw sub-zero })
@@ -45,7 +45,7 @@ shared-slice-read-fast-link : tie.Need-shared-slice-read-fast-link Inv-loop μ-l
 shared-slice-read-fast-link c = omega arith
 
 fast-link-requires : tie.Need-fast-link-requires Inv-loop μ-loop
-fast-link-requires c κs = ((c .before .before .before .loop .inv .1 .fit, (c .before .before .before .before .before .before .before .pre .0 .1 .0, (c .before .before .before .before .before .before .before .pre .0 .1 .1 .0, (Below-at _ _ _ (c .before .before .before .before .before .before .before .pre .0 .1 .1 .1 .0) (c .before .before .loop-test .taken), omega (arith, c .before .before .before .before .before .before .before .pre .0 .1 .1 .1 .1, c .before .before .loop-test .taken))))), rw (reverse-same _ _ _ _ (c .before .before .before .before .before .before .before .args .reals .now)) (c .before .before .before .before .before .before .before .pre .1 _ (c .before .before .loop-test .taken)))
+fast-link-requires c κs = ((c .before .before .before .loop .inv .1 .fit, (c .before .before .before .before .before .before .before .pre .0 .1 .0, (c .before .before .before .before .before .before .before .pre .0 .1 .1 .0, (Below-at _ _ _ (c .before .before .before .before .before .before .before .pre .0 .1 .1 .1 .0) (c .before .before .loop-test .taken), omega (arith, c .before .before .before .before .before .before .before .pre .0 .1 .1 .1 .1, c .before .before .loop-test .taken))))), rw (reverse-same _ _ _ _ (c .before .before .before .before .before .before .before .args .floats .now)) (c .before .before .before .before .before .before .before .pre .1 _ (c .before .before .loop-test .taken)))
 
 add-i : tie.Need-add-i Inv-loop μ-loop
 add-i c = omega arith

@@ -11,12 +11,12 @@ use Rattle.plan_search.proofs.pass_links.Statement.{statement}
 use Rattle.plan_search.proofs.pass_links.Tie as tie
 
 abbrev Inv-loop : tie.InvT-loop
-Inv-loop side r part at from z n e count words₀ reals₀ c₀ i₀ words reals c i =
-    ((at ≤ i) × ((i ≤ length part) × ((length words ≡ length words₀) × (length reals ≡ length reals₀))))
-    × PassUpTo side r part from z n e at c₀ i c (area words₀ reals₀) (area words reals)
+Inv-loop side r part at from z n e count words₀ floats₀ c₀ i₀ words floats c i =
+    ((at ≤ i) × ((i ≤ length part) × ((length words ≡ length words₀) × (length floats ≡ length floats₀))))
+    × PassUpTo side r part from z n e at c₀ i c (area words₀ floats₀) (area words floats)
 
 abbrev μ-loop : tie.MeasureT-loop
-μ-loop side r part at from z n e count words₀ reals₀ c₀ i₀ words reals c i = length part - i
+μ-loop side r part at from z n e count words₀ floats₀ c₀ i₀ words floats c i = length part - i
 
 loop-holds : tie.Need-loop-holds Inv-loop μ-loop
 loop-holds c = ((omega arith, (omega (arith, c .before .before .before .pre .1 .1 .1 .1), (refl, refl))), passes-start _ _ _ _ _ _ _ _ _ (c .before .before .before .pre .0 .0))

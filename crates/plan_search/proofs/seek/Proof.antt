@@ -15,13 +15,13 @@ use Rattle.plan_search.proofs.seek_turf.Reads as seek-turf-reads
 use Rattle.plan_trade.proofs.settled.Reads as settled-reads
 
 abbrev Inv-loop : tie.InvT-loop
-Inv-loop side g starts neighbours z n e words₀ reals₀ queue count₀ first₀ looked₀ words reals count first looked =
-    ((length words ≡ length words₀) × (length reals ≡ length reals₀))
-    × (Trail n e (λ o s. seekNext (grid n starts neighbours) o z side g s) 1 count looked (area words₀ reals₀) (area words reals)
-    × (AllMet n z starts neighbours (view n e (area words reals)) count × Idle (view n e (area words reals)) count first))
+Inv-loop side g starts neighbours z n e words₀ floats₀ queue count₀ first₀ looked₀ words floats count first looked =
+    ((length words ≡ length words₀) × (length floats ≡ length floats₀))
+    × (Trail n e (λ o s. seekNext (grid n starts neighbours) o z side g s) 1 count looked (area words₀ floats₀) (area words floats)
+    × (AllMet n z starts neighbours (view n e (area words floats)) count × Idle (view n e (area words floats)) count first))
 
 abbrev μ-loop : tie.MeasureT-loop
-μ-loop side g starts neighbours z n e words₀ reals₀ queue count₀ first₀ looked₀ words reals count first looked = n - looked
+μ-loop side g starts neighbours z n e words₀ floats₀ queue count₀ first₀ looked₀ words floats count first looked = n - looked
 
 queue-at-requires : tie.Need-queue-at-requires Inv-loop μ-loop
 queue-at-requires c κs = (c .before .before .before .before .pre .0 .0 .fit .links, c .before .before .before .before .pre .0 .0 .fit .turfs)
@@ -30,16 +30,16 @@ loop-holds : tie.Need-loop-holds Inv-loop μ-loop
 loop-holds c = ((refl, refl), (trail-start _ (c .before .before .before .before .before .pre .0 .0), (c .before .before .before .before .before .pre .1 .0 .1 .1 .1, c .before .before .before .before .before .pre .1 .1)))
 
 add-settled : tie.Need-add-settled Inv-loop μ-loop
-add-settled c = omega (arith, c .before .loop .inv .1 .0 .seeking .fit .words, c .before .loop .inv .1 .0 .seeking .fit .reals, c .before .loop .inv .1 .0 .seeking .fit .turfs, c .before .loop .inv .1 .0 .seeking .fit .links, c .before .loop .inv .1 .0 .seeking .line .few, c .before .before .queue-at .ensures, c .before .before .before .before .before .before .before .pre .1 .0 .0)
+add-settled c = omega (arith, c .before .loop .inv .1 .0 .seeking .fit .words, c .before .loop .inv .1 .0 .seeking .fit .floats, c .before .loop .inv .1 .0 .seeking .fit .turfs, c .before .loop .inv .1 .0 .seeking .fit .links, c .before .loop .inv .1 .0 .seeking .line .few, c .before .before .queue-at .ensures, c .before .before .before .before .before .before .before .pre .1 .0 .0)
 
 add-settled-2 : tie.Need-add-settled-2 Inv-loop μ-loop
-add-settled-2 c = omega (arith, c .before .loop .inv .1 .0 .seeking .fit .words, c .before .loop .inv .1 .0 .seeking .fit .reals, c .before .loop .inv .1 .0 .seeking .fit .turfs, c .before .loop .inv .1 .0 .seeking .fit .links, c .before .loop .inv .1 .0 .seeking .line .few, c .before .before .queue-at .ensures, c .before .before .before .before .before .before .before .pre .1 .0 .0)
+add-settled-2 c = omega (arith, c .before .loop .inv .1 .0 .seeking .fit .words, c .before .loop .inv .1 .0 .seeking .fit .floats, c .before .loop .inv .1 .0 .seeking .fit .turfs, c .before .loop .inv .1 .0 .seeking .fit .links, c .before .loop .inv .1 .0 .seeking .line .few, c .before .before .queue-at .ensures, c .before .before .before .before .before .before .before .pre .1 .0 .0)
 
 mul-settled : tie.Need-mul-settled Inv-loop μ-loop
-mul-settled c = omega (arith, c .before .loop .inv .1 .0 .seeking .fit .words, c .before .loop .inv .1 .0 .seeking .fit .reals, c .before .loop .inv .1 .0 .seeking .fit .turfs, c .before .loop .inv .1 .0 .seeking .fit .links, c .before .loop .inv .1 .0 .seeking .line .few, c .before .before .queue-at .ensures, c .before .before .before .before .before .before .before .pre .1 .0 .0, c .before .loop .inv .0, c .before .before .before .before .before .before .before .good)
+mul-settled c = omega (arith, c .before .loop .inv .1 .0 .seeking .fit .words, c .before .loop .inv .1 .0 .seeking .fit .floats, c .before .loop .inv .1 .0 .seeking .fit .turfs, c .before .loop .inv .1 .0 .seeking .fit .links, c .before .loop .inv .1 .0 .seeking .line .few, c .before .before .queue-at .ensures, c .before .before .before .before .before .before .before .pre .1 .0 .0, c .before .loop .inv .0, c .before .before .before .before .before .before .before .good)
 
 slice-read-settled : tie.Need-slice-read-settled Inv-loop μ-loop
-slice-read-settled c = omega (arith, c .before .before .loop .inv .1 .0 .seeking .fit .words, c .before .before .loop .inv .1 .0 .seeking .fit .reals, c .before .before .loop .inv .1 .0 .seeking .fit .turfs, c .before .before .loop .inv .1 .0 .seeking .fit .links, c .before .before .loop .inv .1 .0 .seeking .line .few, c .before .before .before .queue-at .ensures, c .before .before .before .before .before .before .before .before .pre .1 .0 .0)
+slice-read-settled c = omega (arith, c .before .before .loop .inv .1 .0 .seeking .fit .words, c .before .before .loop .inv .1 .0 .seeking .fit .floats, c .before .before .loop .inv .1 .0 .seeking .fit .turfs, c .before .before .loop .inv .1 .0 .seeking .fit .links, c .before .before .loop .inv .1 .0 .seeking .line .few, c .before .before .before .queue-at .ensures, c .before .before .before .before .before .before .before .before .pre .1 .0 .0)
 
 settled-requires : tie.Need-settled-requires Inv-loop μ-loop
 settled-requires c κs = search needs
@@ -54,13 +54,13 @@ returns : tie.Need-returns Inv-loop μ-loop
 returns c = (trail-end _ (c .before .before .before .before .loop .inv .1 .0) (turn-settled _ _ _ _ _ _ (c .before .before .before .before .loop .inv .1 .0 .seeking) (c .before .before .before .loop-test .taken) _ (c .before .before .before .before .before .queue-at .ensures) _ _ _ _ (c .before .before .before .before .before .before .before .before .before .before .pre .1 .0 .0) (sym (c .before .settled .ensures) ∙ c .if1 .taken)), c .before .before .before .before .loop .inv .1 .1)
 
 add-seek-turf : tie.Need-add-seek-turf Inv-loop μ-loop
-add-seek-turf c = omega (arith, c .before .before .before .before .loop .inv .1 .0 .seeking .fit .words, c .before .before .before .before .loop .inv .1 .0 .seeking .fit .reals, c .before .before .before .before .loop .inv .1 .0 .seeking .fit .turfs, c .before .before .before .before .loop .inv .1 .0 .seeking .fit .links, c .before .before .before .before .loop .inv .1 .0 .seeking .line .few, c .before .before .before .before .before .queue-at .ensures, c .before .before .before .loop-test .taken)
+add-seek-turf c = omega (arith, c .before .before .before .before .loop .inv .1 .0 .seeking .fit .words, c .before .before .before .before .loop .inv .1 .0 .seeking .fit .floats, c .before .before .before .before .loop .inv .1 .0 .seeking .fit .turfs, c .before .before .before .before .loop .inv .1 .0 .seeking .fit .links, c .before .before .before .before .loop .inv .1 .0 .seeking .line .few, c .before .before .before .before .before .queue-at .ensures, c .before .before .before .loop-test .taken)
 
 mul-seek-turf : tie.Need-mul-seek-turf Inv-loop μ-loop
-mul-seek-turf c = omega (arith, c .before .before .before .before .loop .inv .1 .0 .seeking .fit .words, c .before .before .before .before .loop .inv .1 .0 .seeking .fit .reals, c .before .before .before .before .loop .inv .1 .0 .seeking .fit .turfs, c .before .before .before .before .loop .inv .1 .0 .seeking .fit .links, c .before .before .before .before .loop .inv .1 .0 .seeking .line .few, c .before .before .before .before .before .queue-at .ensures, c .before .before .before .loop-test .taken, c .before .before .before .before .loop .inv .0, c .before .before .before .before .before .before .before .before .before .before .good)
+mul-seek-turf c = omega (arith, c .before .before .before .before .loop .inv .1 .0 .seeking .fit .words, c .before .before .before .before .loop .inv .1 .0 .seeking .fit .floats, c .before .before .before .before .loop .inv .1 .0 .seeking .fit .turfs, c .before .before .before .before .loop .inv .1 .0 .seeking .fit .links, c .before .before .before .before .loop .inv .1 .0 .seeking .line .few, c .before .before .before .before .before .queue-at .ensures, c .before .before .before .loop-test .taken, c .before .before .before .before .loop .inv .0, c .before .before .before .before .before .before .before .before .before .before .good)
 
 slice-read-seek-turf : tie.Need-slice-read-seek-turf Inv-loop μ-loop
-slice-read-seek-turf c = omega (arith, c .before .before .before .before .before .loop .inv .1 .0 .seeking .fit .words, c .before .before .before .before .before .loop .inv .1 .0 .seeking .fit .reals, c .before .before .before .before .before .loop .inv .1 .0 .seeking .fit .turfs, c .before .before .before .before .before .loop .inv .1 .0 .seeking .fit .links, c .before .before .before .before .before .loop .inv .1 .0 .seeking .line .few, c .before .before .before .before .before .before .queue-at .ensures, c .before .before .before .before .loop-test .taken)
+slice-read-seek-turf c = omega (arith, c .before .before .before .before .before .loop .inv .1 .0 .seeking .fit .words, c .before .before .before .before .before .loop .inv .1 .0 .seeking .fit .floats, c .before .before .before .before .before .loop .inv .1 .0 .seeking .fit .turfs, c .before .before .before .before .before .loop .inv .1 .0 .seeking .fit .links, c .before .before .before .before .before .loop .inv .1 .0 .seeking .line .few, c .before .before .before .before .before .before .queue-at .ensures, c .before .before .before .before .loop-test .taken)
 
 seek-turf-requires : tie.Need-seek-turf-requires Inv-loop μ-loop
 seek-turf-requires c κs = ((c .before .before .before .before .before .before .before .loop .inv .1 .0 .seeking, (c .before .before .before .before .before .before .before .before .before .before .before .before .before .pre .0 .1, sym (c .before .before .before .before .settled .ensures) ∙ c .before .before .before .if1 .left)), (c .before .before .before .before .before .before .before .before .before .before .before .before .before .pre .1 .0 .0, (seen-below _ _ _ _ _ _ (c .before .before .before .before .before .before .before .loop .inv .1 .0 .seeking) (c .before .before .before .before .before .before .loop-test .taken) _ (c .before .before .before .before .before .before .before .before .queue-at .ensures), (c .before .before .before .before .before .before .before .before .before .before .before .before .before .pre .1 .0 .1 .0, c .before .before .before .before .before .before .before .before .before .before .before .before .before .pre .1 .0 .1 .1 .0))))

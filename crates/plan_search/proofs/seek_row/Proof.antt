@@ -13,12 +13,12 @@ use Rattle.plan_search.proofs.seek_row.Statement.{statement}
 use Rattle.plan_search.proofs.seek_row.Tie as tie
 
 abbrev Inv-loop : tie.InvT-loop
-Inv-loop side g r part from z n e count first words₀ reals₀ c₀ f₀ i₀ words reals c f i =
-    ((i ≤ length part) × ((length words ≡ length words₀) × (length reals ≡ length reals₀)))
-    × Row side g r part from z n e c₀ f₀ c f i (area words₀ reals₀) (area words reals)
+Inv-loop side g r part from z n e count first words₀ floats₀ c₀ f₀ i₀ words floats c f i =
+    ((i ≤ length part) × ((length words ≡ length words₀) × (length floats ≡ length floats₀)))
+    × Row side g r part from z n e c₀ f₀ c f i (area words₀ floats₀) (area words floats)
 
 abbrev μ-loop : tie.MeasureT-loop
-μ-loop side g r part from z n e count first words₀ reals₀ c₀ f₀ i₀ words reals c f i = length part - i
+μ-loop side g r part from z n e count first words₀ floats₀ c₀ f₀ i₀ words floats c f i = length part - i
 
 loop-holds : tie.Need-loop-holds Inv-loop μ-loop
 loop-holds c = ((omega arith, (refl, refl)), row-start (c .before .before .before .pre .0 .0) (c .before .before .before .pre .0 .1 .1))

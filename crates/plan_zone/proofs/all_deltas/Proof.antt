@@ -19,13 +19,13 @@ abbrev step : List ℕ → ℕ → List Float → Float → ℕ → Plan → Pla
 step mixtures gases gas average r t = store t r (record { delta = total (ground 0 [] [] mixtures gases) gas r -f average; amount = 0f; direction = 0; fast = 0 })
 
 abbrev Inv-loop : tie.InvT-loop
-Inv-loop first count average mixtures gases gas n e words₀ reals₀ i₀ words reals i =
-    ((i ≤ count) × ((length words ≡ length words₀) × (length reals ≡ length reals₀)))
-    × Onto n e (λ o p. run (step mixtures gases gas average) (drop i (nodesOf n e (view n e (area words₀ reals₀)) first count)) p)
-    (λ o p. run (step mixtures gases gas average) (nodesOf n e (view n e (area words₀ reals₀)) first count) p) (area words₀ reals₀) (area words reals)
+Inv-loop first count average mixtures gases gas n e words₀ floats₀ i₀ words floats i =
+    ((i ≤ count) × ((length words ≡ length words₀) × (length floats ≡ length floats₀)))
+    × Onto n e (λ o p. run (step mixtures gases gas average) (drop i (nodesOf n e (view n e (area words₀ floats₀)) first count)) p)
+    (λ o p. run (step mixtures gases gas average) (nodesOf n e (view n e (area words₀ floats₀)) first count) p) (area words₀ floats₀) (area words floats)
 
 abbrev μ-loop : tie.MeasureT-loop
-μ-loop first count average mixtures gases gas n e words₀ reals₀ i₀ words reals i = count - i
+μ-loop first count average mixtures gases gas n e words₀ floats₀ i₀ words floats i = count - i
 
 loop-holds : tie.Need-loop-holds Inv-loop μ-loop
 loop-holds c = ((omega arith, (refl, refl)), onto-start _ (c .before .before .before .before .pre .1 .0))

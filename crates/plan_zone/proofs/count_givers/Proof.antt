@@ -14,13 +14,13 @@ use Rattle.plan_zone.proofs.count_givers.Statement.{statement}
 use Rattle.plan_zone.proofs.count_givers.Tie as tie
 
 abbrev Inv-loop : tie.InvT-loop
-Inv-loop first count n e words reals c₀ i₀ c i =
+Inv-loop first count n e words floats c₀ i₀ c i =
     ((i ≤ count) × (c ≤ i))
-    × (c + length (keep (λ r. picks Giving (getD (view n e (area words reals) .plan .delta) r nan)) (drop i (nodesOf n e (view n e (area words reals)) first count)))
-    ≡ length (chosen Giving (nodesOf n e (view n e (area words reals)) first count) (view n e (area words reals) .plan)))
+    × (c + length (keep (λ r. picks Giving (getD (view n e (area words floats) .plan .delta) r nan)) (drop i (nodesOf n e (view n e (area words floats)) first count)))
+    ≡ length (chosen Giving (nodesOf n e (view n e (area words floats)) first count) (view n e (area words floats) .plan)))
 
 abbrev μ-loop : tie.MeasureT-loop
-μ-loop first count n e words reals c₀ i₀ c i = count - i
+μ-loop first count n e words floats c₀ i₀ c i = count - i
 
 loop-holds : tie.Need-loop-holds Inv-loop μ-loop
 loop-holds c = unfold chosen in ((omega arith, omega arith), omega arith)
@@ -35,7 +35,7 @@ shared-slice-read-count-one : tie.Need-shared-slice-read-count-one Inv-loop μ-l
 shared-slice-read-count-one c = omega (arith, c .before .before .before .before .before .pre .1 .0 .room, c .before .before .loop .inv .0, c .before .before .before .before .before .good, c .before .loop-test .taken)
 
 count-one-requires : tie.Need-count-one-requires Inv-loop μ-loop
-count-one-requires c κs = (omega (arith, c .before .before .before .before .before .pre .0 .reals, node-below (c .before .before .before .before .before .pre .1 .0) _ (c .before .loop-test .taken)), omega (arith, c .before .before .loop .inv .0, c .before .before .before .before .before .pre .1 .1))
+count-one-requires c κs = (omega (arith, c .before .before .before .before .before .pre .0 .floats, node-below (c .before .before .before .before .before .pre .1 .0) _ (c .before .loop-test .taken)), omega (arith, c .before .before .loop .inv .0, c .before .before .before .before .before .pre .1 .1))
 
 add-i : tie.Need-add-i Inv-loop μ-loop
 add-i c = omega arith
@@ -44,7 +44,7 @@ loop-less : tie.Need-loop-less Inv-loop μ-loop
 loop-less c = omega arith
 
 loop-again : tie.Need-loop-again Inv-loop μ-loop
-loop-again c = ((omega arith, omega (arith, c .before .before .before .loop .inv .0, c .count-one .ensures, cond-le (picks Giving (getD (c .before .before .before .before .before .before .args .reals .now) (c .before .before .before .before .before .before .args .e + getD (c .before .before .before .before .before .before .args .words .now) (c .before .before .before .before .before .before .args .first + c .before .before .before .loop .i) 0 + getD (c .before .before .before .before .before .before .args .words .now) (c .before .before .before .before .before .before .args .first + c .before .before .before .loop .i) 0) nan)) (c .before .before .before .loop .c))), sym (count-next (c .before .before .before .before .before .before .pre .1 .0) _ _ (c .before .before .loop-test .taken) _ (c .count-one .ensures)) ∙ c .before .before .before .loop .inv .1)
+loop-again c = ((omega arith, omega (arith, c .before .before .before .loop .inv .0, c .count-one .ensures, cond-le (picks Giving (getD (c .before .before .before .before .before .before .args .floats .now) (c .before .before .before .before .before .before .args .e + getD (c .before .before .before .before .before .before .args .words .now) (c .before .before .before .before .before .before .args .first + c .before .before .before .loop .i) 0 + getD (c .before .before .before .before .before .before .args .words .now) (c .before .before .before .before .before .before .args .first + c .before .before .before .loop .i) 0) nan)) (c .before .before .before .loop .c))), sym (count-next (c .before .before .before .before .before .before .pre .1 .0) _ _ (c .before .before .loop-test .taken) _ (c .count-one .ensures)) ∙ c .before .before .before .loop .inv .1)
 
 returns : tie.Need-returns Inv-loop μ-loop
 returns c = sym (count-end (c .before .before .before .before .pre .1 .0) _ _ (c .loop-test .left)) ∙ c .before .loop .inv .1

@@ -13,12 +13,12 @@ use Rattle.plan_zone.proofs.gather.Statement.{statement}
 use Rattle.plan_zone.proofs.gather.Tie as tie
 
 abbrev Inv-loop : tie.InvT-loop
-Inv-loop side first count n e words₀ reals list c₀ i₀ words c i =
+Inv-loop side first count n e words₀ floats list c₀ i₀ words c i =
     ((i ≤ count) × (length words ≡ length words₀))
-    × Picking n e (λ r. picks side (getD (view n e (area words₀ reals) .plan .delta) r nan)) (nodesOf n e (view n e (area words₀ reals)) first count) c i (area words₀ reals) (area words reals)
+    × Picking n e (λ r. picks side (getD (view n e (area words₀ floats) .plan .delta) r nan)) (nodesOf n e (view n e (area words₀ floats)) first count) c i (area words₀ floats) (area words floats)
 
 abbrev μ-loop : tie.MeasureT-loop
-μ-loop side first count n e words₀ reals list c₀ i₀ words c i = count - i
+μ-loop side first count n e words₀ floats list c₀ i₀ words c i = count - i
 
 list-at-requires : tie.Need-list-at-requires Inv-loop μ-loop
 list-at-requires c κs = (c .before .before .pre .0 .links, c .before .before .pre .0 .turfs)
@@ -36,7 +36,7 @@ slice-read-choose : tie.Need-slice-read-choose Inv-loop μ-loop
 slice-read-choose c = omega (arith, c .before .before .before .before .before .before .pre .1 .0 .room, c .before .before .loop .inv .0, c .before .before .before .before .before .before .good, c .before .loop-test .taken)
 
 choose-requires : tie.Need-choose-requires Inv-loop μ-loop
-choose-requires c κs = (omega (arith, c .before .before .before .loop .inv .1 .fit .words, c .before .before .before .before .list-at .ensures, c .before .before .before .loop .inv .1 .few, c .before .before .loop-test .taken, c .before .before .before .before .before .before .before .pre .1 .1), (omega (arith, c .before .before .before .before .before .before .before .pre .0 .reals, pick-below (c .before .before .before .before .before .before .before .pre .1 .0) (c .before .before .before .before .before .before .before .args .side) (c .before .before .before .loop .inv .1) (c .before .before .before .loop .inv .0 .1) (c .before .before .loop-test .taken)), omega (arith, c .before .before .before .loop .inv .1 .few, c .before .before .loop-test .taken, c .before .before .before .before .before .before .before .pre .1 .1, c .before .before .before .before .before .before .before .pre .0 .turfs)))
+choose-requires c κs = (omega (arith, c .before .before .before .loop .inv .1 .fit .words, c .before .before .before .before .list-at .ensures, c .before .before .before .loop .inv .1 .few, c .before .before .loop-test .taken, c .before .before .before .before .before .before .before .pre .1 .1), (omega (arith, c .before .before .before .before .before .before .before .pre .0 .floats, pick-below (c .before .before .before .before .before .before .before .pre .1 .0) (c .before .before .before .before .before .before .before .args .side) (c .before .before .before .loop .inv .1) (c .before .before .before .loop .inv .0 .1) (c .before .before .loop-test .taken)), omega (arith, c .before .before .before .loop .inv .1 .few, c .before .before .loop-test .taken, c .before .before .before .before .before .before .before .pre .1 .1, c .before .before .before .before .before .before .before .pre .0 .turfs)))
 
 add-i : tie.Need-add-i Inv-loop μ-loop
 add-i c = omega arith

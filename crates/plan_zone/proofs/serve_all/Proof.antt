@@ -13,13 +13,13 @@ use Rattle.plan_zone.proofs.serve_all.Statement.{statement}
 use Rattle.plan_zone.proofs.serve_all.Tie as tie
 
 abbrev Inv-loop : tie.InvT-loop
-Inv-loop side count starts neighbours z n e words₀ reals₀ list i₀ words reals i =
-    ((i ≤ count) × ((length words ≡ length words₀) × (length reals ≡ length reals₀)))
-    × Along n e (λ o p. run (serve (grid n starts neighbours) o z side) (drop i (take count (view n e (area words₀ reals₀) .list))) p)
-    (λ o p. run (serve (grid n starts neighbours) o z side) (take count (view n e (area words₀ reals₀) .list)) p) (area words₀ reals₀) (area words reals)
+Inv-loop side count starts neighbours z n e words₀ floats₀ list i₀ words floats i =
+    ((i ≤ count) × ((length words ≡ length words₀) × (length floats ≡ length floats₀)))
+    × Along n e (λ o p. run (serve (grid n starts neighbours) o z side) (drop i (take count (view n e (area words₀ floats₀) .list))) p)
+    (λ o p. run (serve (grid n starts neighbours) o z side) (take count (view n e (area words₀ floats₀) .list)) p) (area words₀ floats₀) (area words floats)
 
 abbrev μ-loop : tie.MeasureT-loop
-μ-loop side count starts neighbours z n e words₀ reals₀ list i₀ words reals i = count - i
+μ-loop side count starts neighbours z n e words₀ floats₀ list i₀ words floats i = count - i
 
 list-at-requires : tie.Need-list-at-requires Inv-loop μ-loop
 list-at-requires c κs = (c .before .before .before .before .pre .0 .1 .1 .0 .links, c .before .before .before .before .pre .0 .1 .1 .0 .turfs)
