@@ -1,28 +1,20 @@
-// `give_to_takers` and `take_from_givers` for one turf: a search from it through the zone, then the way back. One body serves both; what differs
-// is the tests.
+// The way back of a search: each turf hands its amount on to the turf from which it was met.
 ghost use mathlib.Core.Path.{_≡_};
-ghost use mathlib.Core.Bool.{true, false, cond};
-ghost use mathlib.Core.List.{[], _∷_, reverse};
-ghost use Prim.Native.Nat.{ℕ, _+_, _-_, _≤_, _<_};
-ghost use lib.Dec.{eqb};
-ghost use lib.Ieee.{nan};
-ghost use lib.ListN.{length, getD, take, drop};
+ghost use mathlib.Core.List.{reverse};
+ghost use Prim.Native.Nat.{_-_, _≤_, _<_};
+ghost use lib.ListN.{take, drop};
 ghost use Rattle.basics.specs.Lists.{Found};
-ghost use Rattle.basics.specs.Loops.{run, times, upFrom};
-ghost use Rattle.process_zone.specs.Edges.{edgesOf};
-ghost use Rattle.process_zone.specs.Plan.{settled, wants, more, trade, meet, seekTo, seekLink, seekNext, serve};
-ghost use Rattle.index_set.specs.Line.{Below};
-ghost use Rattle.reverse_links.specs.Reverse.{Linked, Reverses};
-ghost use Rattle.plan_state.specs.Held.{grid, area, view, Fit, Does, Serves};
-ghost use Rattle.plan_trade.specs.Search.{Seeking, Sought, Searched, AllMet, KeepsMet, Idle, KeepsIdle, Passes, Within};
-ghost use Rattle.plan_trade.specs.Steps.{lesser, given, bargain, point, alongPart, handOn, drainVia};
+ghost use Rattle.basics.specs.Loops.{run};
+ghost use Rattle.plan_state.specs.Held.{areaAt, view, Fit, Does};
+ghost use Rattle.plan_trade.specs.Search.{Within, AllWithin};
+ghost use Rattle.plan_trade.specs.Steps.{handOn, drainVia};
 use basics::Spot;
 use plan_state::adjust_eq_movement;
 use plan_state::back_link;
 use plan_state::load;
 
 // The turf r hands its amount on to the turf d, over the edges at hand.
-pub fn hand_on(
+fn hand_on(
     there: Spot,
     back: Spot,
     r: usize,
@@ -32,9 +24,12 @@ pub fn hand_on(
     words: &[u32],
     floats: &mut [f32],
 )
-    requires { ⌜ Fit n e (area (now words) (now floats)) × ((r < n) × (d < n)) ⌝ }
-    requires { ⌜ Found (λ k. k < e) there × Found (λ k. k < e) back ⌝ }
-    ensures { λ _. ⌜ Does n e (λ o p. handOn there back r d p) (area (now (words .entry)) (now (floats .entry))) (area (now (words .exit)) (now (floats .exit))) ⌝ }
+    requires { ⌜ Fit n e (areaAt words floats) ⌝ }
+    requires { ⌜ r < n ⌝ }
+    requires { ⌜ d < n ⌝ }
+    requires { ⌜ Found (λ k. k < e) there ⌝ }
+    requires { ⌜ Found (λ k. k < e) back ⌝ }
+    ensures { λ _. ⌜ Does n e (λ o p. handOn there back r d p) (areaAt (words .entry) (floats .entry)) (areaAt (words .exit) (floats .exit)) ⌝ }
 {
     let x = floats[e + r + r + 1];
     adjust_eq_movement(there, back, x, floats);
@@ -43,9 +38,12 @@ pub fn hand_on(
 }
 
 // The turf r of the queue, on the way back.
-pub fn drain_turf(r: u32, z: u32, n: usize, e: usize, words: &[u32], floats: &mut [f32])
-    requires { ⌜ Fit n e (area (now words) (now floats)) × ((z < 4096) × ((r < n) × Within n e (view n e (area (now words) (now floats))) r)) ⌝ }
-    ensures { λ _. ⌜ Does n e (λ o p. drainVia (view n e (area (now (words .entry)) (now (floats .entry))) .reverse) (view n e (area (now (words .entry)) (now (floats .entry))) .via) z o r p) (area (now (words .entry)) (now (floats .entry))) (area (now (words .exit)) (now (floats .exit))) ⌝ }
+fn drain_turf(r: u32, z: u32, n: usize, e: usize, words: &[u32], floats: &mut [f32])
+    requires { ⌜ Fit n e (areaAt words floats) ⌝ }
+    requires { ⌜ z < 4096 ⌝ }
+    requires { ⌜ r < n ⌝ }
+    requires { ⌜ Within n e (view n e (areaAt words floats)) r ⌝ }
+    ensures { λ _. let v = view n e (areaAt (words .entry) (floats .entry)) in ⌜ Does n e (λ o p. drainVia (v .reverse) (v .via) z o r p) (areaAt (words .entry) (floats .entry)) (areaAt (words .exit) (floats .exit)) ⌝ }
 {
     let row = r as usize;
     let i = load(row, n, e, words, floats);
@@ -62,9 +60,11 @@ pub fn drain_turf(r: u32, z: u32, n: usize, e: usize, words: &[u32], floats: &mu
 
 // The rows of the queue from the place `to` back to the place `from`.
 pub fn drain(from: usize, to: usize, z: u32, n: usize, e: usize, words: &[u32], floats: &mut [f32])
-    requires { ⌜ Fit n e (area (now words) (now floats)) × ((z < 4096) × (to ≤ n)) ⌝ }
-    requires { ⌜ ((i : ℕ) → i < to → (getD (view n e (area (now words) (now floats)) .queue) i 0 < n) × Within n e (view n e (area (now words) (now floats))) (getD (view n e (area (now words) (now floats)) .queue) i 0)) ⌝ }
-    ensures { λ _. ⌜ Does n e (λ o p. run (drainVia (view n e (area (now (words .entry)) (now (floats .entry))) .reverse) (view n e (area (now (words .entry)) (now (floats .entry))) .via) z o) (reverse (take (to - from) (drop from (view n e (area (now (words .entry)) (now (floats .entry))) .queue)))) p) (area (now (words .entry)) (now (floats .entry))) (area (now (words .exit)) (now (floats .exit))) ⌝ }
+    requires { ⌜ Fit n e (areaAt words floats) ⌝ }
+    requires { ⌜ z < 4096 ⌝ }
+    requires { ⌜ to ≤ n ⌝ }
+    requires { ⌜ AllWithin n e (view n e (areaAt words floats)) to ⌝ }
+    ensures { λ _. let v = view n e (areaAt (words .entry) (floats .entry)) in ⌜ Does n e (λ o p. run (drainVia (v .reverse) (v .via) z o) (reverse (take (to - from) (drop from (v .queue)))) p) (areaAt (words .entry) (floats .entry)) (areaAt (words .exit) (floats .exit)) ⌝ }
 {
     let queue = index_set::queue_at(n, e);
     let mut i = to;
