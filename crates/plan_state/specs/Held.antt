@@ -68,12 +68,15 @@ pub record Fit (n e : ℕ) (a : Area) : Type 0 where
   pub turfs : n ≤ 4096
   pub links : e ≤ 24576
 
--- What every function of planning relies on: n and e are the board's turfs and links, its links are as refusal 4 leaves them, the areas fit, z is a zone's
--- number, and the reverses are found.
-pub record Planning (b : Board) (n e z : ℕ) (a : Area) : Type 0 where
+-- n and e are the board's turfs and links, and its links are as refusal 4 leaves them
+pub record Sized (b : Board) (n e : ℕ) : Type 0 where
   pub turfs : turfCount b ≡ n
   pub links : linkCount b ≡ e
   pub linked : Linked n (b .starts) (b .neighbours)
+
+-- what every function of planning relies on, of a zone z: the sizes, areas that fit, the reverse of each link
+pub record Planning (b : Board) (n e z : ℕ) (a : Area) : Type 0 where
+  pub sized : Sized b n e
   pub fit : Fit n e a
   pub zone : z < 4096
   pub reverses : Reverses b n (view n e a .reverse)
