@@ -74,6 +74,13 @@ pub record Sized (b : Board) (n e : ℕ) : Type 0 where
   pub links : linkCount b ≡ e
   pub linked : Linked n (b .starts) (b .neighbours)
 
+-- the links up to `to` are the board's and end at turfs, and r is a turf
+pub record Ends (n e r to : ℕ) (neighbours : List ℕ) : Type 0 where
+  pub row : r < n
+  pub all : length neighbours ≡ e
+  pub within : to ≤ e
+  pub ends : (k : ℕ) → k < e → getD neighbours k 0 < n
+
 -- what every function of planning relies on, of a zone z: the sizes, areas that fit, the reverse of each link
 pub record Planning (b : Board) (n e z : ℕ) (a : Area) : Type 0 where
   pub sized : Sized b n e

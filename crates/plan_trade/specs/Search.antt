@@ -79,13 +79,6 @@ pub record Passes (side : Side) (n e : ℕ) (f : ℕ → List ℕ → Seek → S
   pub idle : (first : ℕ) → KeepsIdle n e count first count′ first a a′
   pub deltas : (g : ℕ) → g < n → getD (a′ .floats) (e + g + g) nan ≡ getD (a .floats) (e + g + g) nan
 
--- the links up to `to` are the board's and end at turfs, and r is a turf
-pub record Ends (n e r to : ℕ) (neighbours : List ℕ) : Type 0 where
-  pub row : r < n
-  pub all : length neighbours ≡ e
-  pub within : to ≤ e
-  pub ends : (k : ℕ) → k < e → getD neighbours k 0 < n
-
 -- what the way back reads is within the areas
 pub record Within (n e : ℕ) (v : View) (a : ℕ) : Type 0 where
   pub at : (d : ℕ) → getD (v .plan .direction) a 0 ≡ d + 1 → (d < n) × ((getD (v .via) a 0 < e) × (getD (v .reverse) (getD (v .via) a 0) 0 ≤ e))

@@ -6,10 +6,11 @@ use Rattle.plan_fast.proofs.Moves.{moved}
 use borrow.Author.Needs.{needs}
 use Rattle.plan_fast.proofs.fast_move.Statement.{statement}
 use Rattle.plan_fast.proofs.fast_move.Tie as tie
-use Rattle.plan_state.proofs.adjust_eq_movement.Reads as adjust-eq-movement-reads
 
 adjust-eq-movement-requires : tie.Need-adjust-eq-movement-requires
-adjust-eq-movement-requires c κs = (found-more _ _ (c .before .before .before .args .there) (omega (arith, c .before .before .before .pre .0 .0 .floats)) (c .before .before .before .pre .1 .0), found-more _ _ (c .before .before .before .args .back) (omega (arith, c .before .before .before .pre .0 .0 .floats)) (c .before .before .before .pre .1 .1))
+adjust-eq-movement-requires c κs =
+    let entry = c .before .before .before in
+    (found-more _ _ (entry .args .there) (omega (arith, entry .pre .0 .floats)) (entry .pre .1 .1 .1 .0), found-more _ _ (entry .args .back) (omega (arith, entry .pre .0 .floats)) (entry .pre .1 .1 .1 .1))
 
 add-from : tie.Need-add-from
 add-from c = search needs
@@ -51,7 +52,9 @@ same-length : tie.Need-same-length
 same-length c = search needs
 
 returns : tie.Need-returns
-returns c = moved _ _ _ _ _ _ _ _ _ _ (c .before .before .before .before .before .before .before .before .pre .0 .0) (c .before .before .before .before .before .before .before .before .pre .0 .1 .0) (c .before .before .before .before .before .before .before .before .pre .0 .1 .1) (c .before .before .before .before .before .before .before .before .pre .1 .0) (c .before .before .before .before .before .before .before .before .pre .1 .1) (c .before .before .before .before .adjust-eq-movement .ensures)
+returns c =
+    let entry = c .before .before .before .before .before .before .before .before in
+    moved _ _ _ _ _ _ _ _ _ _ (entry .pre .0) (entry .pre .1 .0) (entry .pre .1 .1 .0) (entry .pre .1 .1 .1 .0) (entry .pre .1 .1 .1 .1) (c .before .before .before .before .adjust-eq-movement .ensures)
 
 pub fast-move-spec : {M : Type 1} → statement M
 fast-move-spec =
