@@ -23,7 +23,8 @@ use Rattle.index_set.proofs.Queue.{Below-at}
 use Rattle.plan_state.specs.Held.{Area, area, wsizes, fsizes, View, viewIn, view, Fit, Does, Frame, Serves, top, Nodes, nodesOf}
 use Rattle.plan_state.proofs.Stores.{frame-none, frame-then, does-none, does-as, does-frame, delta-at, list-at}
 use Rattle.plan_state.proofs.Nodes.{nodes-length, node-at, node-below, nodes-same, nodes-kept}
-use Rattle.plan_zone.specs.Zone.{sideOf, Picked, Plans}
+use Rattle.plan_zone.specs.Zone.{Picked, Plans}
+use Rattle.plan_tests.specs.Sides.{sideOf}
 use Rattle.plan_zone.proofs.Counts.{chosen-all}
 
 -- ---- the list grows
