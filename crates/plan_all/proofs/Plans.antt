@@ -1,4 +1,4 @@
--- Zone after zone is the run of the definition, over zones that stay what they are; and the plan looks at the tables alone. Assumes nothing.
+-- Zone after zone is the run of the definition, over zones that stay what they are. Assumes nothing.
 use Prim.Native.Nat.{ℕ, _+_, _-_, _≤_, _<_}
 use native.Mathlib.Omega.{arith}
 use native.Mathlib.Nat.{zero-add}
@@ -27,7 +27,6 @@ use Rattle.plan_state.proofs.Pairs.{firsts-all, seconds-all}
 use Rattle.plan_state.proofs.Stores.{frame-none, frame-then, owner-at}
 use Rattle.plan_state.proofs.Nodes.{rest-is}
 use Rattle.plan_zone.specs.Zone.{Plans}
-use Rattle.plan_zone.proofs.Whole.{tablesOf, run-like, plan-board}
 use Rattle.fill_all.specs.Held.{molesAt}
 use Rattle.plan_all.specs.Zones.{zoneOf, filledOf, Ready, Zoned, blank, Blanks, planZones, PlansAll}
 use Rattle.plan_all.proofs.Zones.{Alike, zone-alike, zoned-alike, alike-then, frame-alike, region-same, moles-at, nodes-handed}
@@ -78,14 +77,14 @@ blanked {n} {e} {w} {f} w₁ w₂ f′ h q₁ q₂ q l₂ l₁ l =
 
 -- ---- one zone
 
-pub zone-planned : {n e z s q : ℕ} {w : List ℕ} {f : List Float} {a′ : Area} (b : Board) (gas : List Float) → s ≡ startsAt n e → z < n → Ready n e z w f → q ≡ nodesAt n e
-    → Plans n e (λ o p. planZone b o z gas (nodesOf n e (view n e (area w f)) (q + getD w (s + z) 0) (getD w (s + z + 1) 0 - getD w (s + z) 0)) (getD f (molesAt n e + z) nan) p) (area w f) a′
+pub zone-planned : {n e z s q m : ℕ} {w : List ℕ} {f : List Float} {a′ : Area} (b : Board) (gas : List Float) → s ≡ startsAt n e → z < n → Ready n e z w f → q ≡ nodesAt n e → m ≡ molesAt n e + z
+    → Plans n e (λ o p. planZone b o z gas (nodesOf n e (view n e (area w f)) (q + getD w (s + z) 0) (getD w (s + z + 1) 0 - getD w (s + z) 0)) (getD f m nan) p) (area w f) a′
     → Plans n e (λ o p. planZone b o z gas (zoneOf n e w f z .nodes) (zoneOf n e w f z .moles) p) (area w f) a′
-zone-planned {n} {e} {z} {w = w} {f} b gas es h t eq d = record {
+zone-planned {n} {e} {z} {w = w} {f} b gas es h t eq em d = record {
   fit = d .fit;
   frame = d .frame;
   plan = d .plan
-      ∙ ap₂ (λ (xs : List ℕ) (m : Float). planZone b (view n e (area w f) .owner) z gas xs m (view n e (area w f) .plan)) (nodes-handed es h t eq) (moles-at n e z w f h);
+      ∙ ap₂ (λ (xs : List ℕ) (m : Float). planZone b (view n e (area w f) .owner) z gas xs m (view n e (area w f) .plan)) (nodes-handed es h t eq) (ap (λ (k : ℕ). getD f k nan) em ∙ moles-at n e z w f h);
 }
 
 -- ---- zone after zone
@@ -150,16 +149,6 @@ all-planned n e zones b gas w f en ee =
     ∙ ap (λ (m : ℕ). run h (upFrom 0 m) (blank n e)) (sym k)
     ∙ ap₂ (λ (m j : ℕ). run h (upFrom 0 (length zs)) (blank m j)) (sym en) (sym ee)
 
--- the plan of all zones looks at the tables alone
-pub plan-all-board : (b : Board) (gas : List Float) (s : Filled) → planAll (tablesOf b) gas s ≡ planAll b gas s
-unfolding planAll
-plan-all-board b gas s =
-    ap (λ (m : ℕ). run (λ z p. planZone (tablesOf b) (s .owner) z gas (zoneAt (s .zones) z .nodes) (zoneAt (s .zones) z .moles) p) (upFrom 0 (length (s .zones))) (blank m (linkCount b)))
-    (length-replicate {A = ℕ} (turfCount b) 0)
-    ∙ run-like (λ z p. planZone (tablesOf b) (s .owner) z gas (zoneAt (s .zones) z .nodes) (zoneAt (s .zones) z .moles) p)
-    (λ z p. planZone b (s .owner) z gas (zoneAt (s .zones) z .nodes) (zoneAt (s .zones) z .moles) p)
-    (λ z p. plan-board b (s .owner) z gas (zoneAt (s .zones) z .nodes) (zoneAt (s .zones) z .moles) p) (upFrom 0 (length (s .zones))) (blank (turfCount b) (linkCount b))
-
 -- ---- all of it
 
 module _ {n e zones : ℕ} {w w₁ w₂ : List ℕ} {f f₂ : List Float} (z : Zoned n e zones w f) (b₁ : But e (e + e) w w₁) (k : Blanks n e (area w₁ f) (area w₂ f₂)) where
@@ -198,7 +187,7 @@ module _ {n e zones : ℕ} {w w₁ w₂ : List ℕ} {f f₂ : List Float} (z : Z
 
   pub planned-all : {w₃ : List ℕ} {f₃ : List Float} {b : Board} {gas : List Float} → Plans n e (planZones b gas (zoneOf n e w₂ f₂) (upFrom 0 zones)) (area w₂ f₂) (area w₃ f₃)
       → length w₃ ≡ length w₁ → length f₃ ≡ length f → turfCount b ≡ n → linkCount b ≡ e
-      → ((c : Board) → c .starts ≡ b .starts → c .neighbours ≡ b .neighbours → Reverses c n (take e (drop e w₁)))
+      → Reverses b n (take e (drop e w₁))
       → PlansAll n e zones b gas w w₃ f f₃
   unfolding view
   planned-all {w₃} {f₃} {b} {gas} d l m en ee v = record {
@@ -207,7 +196,7 @@ module _ {n e zones : ℕ} {w w₁ w₂ : List ℕ} {f f₂ : List Float} (z : Z
       same = λ i o. word-stays (d .frame) i o ∙ b₁ .same i (⊎-elim (λ q. inl q) (λ q. inr (omega (arith, q))) o);
     };
     floats = (m, sym (floats-rest n e (area w₃ f₃)) ∙ since (d .frame) .restF ∙ floats-rest n e (area w₁ f));
-    reverses = λ c es et. subst (Reverses c n) (sym (since (d .frame) .reverse)) (v c es et);
+    reverses = subst (Reverses b n) (sym (since (d .frame) .reverse)) v;
     plan = d .plan
         ∙ ap (λ (y : ℕ → Zone). planZones b gas y (upFrom 0 zones) (view n e (area w₂ f₂) .owner) (view n e (area w₂ f₂) .plan)) (zone-alike all-alike)
         ∙ ap₂ (planZones b gas (zoneOf n e w f) (upFrom 0 zones)) (k .frame .owner ∙ owners-stay) (k .plan)

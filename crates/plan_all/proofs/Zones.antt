@@ -134,6 +134,8 @@ module _ {n e z s : ℕ} {w : List ℕ} {f : List Float} (es : s ≡ startsAt n 
 
     pub handed : Room n e w f → Nodes n e (q + getD w (s + z) 0) (getD w (s + z + 1) 0 - getD w (s + z) 0) (area w f)
     handed r = record {
+      some = omega (arith, from-to .0);
+      few = omega (arith, from-to .0, from-to .1 .1);
       past = omega (arith, eq);
       room = omega (arith, eq, from-to .0, from-to .1 .0, r .words);
       rows = subst (Below n) (sym nodes-handed) (t .rows);

@@ -32,6 +32,17 @@ pub fn list_at(n: usize, e: usize) -> usize
     e + e + n + n + n + n + n
 }
 
+// Where the total of zone z stands, past the floats of planning and the lifted weights.
+pub fn moles_at(z: usize, n: usize, e: usize) -> usize
+    requires { ⌜ e ≤ 24576 ⌝ }
+    requires { ⌜ n ≤ 4096 ⌝ }
+    requires { ⌜ z ≤ 4096 ⌝ }
+    ensures { λ r. ⌜ r ≡ e + n + n + e + z ⌝ }
+{
+    let totals = e + n + n + e;
+    totals + z
+}
+
 // The planning state of the turf at `row`.
 pub fn load(row: usize, n: usize, e: usize, words: &[u32], floats: &[f32]) -> MonstermosInfo
     requires { ⌜ Fit n e (areaAt words floats) ⌝ }
