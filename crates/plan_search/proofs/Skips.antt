@@ -134,7 +134,7 @@ module _ (rev via : List ℕ) (z : ℕ) (o : List ℕ) where
 
 -- ---- the way back by the code
 
--- what it reads, while only the reals change
+-- what it reads, while only the floats change
 pub rows-later : (n e count : ℕ) (w : List ℕ) (f f′ : List Float)
     → ((i : ℕ) → i < count → (getD (view n e (area w f) .queue) i 0 < n) × Within n e (view n e (area w f)) (getD (view n e (area w f) .queue) i 0))
     → (m : ℕ) → m ≤ count → (i : ℕ) → i < m → (getD (view n e (area w f′) .queue) i 0 < n) × Within n e (view n e (area w f′)) (getD (view n e (area w f′) .queue) i 0)

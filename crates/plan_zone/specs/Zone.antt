@@ -2,19 +2,10 @@
 use Prim.Native.Nat.{ℕ, _+_, _*_, _≤_, _<_}
 use mathlib.Core.Path.{_≡_}
 use mathlib.Core.List.{List}
-use mathlib.Core.Bool.{Bool, cond}
-use lib.Dec.{ltb}
 use lib.ListN.{length, getD, take}
 use lib.Ieee.{Float}
-use Rattle.basics.specs.Loops.{if_then_else_}
 use Rattle.process_zone.specs.Plan.{Plan}
-use Rattle.process_zone.specs.declared.Side.{Side}
-use Rattle.process_zone.specs.declared.Side.the-variants.{Giving, Taking}
-use Rattle.plan_state.specs.Held.{Area, View, view, Fit, Frame}
-
--- fewer givers than takers: givers give; else takers take
-abbrev pub sideOf : ℕ → ℕ → Side
-sideOf givers takers = if ltb givers takers then Giving else Taking
+use Rattle.plan_state.specs.Held.{Area, view, Fit, Frame}
 
 -- every turf's mixture lies in the gas
 pub record Gassed (n : ℕ) (mixtures : List ℕ) (gases : ℕ) (gas : List Float) : Type 0 where

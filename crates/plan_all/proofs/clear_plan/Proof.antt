@@ -4,8 +4,6 @@ use Rattle.plan_all.proofs.Plans.{blanked}
 use borrow.Author.Needs.{needs}
 use Rattle.plan_all.proofs.clear_plan.Statement.{statement}
 use Rattle.plan_all.proofs.clear_plan.Tie as tie
-use Rattle.basics.proofs.clear_floats.Reads as clear-floats-reads
-use Rattle.basics.proofs.clear_part.Reads as clear-part-reads
 
 add-pairs : tie.Need-add-pairs
 add-pairs c = search needs

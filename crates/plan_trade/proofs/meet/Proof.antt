@@ -6,7 +6,7 @@ use Rattle.plan_trade.proofs.meet.Statement.{statement}
 use Rattle.plan_trade.proofs.meet.Tie as tie
 use Rattle.plan_trade.proofs.point.Reads as point-reads
 use Rattle.plan_trade.proofs.trade.Reads as trade-reads
-use Rattle.plan_trade.proofs.wants.Reads as wants-reads
+use Rattle.plan_tests.proofs.wants.Reads as wants-reads
 
 add-point : tie.Need-add-point
 add-point c = search needs

@@ -9,7 +9,7 @@ use Rattle.basics.specs.Floats.{0f}
 use Rattle.process_zone.specs.Plan.{settled, wants, more}
 use Rattle.process_zone.specs.declared.Side.{Side}
 use Rattle.process_zone.specs.declared.Side.the-variants.{Giving, Taking}
-use Rattle.plan_trade.specs.Steps.{given}
+use Rattle.plan_tests.specs.Sides.{given}
 
 -- -a < 0, and -a ≤ 0
 below-zero : (s : Bool) (a z : ℕ) → z ≡ 0 → below (not s) a false z ≡ below false z s a

@@ -1,23 +1,17 @@
 -- One comparison serves both sides. Assumes nothing.
-use Rattle.plan_trade.proofs.Sides.{more-given}
+use Rattle.plan_tests.proofs.Sides.{more-given}
 use mathlib.Core.Path.{ap₂, _∙_}
 use lib.Ieee.{Float, lt, neg}
 use borrow.Author.Needs.{needs}
-use Rattle.plan_trade.proofs.more.Statement.{statement}
-use Rattle.plan_trade.proofs.more.Tie as tie
-use Rattle.plan_trade.proofs.more.Reads as reads
-use Rattle.plan_trade.proofs.more.Lts as lts
-use Rattle.plan_trade.proofs.given.Reads as given-reads
+use Rattle.plan_tests.proofs.more.Statement.{statement}
+use Rattle.plan_tests.proofs.more.Tie as tie
 
--- src/lib.rt:59:6
 given-requires : tie.Need-given-requires
 given-requires c κs = search needs
 
--- src/lib.rt:59:23
 given-requires-2 : tie.Need-given-requires-2
 given-requires-2 c κs = search needs
 
--- src/lib.rt:56:1
 returns : tie.Need-returns
 returns c = ap₂ (λ (a b : Float). lt a (neg b)) (c .given2 .ensures) (c .before .given .ensures) ∙ more-given (c .before .before .args .side) (c .before .before .args .x) (c .before .before .args .y)
 

@@ -1,7 +1,7 @@
 -- By the test. Assumes nothing.
 use borrow.Author.Tests.{lt-ltb, le-ltb}
-use Rattle.plan_zone.proofs.side_of.Statement.{statement}
-use Rattle.plan_zone.proofs.side_of.Tie as tie
+use Rattle.plan_tests.proofs.side_of.Statement.{statement}
+use Rattle.plan_tests.proofs.side_of.Tie as tie
 
 returns : tie.Need-returns
 returns c = rw (lt-ltb _ _ (c .if1 .taken))

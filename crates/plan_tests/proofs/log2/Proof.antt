@@ -1,8 +1,8 @@
 -- A number above 0 has at most 31 leading zeros. Assumes nothing.
-use Rattle.plan_zone.proofs.Logs.{leading-pos}
+use Rattle.plan_tests.proofs.Logs.{leading-pos}
 use borrow.Author.Needs.{needs}
-use Rattle.plan_zone.proofs.log2.Statement.{statement}
-use Rattle.plan_zone.proofs.log2.Tie as tie
+use Rattle.plan_tests.proofs.log2.Statement.{statement}
+use Rattle.plan_tests.proofs.log2.Tie as tie
 
 sub-result : tie.Need-sub-result
 sub-result c = leading-pos 31 _ (c .pre)
