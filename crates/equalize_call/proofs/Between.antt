@@ -29,9 +29,7 @@ use Rattle.reverse_links.specs.Reverse.{Linked, Reverses}
 use Rattle.reverse_links.specs.Words.{But}
 use Rattle.reverse_links.proofs.Accepted.{linked}
 use Rattle.plan_state.specs.Held.{area, view, top}
-use Rattle.plan_zone.specs.Zone.{Gassed}
-use Rattle.plan_zone.proofs.Whole.{tablesOf}
-use Rattle.plan_all.specs.Zones.{Zoned, PlansAll}
+use Rattle.plan_all.specs.Zones.{Plannable, Zoned, PlansAll}
 use Rattle.plan_all.proofs.Asked as asked
 use Rattle.plan_all.proofs.Calls.{planned-filled}
 use Rattle.fill_all.specs.Held.{floatSizes, View, FillsAll}
@@ -93,10 +91,10 @@ module _ (b : Board) (q : Ask) (l₀ l : Lent) (s : Filling) (d : Fills b q s l�
   links : Linked n (b .starts) (b .neighbours)
   links = linked b (h .starts) k
 
-  pub plan-asks : (Gassed n (b .mixtures) (b .gases) (l .gas) × (Linked n (b .starts) (b .neighbours) × (linkCount b ≡ e))) × Zoned n e (s .zones) (l .words) (l .floats)
+  pub plan-asks : Plannable b (l .gas) × Zoned n e (s .zones) (l .words) (l .floats)
   plan-asks =
-      subst (λ (g : List Float). (Gassed n (b .mixtures) (b .gases) g × (Linked n (b .starts) (b .neighbours) × (linkCount b ≡ e))) × Zoned n e (s .zones) (l .words) (l .floats))
-      (sym (d .gas)) (asked.plan-asks b q (l₀ .gas) s (d .fills) accepted k words-room floats-room)
+      subst (λ (g : List Float). Plannable b g × Zoned n e (s .zones) (l .words) (l .floats)) (sym (d .gas))
+      (asked.plan-asks b q (l₀ .gas) s (d .fills) accepted k words-room floats-room)
 
   -- ---- what filling left, by its places
 
@@ -127,7 +125,7 @@ module _ (b : Board) (q : Ask) (l₀ l : Lent) (s : Filling) (d : Fills b q s l�
 
   -- ---- apart
 
-  module _ (w₁ : List ℕ) (f₁ : List Float) (p : PlansAll n e (s .zones) (tablesOf b) (l .gas) (l .words) w₁ (l .floats) f₁) where
+  module _ (w₁ : List ℕ) (f₁ : List Float) (p : PlansAll n e (s .zones) b (l .gas) (l .words) w₁ (l .floats) f₁) where
     kept₁ : (j : ℕ) → top n e ≤ j → getD w₁ j 0 ≡ getD (l .words) j 0
     kept₁ j a = p .words .same j (inr a)
 
@@ -197,7 +195,7 @@ module _ (b : Board) (q : Ask) (l₀ l : Lent) (s : Filling) (d : Fills b q s l�
       reverses : Reverses b n (reverseIn e w₂)
       reverses =
           subst (Reverses b n) (sym (part-alike e e w₂ w₁ (t .len) (λ i a. t .same (e + i) (inl (omega arith)))))
-          (p .reverses b refl refl)
+          (p .reverses)
 
       start₂ : (z : ℕ) → z ≤ s .zones → startOf n (cursorAt b) w₂ z ≡ at D z
       start₂ z a =
@@ -222,7 +220,7 @@ module _ (b : Board) (q : Ask) (l₀ l : Lent) (s : Filling) (d : Fills b q s l�
       pub finish-asks : Planned b (s .zones) w₂ (areas (l .gas) f₁ (l .area) (s .used))
       unfolding floatsRoom
       finish-asks = record {
-        ready = record { board = h; linked = links; reverse = reverses; words = omega (arith, words-long, long₂); floats = omega (arith, floats-room, p .reals .0) };
+        ready = record { board = h; linked = links; reverse = reverses; words = omega (arith, words-long, long₂); floats = omega (arith, floats-room, p .floats .0) };
         arrays = omega (arith, words-long, long₂);
         laid = record {
           few = few-zones;
@@ -267,7 +265,7 @@ module _ (b : Board) (q : Ask) (l₀ l : Lent) (s : Filling) (d : Fills b q s l�
         floats-rest =
             let m : ℕ = 4 * n + 2 * e in
             later-same (fsizes b) m f₁ f₃ (omega arith) (ap (λ (r : List (List Float)). getD r 2 []) (u .kept .rest))
-            ∙ drop-later (e + n + n) m f₁ (l .floats) (omega arith) (p .reals .1)
+            ∙ drop-later (e + n + n) m f₁ (l .floats) (omega arith) (p .floats .1)
             ∙ later-same (floatSizes n e) m (l₀ .floats) (l .floats) (omega arith) (ap (λ (v : View). v .around .restR) (D .same))
 
         pub comes-played : (r : Bool) → Tells b (s .zones) (startsAt n e) (nodesAt n e) marks r w₁ w₂ → (mark : ℕ) → mark ≡ bit r
@@ -294,9 +292,10 @@ module _ {b : Board} {s : Filling} {l : Lent} (x : Filled b s l) where
   abbrev E : ℕ
   E = linkCount b
 
-PLANFITS
+  pub plan-fits : Plannable b (l .gas) × Zoned N E (s .zones) (l .words) (l .floats)
+  plan-fits = plan-asks b (x .asked) (x .lent) l s (x .fills) (x .board) (x .links) (x .area) (x .words) (x .floats)
 
-  module _ (w₁ : List ℕ) (f₁ : List Float) (p : PLANSALL) where
+  module _ (w₁ : List ℕ) (f₁ : List Float) (p : PlansAll N E (s .zones) b (l .gas) (l .words) w₁ (l .floats) f₁) where
     pub apart-fits : ApartFits (bare b) (s .zones) w₁
     apart-fits = apart-asks b (x .asked) (x .lent) l s (x .fills) (x .board) (x .links) (x .area) (x .words) (x .floats) w₁ f₁ p
 

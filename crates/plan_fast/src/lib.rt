@@ -9,11 +9,11 @@ ghost use Rattle.process_zone.specs.Plan.{fastTurf};
 ghost use Rattle.plan_state.specs.Held.{areaAt, view, Fit, Ends, Planning, Does, Nodes, nodesOf};
 ghost use Rattle.plan_fast.specs.Steps.{tallyStep, moveAt, fastVia};
 use basics::Spot;
+use plan_state::ZoneAt;
 use plan_state::adjust_eq_movement;
 use plan_state::back_link;
 use plan_state::load;
 use plan_state::store;
-use plan_state::ZoneAt;
 use plan_tests::marked;
 use turfs::Marks;
 use turfs::NEIGHBOURS;
@@ -76,14 +76,7 @@ pub struct Share {
 }
 
 // The share moves to the neighbour a, over the edges at hand.
-fn fast_move(
-    share: Share,
-    there: Spot,
-    back: Spot,
-    a: usize,
-    words: &[u32],
-    floats: &mut [f32],
-)
+fn fast_move(share: Share, there: Spot, back: Spot, a: usize, words: &[u32], floats: &mut [f32])
     requires { ⌜ Fit (share .n) (share .e) (areaAt words floats) ⌝ }
     requires { ⌜ share .r < share .n ⌝ }
     requires { ⌜ a < share .n ⌝ }

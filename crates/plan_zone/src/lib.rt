@@ -13,18 +13,18 @@ ghost use Rattle.index_set.specs.Line.{Below};
 ghost use Rattle.plan_state.specs.Held.{areaAt, view, Fit, Planning, Does, Serves, Nodes, nodesOf};
 ghost use Rattle.plan_zone.specs.Zone.{Gassed, Picked, Plans};
 use plan_fast::fast_all;
-use plan_search::serve;
 use plan_search::Hand;
+use plan_search::serve;
+use plan_state::ZoneAt;
 use plan_state::list_at;
 use plan_state::store;
-use plan_state::ZoneAt;
 use plan_tests::log2;
 use plan_tests::picks;
 use plan_tests::side_of;
 use process_zone::MonstermosInfo;
 use process_zone::Side;
-use turfs::Marks;
 use turfs::MIXTURES;
+use turfs::Marks;
 use turfs::Rows;
 
 // One more, if the turf r gives.

@@ -24,10 +24,13 @@ clear-plan-requires c κs = search needs
 
 plan-zones-requires : tie.Need-plan-zones-requires
 plan-zones-requires c κs =
-    let entry = c .before .before .before .before .before .before .before .before .before .before .before .before .before .before .before .before .before .before .before in
-    (entry .pre .0,
-    (cleared-zoned (entry .pre .1) (c .before .before .before .before .before .before .before .before .before .before .before .find-reverses .ensures .0) (c .before .before .before .before .before .before .clear-plan .ensures) (c .before .before .before .before .before .before .clear-plan .kept .1 .1 .0) (c .before .before .before .before .before .before .clear-plan .kept .1 .1 .1 .0),
-    cleared-reverses (entry .pre .1) (c .before .before .before .before .before .before .before .before .before .before .before .find-reverses .ensures .0) (c .before .before .before .before .before .before .clear-plan .ensures) (reverses-of (boardOf (entry .args .rows .now) (entry .args .marks .now) (entry .args .gases)) _ (c .before .before .before .before .before .before .before .before .before .before .before .find-reverses .ensures .1))))
+    let entry = c .before .before .before .before .before .before .before .before .before .before .before .before .before .before .before .before .before .before .before in (
+      entry .pre .0,
+      (
+        cleared-zoned (entry .pre .1) (c .before .before .before .before .before .before .before .before .before .before .before .find-reverses .ensures .0) (c .before .before .before .before .before .before .clear-plan .ensures) (c .before .before .before .before .before .before .clear-plan .kept .1 .1 .0) (c .before .before .before .before .before .before .clear-plan .kept .1 .1 .1 .0),
+        cleared-reverses (entry .pre .1) (c .before .before .before .before .before .before .before .before .before .before .before .find-reverses .ensures .0) (c .before .before .before .before .before .before .clear-plan .ensures) (reverses-of (boardOf (entry .args .rows .now) (entry .args .marks .now) (entry .args .gases)) _ (c .before .before .before .before .before .before .before .before .before .before .before .find-reverses .ensures .1)),
+      ),
+    )
 
 same-length : tie.Need-same-length
 same-length c = search needs

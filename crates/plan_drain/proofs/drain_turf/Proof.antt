@@ -46,10 +46,19 @@ hand-on-requires : tie.Need-hand-on-requires
 hand-on-requires c κs =
     let entry = c .before .before .before .before .before .before .before .before .before .before in
     let met = c .before .before .before .before .before .before .load .ensures in
-    let pointed = c .before .before .before .if2 .taken in
-    (entry .pre .0, (entry .pre .1 .1 .0, (back-row _ _ (entry .args .z) _ _ _ _ met (entry .pre .0) (entry .pre .1 .1 .0) (entry .pre .1 .1 .1) pointed,
-    (back-there _ _ _ _ _ _ _ met (entry .pre .0) (entry .pre .1 .1 .0) (entry .pre .1 .1 .1) pointed _ (c .before .back-link .ensures),
-    back-k _ _ (entry .args .z) _ _ _ _ met (entry .pre .0) (entry .pre .1 .1 .0) (entry .pre .1 .1 .1) pointed))))
+    let pointed = c .before .before .before .if2 .taken in (
+      entry .pre .0,
+      (
+        entry .pre .1 .1 .0,
+        (
+          back-row _ _ (entry .args .z) _ _ _ _ met (entry .pre .0) (entry .pre .1 .1 .0) (entry .pre .1 .1 .1) pointed,
+          (
+            back-there _ _ _ _ _ _ _ met (entry .pre .0) (entry .pre .1 .1 .0) (entry .pre .1 .1 .1) pointed _ (c .before .back-link .ensures),
+            back-k _ _ (entry .args .z) _ _ _ _ met (entry .pre .0) (entry .pre .1 .1 .0) (entry .pre .1 .1 .1) pointed,
+          ),
+        ),
+      ),
+    )
 
 same-length : tie.Need-same-length
 same-length c = search needs

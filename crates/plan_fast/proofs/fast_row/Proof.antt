@@ -33,10 +33,16 @@ loop-holds c = ((omega arith, (c .before .before .before .pre .1 .1 .1 .0, refl)
 
 fast-link-requires : tie.Need-fast-link-requires Inv-loop μ-loop
 fast-link-requires c κs =
-    let entry = c .before .before .before .before .before .before in
-    (c .before .before .loop .inv .1 .fit, (entry .pre .1 .0,
-    (record { row = entry .pre .1 .1 .0 .row; all = entry .pre .1 .1 .0 .all; within = omega (arith, entry .pre .1 .1 .0 .within, c .before .loop-test .taken); ends = entry .pre .1 .1 .0 .ends },
-    rw (reverse-same _ _ _ _ (entry .args .floats .now)) (entry .pre .1 .1 .1 .1 _ (c .before .before .loop .inv .0 .0) (c .before .loop-test .taken)))))
+    let entry = c .before .before .before .before .before .before in (
+      c .before .before .loop .inv .1 .fit,
+      (
+        entry .pre .1 .0,
+        (
+          record { row = entry .pre .1 .1 .0 .row; all = entry .pre .1 .1 .0 .all; within = omega (arith, entry .pre .1 .1 .0 .within, c .before .loop-test .taken); ends = entry .pre .1 .1 .0 .ends },
+          rw (reverse-same _ _ _ _ (entry .args .floats .now)) (entry .pre .1 .1 .1 .1 _ (c .before .before .loop .inv .0 .0) (c .before .loop-test .taken)),
+        ),
+      ),
+    )
 
 add-k : tie.Need-add-k Inv-loop μ-loop
 add-k c = omega (arith, c .before .before .before .before .loop-test .taken, c .before .before .before .before .before .before .before .before .before .pre .1 .1 .0 .within, c .before .before .before .before .before .before .before .before .before .pre .0 .links)
@@ -45,8 +51,10 @@ loop-less : tie.Need-loop-less Inv-loop μ-loop
 loop-less c = omega (arith, c .before .before .before .before .loop-test .taken)
 
 loop-again : tie.Need-loop-again Inv-loop μ-loop
-loop-again c = ((omega (arith, c .before .before .before .before .before .loop .inv .0 .0), (omega (arith, c .before .before .before .before .loop-test .taken), c .before .before .fast-link .kept .1 .1 .1 .1 .0 ∙ c .before .before .before .before .before .loop .inv .0 .1 .1)),
-    onto-next _ _ (c .before .before .before .before .before .loop .inv .1) (fast-same _ _ _ _ _ _ _ _ _ _ (c .before .before .fast-link .ensures)) (λ o p. run-up _ _ _ _ (c .before .before .before .before .loop-test .taken)))
+loop-again c = (
+  (omega (arith, c .before .before .before .before .before .loop .inv .0 .0), (omega (arith, c .before .before .before .before .loop-test .taken), c .before .before .fast-link .kept .1 .1 .1 .1 .0 ∙ c .before .before .before .before .before .loop .inv .0 .1 .1)),
+  onto-next _ _ (c .before .before .before .before .before .loop .inv .1) (fast-same _ _ _ _ _ _ _ _ _ _ (c .before .before .fast-link .ensures)) (λ o p. run-up _ _ _ _ (c .before .before .before .before .loop-test .taken)),
+)
 
 same-length : tie.Need-same-length Inv-loop μ-loop
 same-length c = c .before .loop .inv .0 .1 .1

@@ -176,9 +176,10 @@ returns-4 : tie.Need-returns-4
 returns-4 c =
     let entry = c .before .before .before .before .before .before .before .before .before .before .before .before .before .before .before .before .before .before .before .before .before .before .before .before .before in
     let hk : entry .args .k < entry .args .hand .e = omega (arith, entry .pre .1 .within) in
-    let ha = entry .pre .1 .ends (entry .args .k) hk in
-    (λ q. absurd (true≢false (sym q)),
-    λ _. pass-new (entry .args .hand .side) (entry .args .r) (entry .args .k) (entry .args .hand .z) _ _ _ (entry .args .neighbours .now) _ _ (entry .pre .0 .seeking) hk ha _ _ (c .before .before .before .before .before .before .before .before .before .before .before .before .before .before .before .before .before .before .before .queue-at .ensures) (c .before .before .before .before .before .before .before .before .before .before .before .before .before .before .before .before .before .before .places-at .ensures) (c .before .before .before .before .before .before .before .before .before .before .before .before .before .before .before .before .before .before .before .before .if1 .left) (sym (c .before .before .before .before .before .before .before .before .before .before .before .before .before .before .if2 .left) ∙ c .before .before .before .before .before .before .before .before .before .before .before .before .before .before .before .contains .ensures) (sym (c .before .before .before .before .before .before .before .before .before .before .before .before .wants .ensures) ∙ c .before .before .before .before .before .before .before .before .before .before .before .if3 .left) _ (c .before .before .before .before .before .before .before .before .before .insert .ensures) _ _ (c .before .before .before .before .point .ensures))
+    let ha = entry .pre .1 .ends (entry .args .k) hk in (
+      λ q. absurd (true≢false (sym q)),
+      λ _. pass-new (entry .args .hand .side) (entry .args .r) (entry .args .k) (entry .args .hand .z) _ _ _ (entry .args .neighbours .now) _ _ (entry .pre .0 .seeking) hk ha _ _ (c .before .before .before .before .before .before .before .before .before .before .before .before .before .before .before .before .before .before .before .queue-at .ensures) (c .before .before .before .before .before .before .before .before .before .before .before .before .before .before .before .before .before .before .places-at .ensures) (c .before .before .before .before .before .before .before .before .before .before .before .before .before .before .before .before .before .before .before .before .if1 .left) (sym (c .before .before .before .before .before .before .before .before .before .before .before .before .before .before .if2 .left) ∙ c .before .before .before .before .before .before .before .before .before .before .before .before .before .before .before .contains .ensures) (sym (c .before .before .before .before .before .before .before .before .before .before .before .before .wants .ensures) ∙ c .before .before .before .before .before .before .before .before .before .before .before .if3 .left) _ (c .before .before .before .before .before .before .before .before .before .insert .ensures) _ _ (c .before .before .before .before .point .ensures),
+    )
 
 pub pass-link-spec : {M : Type 1} → statement M
 pass-link-spec =

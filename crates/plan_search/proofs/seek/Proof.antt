@@ -68,9 +68,10 @@ slice-read-r c = omega (arith, c .before .before .before .before .before .loop .
 
 seek-turf-requires : tie.Need-seek-turf-requires Inv-loop μ-loop
 seek-turf-requires c κs =
-    let entry = c .before .before .before .before .before .before .before .before .before .before .before .before .before in
-    (record { seeking = c .before .before .before .before .before .before .before .loop .inv .1 .0 .seeking; zone = entry .pre .0 .zone; row = entry .pre .0 .row },
-    (sym (c .before .before .before .before .settled .ensures) ∙ c .before .before .before .if1 .left, (seen-below _ _ _ _ _ _ (c .before .before .before .before .before .before .before .loop .inv .1 .0 .seeking) (c .before .before .before .before .before .before .loop-test .taken) _ (c .before .before .before .before .before .before .before .before .queue-at .ensures), (entry .pre .1 .0 .linked, entry .pre .1 .0 .links))))
+    let entry = c .before .before .before .before .before .before .before .before .before .before .before .before .before in (
+      record { seeking = c .before .before .before .before .before .before .before .loop .inv .1 .0 .seeking; zone = entry .pre .0 .zone; row = entry .pre .0 .row },
+      (sym (c .before .before .before .before .settled .ensures) ∙ c .before .before .before .if1 .left, (seen-below _ _ _ _ _ _ (c .before .before .before .before .before .before .before .loop .inv .1 .0 .seeking) (c .before .before .before .before .before .before .loop-test .taken) _ (c .before .before .before .before .before .before .before .before .queue-at .ensures), (entry .pre .1 .0 .linked, entry .pre .1 .0 .links))),
+    )
 
 add-looked : tie.Need-add-looked Inv-loop μ-loop
 add-looked c = omega (arith, c .before .before .before .before .before .before .before .before .before .before .before .before .loop .inv .1 .0 .seeking .line .few, c .before .before .before .before .before .before .before .before .before .before .before .before .loop .inv .1 .0 .seeking .fit .turfs, c .before .before .before .before .before .before .before .before .before .before .before .loop-test .taken)
@@ -80,12 +81,15 @@ loop-less c = omega (arith, c .before .before .before .before .before .before .b
 
 loop-again : tie.Need-loop-again Inv-loop μ-loop
 loop-again c =
-    let entry = c .before .before .before .before .before .before .before .before .before .before .before .before .before .before .before .before .before .before in
-    ((c .before .before .before .before .seek-turf .kept .1 .1 .1 .1 .1 .0 ∙ c .before .before .before .before .before .before .before .before .before .before .before .before .loop .inv .0 .0, c .before .before .before .before .seek-turf .kept .1 .1 .1 .1 .1 .1 .0 ∙ c .before .before .before .before .before .before .before .before .before .before .before .before .loop .inv .0 .1),
-    (trail-next _ _ (c .before .before .before .before .before .before .before .before .before .before .before .before .loop .inv .1 .0) (sought-as (c .before .before .before .before .seek-turf .ensures .sought) (links-are (boardOf (entry .args .rows .now) (entry .args .marks .now) (entry .args .gases)) (entry .args .hand .z) (entry .args .hand .side) (entry .args .hand .g) _))
-    (omega (arith, c .before .before .before .before .before .before .before .before .before .before .before .before .loop .inv .1 .0 .seeking .line .few, c .before .before .before .before .before .before .before .before .before .before .before .loop-test .taken))
-    (turn-on _ _ _ _ _ _ (c .before .before .before .before .before .before .before .before .before .before .before .before .loop .inv .1 .0 .seeking) (c .before .before .before .before .before .before .before .before .before .before .before .loop-test .taken) _ (c .before .before .before .before .before .before .before .before .before .before .before .before .before .queue-at .ensures) (boardOf (entry .args .rows .now) (entry .args .marks .now) (entry .args .gases)) _ _ _ (entry .pre .0 .row) (sym (c .before .before .before .before .before .before .before .before .before .settled .ensures) ∙ c .before .before .before .before .before .before .before .before .if1 .left)),
-    (c .before .before .before .before .seek-turf .ensures .met .keeps _ (links-lead (seen-below _ _ _ _ _ _ (c .before .before .before .before .before .before .before .before .before .before .before .before .loop .inv .1 .0 .seeking) (c .before .before .before .before .before .before .before .before .before .before .before .loop-test .taken) _ (c .before .before .before .before .before .before .before .before .before .before .before .before .before .queue-at .ensures))) (c .before .before .before .before .before .before .before .before .before .before .before .before .loop .inv .1 .1 .0), c .before .before .before .before .seek-turf .ensures .idle .keeps (c .before .before .before .before .before .before .before .before .before .before .before .before .loop .inv .1 .1 .1))))
+    let entry = c .before .before .before .before .before .before .before .before .before .before .before .before .before .before .before .before .before .before in (
+      (c .before .before .before .before .seek-turf .kept .1 .1 .1 .1 .1 .0 ∙ c .before .before .before .before .before .before .before .before .before .before .before .before .loop .inv .0 .0, c .before .before .before .before .seek-turf .kept .1 .1 .1 .1 .1 .1 .0 ∙ c .before .before .before .before .before .before .before .before .before .before .before .before .loop .inv .0 .1),
+      (
+        trail-next _ _ (c .before .before .before .before .before .before .before .before .before .before .before .before .loop .inv .1 .0) (sought-as (c .before .before .before .before .seek-turf .ensures .sought) (links-are (boardOf (entry .args .rows .now) (entry .args .marks .now) (entry .args .gases)) (entry .args .hand .z) (entry .args .hand .side) (entry .args .hand .g) _))
+            (omega (arith, c .before .before .before .before .before .before .before .before .before .before .before .before .loop .inv .1 .0 .seeking .line .few, c .before .before .before .before .before .before .before .before .before .before .before .loop-test .taken))
+            (turn-on _ _ _ _ _ _ (c .before .before .before .before .before .before .before .before .before .before .before .before .loop .inv .1 .0 .seeking) (c .before .before .before .before .before .before .before .before .before .before .before .loop-test .taken) _ (c .before .before .before .before .before .before .before .before .before .before .before .before .before .queue-at .ensures) (boardOf (entry .args .rows .now) (entry .args .marks .now) (entry .args .gases)) _ _ _ (entry .pre .0 .row) (sym (c .before .before .before .before .before .before .before .before .before .settled .ensures) ∙ c .before .before .before .before .before .before .before .before .if1 .left)),
+        (c .before .before .before .before .seek-turf .ensures .met .keeps _ (links-lead (seen-below _ _ _ _ _ _ (c .before .before .before .before .before .before .before .before .before .before .before .before .loop .inv .1 .0 .seeking) (c .before .before .before .before .before .before .before .before .before .before .before .loop-test .taken) _ (c .before .before .before .before .before .before .before .before .before .before .before .before .before .queue-at .ensures))) (c .before .before .before .before .before .before .before .before .before .before .before .before .loop .inv .1 .1 .0), c .before .before .before .before .seek-turf .ensures .idle .keeps (c .before .before .before .before .before .before .before .before .before .before .before .before .loop .inv .1 .1 .1)),
+      ),
+    )
 
 same-length-3 : tie.Need-same-length-3 Inv-loop μ-loop
 same-length-3 c = c .before .loop .inv .0 .0

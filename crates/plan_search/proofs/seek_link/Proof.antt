@@ -53,9 +53,10 @@ unfolding along
 returns-2 c =
     let entry = c .before .before .before .before .before .before .before .before .before .before .before in
     let hk : entry .args .k < entry .args .hand .e = omega (arith, entry .pre .1 .1 .within) in
-    let ha = entry .pre .1 .1 .ends (entry .args .k) hk in
-    (record { sought = link-queued (entry .args .hand .side) (entry .args .hand .g) (entry .args .r) (entry .args .k) _ (entry .args .hand .z) _ _ _ _ _ (entry .pre .0 .seeking) hk (entry .pre .0 .row) ha _ _ (c .before .before .before .before .before .queue-at .ensures) (c .before .before .before .before .places-at .ensures) (c .before .before .before .before .before .before .if1 .left) (entry .pre .1 .0) (sym (c .if2 .taken) ∙ c .before .contains .ensures); met = keeps-none; idle = idle-none },
-    sym (entry .pre .1 .0))
+    let ha = entry .pre .1 .1 .ends (entry .args .k) hk in (
+      record { sought = link-queued (entry .args .hand .side) (entry .args .hand .g) (entry .args .r) (entry .args .k) _ (entry .args .hand .z) _ _ _ _ _ (entry .pre .0 .seeking) hk (entry .pre .0 .row) ha _ _ (c .before .before .before .before .before .queue-at .ensures) (c .before .before .before .before .places-at .ensures) (c .before .before .before .before .before .before .if1 .left) (entry .pre .1 .0) (sym (c .if2 .taken) ∙ c .before .contains .ensures); met = keeps-none; idle = idle-none },
+      sym (entry .pre .1 .0),
+    )
 
 insert-requires : tie.Need-insert-requires
 insert-requires c κs =
@@ -157,13 +158,14 @@ unfolding along
 returns-3 c =
     let entry = c .before .before .before .before .before .before .before .before .before .before .before .before .before .before .before .before .before .before .before .before .before .before .before .before .before in
     let hk : entry .args .k < entry .args .hand .e = omega (arith, entry .pre .1 .1 .within) in
-    let ha = entry .pre .1 .1 .ends (entry .args .k) hk in
-    (record {
-      sought = link-new (entry .args .hand .side) (entry .args .hand .g) (entry .args .r) (entry .args .k) _ (entry .args .hand .z) _ _ _ _ _ (entry .pre .0 .seeking) hk (entry .pre .0 .row) ha _ _ (c .before .before .before .before .before .before .before .before .before .before .before .before .before .before .before .before .before .before .before .queue-at .ensures) (c .before .before .before .before .before .before .before .before .before .before .before .before .before .before .before .before .before .before .places-at .ensures) (c .before .before .before .before .before .before .before .before .before .before .before .before .before .before .before .before .before .before .before .before .if1 .left) (sym (c .before .before .before .before .before .before .before .before .before .before .before .before .before .before .if2 .left) ∙ c .before .before .before .before .before .before .before .before .before .before .before .before .before .before .before .contains .ensures) _ (c .before .before .before .before .before .before .before .before .before .before .before .before .insert .ensures) (c .before .before .before .before .before .before .before .meet .ensures .0) (entry .pre .1 .0);
-      met = link-keeps (entry .args .hand .side) (entry .args .hand .g) (entry .args .r) (entry .args .k) _ (entry .args .hand .z) _ _ _ _ _ (entry .pre .0 .seeking) hk (entry .pre .0 .row) ha _ _ (c .before .before .before .before .before .before .before .before .before .before .before .before .before .before .before .before .before .before .before .queue-at .ensures) (c .before .before .before .before .before .before .before .before .before .before .before .before .before .before .before .before .before .before .places-at .ensures) (c .before .before .before .before .before .before .before .before .before .before .before .before .before .before .before .before .before .before .before .before .if1 .left) (sym (c .before .before .before .before .before .before .before .before .before .before .before .before .before .before .if2 .left) ∙ c .before .before .before .before .before .before .before .before .before .before .before .before .before .before .before .contains .ensures) _ (c .before .before .before .before .before .before .before .before .before .before .before .before .insert .ensures) (c .before .before .before .before .before .before .before .meet .ensures .0) (entry .args .neighbours .now) refl;
-      idle = link-idle (entry .args .hand .side) (entry .args .hand .g) (entry .args .r) (entry .args .k) _ (entry .args .hand .z) _ _ _ _ _ (entry .pre .0 .seeking) hk (entry .pre .0 .row) ha _ _ (c .before .before .before .before .before .before .before .before .before .before .before .before .before .before .before .before .before .before .before .queue-at .ensures) (c .before .before .before .before .before .before .before .before .before .before .before .before .before .before .before .before .before .before .places-at .ensures) (c .before .before .before .before .before .before .before .before .before .before .before .before .before .before .before .before .before .before .before .before .if1 .left) (sym (c .before .before .before .before .before .before .before .before .before .before .before .before .before .before .if2 .left) ∙ c .before .before .before .before .before .before .before .before .before .before .before .before .before .before .before .contains .ensures) _ (c .before .before .before .before .before .before .before .before .before .before .before .before .insert .ensures) (c .before .before .before .before .before .before .before .meet .ensures .0) _ _ _ (c .before .before .before .before .before .before .before .meet .ensures .1) (c .before .before .first-traded .ensures);
-    },
-    link-open (entry .args .hand .side) (entry .args .hand .g) (entry .args .r) (entry .args .k) _ (entry .args .hand .z) _ _ _ _ _ (entry .pre .0 .seeking) hk (entry .pre .0 .row) ha _ _ (c .before .before .before .before .before .before .before .before .before .before .before .before .before .before .before .before .before .before .before .queue-at .ensures) (c .before .before .before .before .before .before .before .before .before .before .before .before .before .before .before .before .before .before .places-at .ensures) (c .before .before .before .before .before .before .before .before .before .before .before .before .before .before .before .before .before .before .before .before .if1 .left) (sym (c .before .before .before .before .before .before .before .before .before .before .before .before .before .before .if2 .left) ∙ c .before .before .before .before .before .before .before .before .before .before .before .before .before .before .before .contains .ensures) _ (c .before .before .before .before .before .before .before .before .before .before .before .before .insert .ensures) (c .before .before .before .before .before .before .before .meet .ensures .0) (entry .pre .1 .0) _ (c .before .before .before .before .before .before .before .meet .ensures .1) _ _ refl _ (c .settles .ensures))
+    let ha = entry .pre .1 .1 .ends (entry .args .k) hk in (
+      record {
+        sought = link-new (entry .args .hand .side) (entry .args .hand .g) (entry .args .r) (entry .args .k) _ (entry .args .hand .z) _ _ _ _ _ (entry .pre .0 .seeking) hk (entry .pre .0 .row) ha _ _ (c .before .before .before .before .before .before .before .before .before .before .before .before .before .before .before .before .before .before .before .queue-at .ensures) (c .before .before .before .before .before .before .before .before .before .before .before .before .before .before .before .before .before .before .places-at .ensures) (c .before .before .before .before .before .before .before .before .before .before .before .before .before .before .before .before .before .before .before .before .if1 .left) (sym (c .before .before .before .before .before .before .before .before .before .before .before .before .before .before .if2 .left) ∙ c .before .before .before .before .before .before .before .before .before .before .before .before .before .before .before .contains .ensures) _ (c .before .before .before .before .before .before .before .before .before .before .before .before .insert .ensures) (c .before .before .before .before .before .before .before .meet .ensures .0) (entry .pre .1 .0);
+        met = link-keeps (entry .args .hand .side) (entry .args .hand .g) (entry .args .r) (entry .args .k) _ (entry .args .hand .z) _ _ _ _ _ (entry .pre .0 .seeking) hk (entry .pre .0 .row) ha _ _ (c .before .before .before .before .before .before .before .before .before .before .before .before .before .before .before .before .before .before .before .queue-at .ensures) (c .before .before .before .before .before .before .before .before .before .before .before .before .before .before .before .before .before .before .places-at .ensures) (c .before .before .before .before .before .before .before .before .before .before .before .before .before .before .before .before .before .before .before .before .if1 .left) (sym (c .before .before .before .before .before .before .before .before .before .before .before .before .before .before .if2 .left) ∙ c .before .before .before .before .before .before .before .before .before .before .before .before .before .before .before .contains .ensures) _ (c .before .before .before .before .before .before .before .before .before .before .before .before .insert .ensures) (c .before .before .before .before .before .before .before .meet .ensures .0) (entry .args .neighbours .now) refl;
+        idle = link-idle (entry .args .hand .side) (entry .args .hand .g) (entry .args .r) (entry .args .k) _ (entry .args .hand .z) _ _ _ _ _ (entry .pre .0 .seeking) hk (entry .pre .0 .row) ha _ _ (c .before .before .before .before .before .before .before .before .before .before .before .before .before .before .before .before .before .before .before .queue-at .ensures) (c .before .before .before .before .before .before .before .before .before .before .before .before .before .before .before .before .before .before .places-at .ensures) (c .before .before .before .before .before .before .before .before .before .before .before .before .before .before .before .before .before .before .before .before .if1 .left) (sym (c .before .before .before .before .before .before .before .before .before .before .before .before .before .before .if2 .left) ∙ c .before .before .before .before .before .before .before .before .before .before .before .before .before .before .before .contains .ensures) _ (c .before .before .before .before .before .before .before .before .before .before .before .before .insert .ensures) (c .before .before .before .before .before .before .before .meet .ensures .0) _ _ _ (c .before .before .before .before .before .before .before .meet .ensures .1) (c .before .before .first-traded .ensures);
+      },
+      link-open (entry .args .hand .side) (entry .args .hand .g) (entry .args .r) (entry .args .k) _ (entry .args .hand .z) _ _ _ _ _ (entry .pre .0 .seeking) hk (entry .pre .0 .row) ha _ _ (c .before .before .before .before .before .before .before .before .before .before .before .before .before .before .before .before .before .before .before .queue-at .ensures) (c .before .before .before .before .before .before .before .before .before .before .before .before .before .before .before .before .before .before .places-at .ensures) (c .before .before .before .before .before .before .before .before .before .before .before .before .before .before .before .before .before .before .before .before .if1 .left) (sym (c .before .before .before .before .before .before .before .before .before .before .before .before .before .before .if2 .left) ∙ c .before .before .before .before .before .before .before .before .before .before .before .before .before .before .before .contains .ensures) _ (c .before .before .before .before .before .before .before .before .before .before .before .before .insert .ensures) (c .before .before .before .before .before .before .before .meet .ensures .0) (entry .pre .1 .0) _ (c .before .before .before .before .before .before .before .meet .ensures .1) _ _ refl _ (c .settles .ensures),
+    )
 
 pub seek-link-spec : {M : Type 1} → statement M
 seek-link-spec =

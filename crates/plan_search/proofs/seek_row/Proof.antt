@@ -48,9 +48,10 @@ loop-less : tie.Need-loop-less Inv-loop μ-loop
 loop-less c = omega (arith, c .before .before .before .before .before .before .before .before .before .before .before .before .before .before .before .before .loop-test .taken, c .before .before .before .before .before .before .before .before .before .before .before .before .before .pass-links .ensures .0, c .before .before .before .before .before .before .before .before .if1 .taken)
 
 loop-again : tie.Need-loop-again Inv-loop μ-loop
-loop-again c = let t = row-passes (c .before .before .before .before .before .before .before .before .before .before .before .before .before .before .before .before .before .loop .inv .1) (c .before .before .before .before .before .before .before .before .before .before .before .before .before .before .before .before .before .before .before .before .before .pre .0 .row) (c .before .before .before .before .before .before .before .before .before .before .before .before .before .before .before .before .before .loop .inv .0 .0) (c .before .before .before .before .before .before .before .before .before .before .before .before .before .pass-links .ensures .0) (c .before .before .before .before .before .before .before .before .before .before .before .before .before .pass-links .ensures .1 .0) (c .before .before .before .before .before .before .before .before .before .before .before .before .before .pass-links .ensures .1 .1) in
-    ((omega (arith, c .before .before .before .before .before .before .before .before .before .before .before .before .before .before .before .before .before .loop .inv .0 .0, c .before .before .before .before .before .before .before .before .before .before .before .before .before .pass-links .ensures .0), (omega (arith, c .before .before .before .before .before .before .before .before .if1 .taken), (c .before .before .before .before .before .seek-link .kept .1 .1 .1 .1 .1 .0 ∙ c .before .before .before .before .before .before .before .before .before .before .before .before .before .pass-links .kept .1 .1 .1 .1 .1 .1 .0 ∙ c .before .before .before .before .before .before .before .before .before .before .before .before .before .before .before .before .before .loop .inv .0 .1 .1 .0, c .before .before .before .before .before .seek-link .kept .1 .1 .1 .1 .1 .1 .0 ∙ c .before .before .before .before .before .before .before .before .before .before .before .before .before .pass-links .kept .1 .1 .1 .1 .1 .1 .1 .0 ∙ c .before .before .before .before .before .before .before .before .before .before .before .before .before .before .before .before .before .loop .inv .0 .1 .1 .1))),
-    row-next t (omega (arith, c .before .before .before .before .before .before .before .before .before .before .before .before .before .before .before .before .before .loop .inv .0 .0, c .before .before .before .before .before .before .before .before .before .before .before .before .before .pass-links .ensures .0)) (c .before .before .before .before .before .before .before .before .if1 .taken) (c .before .before .before .before .before .seek-link .ensures .0) (sym (c .before .before .before .before .before .seek-link .ensures .1) ∙ c .if2 .left))
+loop-again c = let t = row-passes (c .before .before .before .before .before .before .before .before .before .before .before .before .before .before .before .before .before .loop .inv .1) (c .before .before .before .before .before .before .before .before .before .before .before .before .before .before .before .before .before .before .before .before .before .pre .0 .row) (c .before .before .before .before .before .before .before .before .before .before .before .before .before .before .before .before .before .loop .inv .0 .0) (c .before .before .before .before .before .before .before .before .before .before .before .before .before .pass-links .ensures .0) (c .before .before .before .before .before .before .before .before .before .before .before .before .before .pass-links .ensures .1 .0) (c .before .before .before .before .before .before .before .before .before .before .before .before .before .pass-links .ensures .1 .1) in (
+  (omega (arith, c .before .before .before .before .before .before .before .before .before .before .before .before .before .before .before .before .before .loop .inv .0 .0, c .before .before .before .before .before .before .before .before .before .before .before .before .before .pass-links .ensures .0), (omega (arith, c .before .before .before .before .before .before .before .before .if1 .taken), (c .before .before .before .before .before .seek-link .kept .1 .1 .1 .1 .1 .0 ∙ c .before .before .before .before .before .before .before .before .before .before .before .before .before .pass-links .kept .1 .1 .1 .1 .1 .1 .0 ∙ c .before .before .before .before .before .before .before .before .before .before .before .before .before .before .before .before .before .loop .inv .0 .1 .1 .0, c .before .before .before .before .before .seek-link .kept .1 .1 .1 .1 .1 .1 .0 ∙ c .before .before .before .before .before .before .before .before .before .before .before .before .before .pass-links .kept .1 .1 .1 .1 .1 .1 .1 .0 ∙ c .before .before .before .before .before .before .before .before .before .before .before .before .before .before .before .before .before .loop .inv .0 .1 .1 .1))),
+  row-next t (omega (arith, c .before .before .before .before .before .before .before .before .before .before .before .before .before .before .before .before .before .loop .inv .0 .0, c .before .before .before .before .before .before .before .before .before .before .before .before .before .pass-links .ensures .0)) (c .before .before .before .before .before .before .before .before .if1 .taken) (c .before .before .before .before .before .seek-link .ensures .0) (sym (c .before .before .before .before .before .seek-link .ensures .1) ∙ c .if2 .left),
+)
 
 loop-less-2 : tie.Need-loop-less-2 Inv-loop μ-loop
 loop-less-2 c = omega (arith, c .before .before .before .before .before .before .before .before .loop-test .taken, c .if1 .left)

@@ -28,11 +28,16 @@ insert-requires c κs = search needs
 
 seek-requires : tie.Need-seek-requires
 seek-requires c κs =
-    let entry = c .before .before .before .before .before .before .before .before .before .before .before .before .before .before .before .before .before .before .before .before in
-    (record { seeking = begun _ _ _ _ _ _ (c .before .before .before .before .before .before .before .before .before .before .before .before .store .ensures .fit) (entry .pre .1) _ _ (c .before .before .before .before .before .before .before .queue-at .ensures) (c .before .before .before .before .before .before .places-at .ensures) (c .before .before .before .before .insert .ensures); zone = entry .pre .0 .zone; row = entry .pre .1 },
-    (entry .pre .0 .sized,
-    (begun-met _ _ _ _ _ _ (c .before .before .before .before .before .before .before .before .before .before .before .before .store .ensures .fit) (entry .pre .1) _ _ (c .before .before .before .before .before .before .before .queue-at .ensures) (c .before .before .before .before .before .before .places-at .ensures) (c .before .before .before .before .insert .ensures) _ _ _ (points-nowhere _ _ _ _ _ _ (entry .pre .0 .fit) (entry .pre .1) (c .before .before .before .before .before .before .before .before .before .before .before .before .store .ensures)),
-    begun-idle _ _ _ _ _ _ (c .before .before .before .before .before .before .before .before .before .before .before .before .store .ensures .fit) (entry .pre .1) _ _ (c .before .before .before .before .before .before .before .queue-at .ensures) (c .before .before .before .before .before .before .places-at .ensures) (c .before .before .before .before .insert .ensures) _ (moves-nothing _ _ _ _ _ (entry .pre .0 .fit) (entry .pre .1) (c .before .before .before .before .before .before .before .before .before .before .before .before .store .ensures)))))
+    let entry = c .before .before .before .before .before .before .before .before .before .before .before .before .before .before .before .before .before .before .before .before in (
+      record { seeking = begun _ _ _ _ _ _ (c .before .before .before .before .before .before .before .before .before .before .before .before .store .ensures .fit) (entry .pre .1) _ _ (c .before .before .before .before .before .before .before .queue-at .ensures) (c .before .before .before .before .before .before .places-at .ensures) (c .before .before .before .before .insert .ensures); zone = entry .pre .0 .zone; row = entry .pre .1 },
+      (
+        entry .pre .0 .sized,
+        (
+          begun-met _ _ _ _ _ _ (c .before .before .before .before .before .before .before .before .before .before .before .before .store .ensures .fit) (entry .pre .1) _ _ (c .before .before .before .before .before .before .before .queue-at .ensures) (c .before .before .before .before .before .before .places-at .ensures) (c .before .before .before .before .insert .ensures) _ _ _ (points-nowhere _ _ _ _ _ _ (entry .pre .0 .fit) (entry .pre .1) (c .before .before .before .before .before .before .before .before .before .before .before .before .store .ensures)),
+          begun-idle _ _ _ _ _ _ (c .before .before .before .before .before .before .before .before .before .before .before .before .store .ensures .fit) (entry .pre .1) _ _ (c .before .before .before .before .before .before .before .queue-at .ensures) (c .before .before .before .before .before .before .places-at .ensures) (c .before .before .before .before .insert .ensures) _ (moves-nothing _ _ _ _ _ (entry .pre .0 .fit) (entry .pre .1) (c .before .before .before .before .before .before .before .before .before .before .before .before .store .ensures)),
+        ),
+      ),
+    )
 
 least-requires : tie.Need-least-requires
 least-requires c κs = search needs
@@ -51,9 +56,16 @@ drain-requires-2 c κs =
     let entry = c .before .before .before .before .before .before .before .before .before .before .before .before .before .before .before .before .before .before .before .before .before .before .before .before .before .before .before .before .before .before .before .before .before .before in
     let back = reverses-after _ _ _ _ _ _ (c .before .before .before .before .before .before .before .before .before .before .before .before .before .before .before .before .before .before .before .before .before .before .before .before .before .before .store .ensures .fit) (entry .pre .1) _ _ (c .before .before .before .before .before .before .before .before .before .before .before .before .before .before .before .before .before .before .before .before .before .queue-at .ensures) (c .before .before .before .before .before .before .before .before .before .before .before .before .before .before .before .before .before .before .before .before .places-at .ensures) (c .before .before .before .before .before .before .before .before .before .before .before .before .before .before .before .before .before .before .insert .ensures) (entry .pre .0 .reverses) (c .before .before .before .before .before .before .before .before .before .before .before .before .before .before .before .before .before .before .before .before .before .before .before .before .before .before .store .ensures) (c .before .before .before .before .before .before .before .before .before .before .before .before .before .seek .ensures .0) in
     let near = searched-near _ _ _ _ _ _ (c .before .before .before .before .before .before .before .before .before .before .before .before .before .before .before .before .before .before .before .before .before .before .before .before .before .before .store .ensures .fit) (entry .pre .1) _ _ (c .before .before .before .before .before .before .before .before .before .before .before .before .before .before .before .before .before .before .before .before .before .queue-at .ensures) (c .before .before .before .before .before .before .before .before .before .before .before .before .before .before .before .before .before .before .before .before .places-at .ensures) (c .before .before .before .before .before .before .before .before .before .before .before .before .before .before .before .before .before .before .insert .ensures) (boardOf (entry .args .rows .now) (entry .args .marks .now) (entry .args .gases)) _ _ _ _ (points-nowhere _ _ _ _ _ _ (entry .pre .0 .fit) (entry .pre .1) (c .before .before .before .before .before .before .before .before .before .before .before .before .before .before .before .before .before .before .before .before .before .before .before .before .before .before .store .ensures)) (c .before .before .before .before .before .before .before .before .before .before .before .before .before .seek .ensures .0) in
-    let few = low-few _ _ 0 _ _ _ _ _ _ _ (c .before .before .before .before .before .before .before .before .before .before .before .before .before .seek .ensures .0 .seeking) (c .before .before .before .before .before .before .before .before .least .ensures) (c .before .before .least2 .ensures) near (c .before .before .before .before .before .before .before .before .before .before .before .before .before .seek .ensures .1 .1) in
-    (c .before .before .before .before .before .drain .ensures .fit, (entry .pre .0 .zone, (omega (arith, few, c .before .before .before .before .before .before .before .before .before .before .before .before .before .seek .ensures .0 .seeking .line .few),
-    rows-later _ _ _ _ _ _ (rows-within _ _ _ _ (boardOf (entry .args .rows .now) (entry .args .marks .now) (entry .args .gases)) (entry .pre .0 .sized .linked) (entry .pre .0 .sized .links) (c .before .before .before .before .before .before .before .before .before .before .before .before .before .seek .ensures .0 .seeking) (c .before .before .before .before .before .before .before .before .before .before .before .before .before .seek .ensures .1 .0) back) _ few)))
+    let few = low-few _ _ 0 _ _ _ _ _ _ _ (c .before .before .before .before .before .before .before .before .before .before .before .before .before .seek .ensures .0 .seeking) (c .before .before .before .before .before .before .before .before .least .ensures) (c .before .before .least2 .ensures) near (c .before .before .before .before .before .before .before .before .before .before .before .before .before .seek .ensures .1 .1) in (
+      c .before .before .before .before .before .drain .ensures .fit,
+      (
+        entry .pre .0 .zone,
+        (
+          omega (arith, few, c .before .before .before .before .before .before .before .before .before .before .before .before .before .seek .ensures .0 .seeking .line .few),
+          rows-later _ _ _ _ _ _ (rows-within _ _ _ _ (boardOf (entry .args .rows .now) (entry .args .marks .now) (entry .args .gases)) (entry .pre .0 .sized .linked) (entry .pre .0 .sized .links) (c .before .before .before .before .before .before .before .before .before .before .before .before .before .seek .ensures .0 .seeking) (c .before .before .before .before .before .before .before .before .before .before .before .before .before .seek .ensures .1 .0) back) _ few,
+        ),
+      ),
+    )
 
 same-length : tie.Need-same-length
 same-length c = c .before .before .before .before .before .before .before .before .before .before .before .before .before .before .before .before .seek .kept .1 .1 .1 .1 .0 ∙ (c .before .before .before .before .before .before .before .before .before .before .before .before .before .before .before .before .before .before .before .before .before .insert .kept .1 .1 .1 .1 .0 ∙ c .before .before .before .before .before .before .before .before .before .before .before .before .before .before .before .before .before .before .before .before .before .before .before .before .before .before .before .before .before .store .kept .1 .1 .1 .1 .0)

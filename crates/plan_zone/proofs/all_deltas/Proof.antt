@@ -70,10 +70,11 @@ loop-less c = omega (arith, c .before .before .before .before .before .before .b
 
 loop-again : tie.Need-loop-again Inv-loop μ-loop
 loop-again c =
-    let entry = c .before .before .before .before .before .before .before .before .before .before .before .before .before .before .before .before .before in
-    ((omega (arith, c .before .before .before .before .before .before .before .before .before .loop-test .taken), (c .before .before .before .before .first-delta .kept .1 .1 .1 .1 .0 ∙ c .before .before .before .before .before .before .before .before .before .before .loop .inv .0 .1 .0, c .before .before .before .before .first-delta .kept .1 .1 .1 .1 .1 .0 ∙ c .before .before .before .before .before .before .before .before .before .before .loop .inv .0 .1 .1)),
-    onto-next _ _ (c .before .before .before .before .before .before .before .before .before .before .loop .inv .1) (delta-set _ _ _ (c .before .before .before .before .before .before .before .total .ensures (boardOf (entry .args .rows .now) (entry .args .marks .now) (entry .args .gases)) refl refl) (c .before .before .before .before .first-delta .ensures))
-    (λ o p. walk-next (entry .pre .1 .1) (onto-frame (c .before .before .before .before .before .before .before .before .before .before .loop .inv .1)) (c .before .before .before .before .before .before .before .before .before .before .loop .inv .0 .1 .0) _ (c .before .before .before .before .before .before .before .before .before .loop-test .taken) (step (boardOf (entry .args .rows .now) (entry .args .marks .now) (entry .args .gases)) _ _) p))
+    let entry = c .before .before .before .before .before .before .before .before .before .before .before .before .before .before .before .before .before in (
+      (omega (arith, c .before .before .before .before .before .before .before .before .before .loop-test .taken), (c .before .before .before .before .first-delta .kept .1 .1 .1 .1 .0 ∙ c .before .before .before .before .before .before .before .before .before .before .loop .inv .0 .1 .0, c .before .before .before .before .first-delta .kept .1 .1 .1 .1 .1 .0 ∙ c .before .before .before .before .before .before .before .before .before .before .loop .inv .0 .1 .1)),
+      onto-next _ _ (c .before .before .before .before .before .before .before .before .before .before .loop .inv .1) (delta-set _ _ _ (c .before .before .before .before .before .before .before .total .ensures (boardOf (entry .args .rows .now) (entry .args .marks .now) (entry .args .gases)) refl refl) (c .before .before .before .before .first-delta .ensures))
+          (λ o p. walk-next (entry .pre .1 .1) (onto-frame (c .before .before .before .before .before .before .before .before .before .before .loop .inv .1)) (c .before .before .before .before .before .before .before .before .before .before .loop .inv .0 .1 .0) _ (c .before .before .before .before .before .before .before .before .before .loop-test .taken) (step (boardOf (entry .args .rows .now) (entry .args .marks .now) (entry .args .gases)) _ _) p),
+    )
 
 same-length : tie.Need-same-length Inv-loop μ-loop
 same-length c = c .before .loop .inv .0 .1 .0

@@ -35,9 +35,10 @@ slice-read-choose c = omega (arith, c .before .before .before .before .before .b
 
 choose-requires : tie.Need-choose-requires Inv-loop μ-loop
 choose-requires c κs =
-    let entry = c .before .before .before .before .before .before .before in
-    (omega (arith, c .before .before .before .loop .inv .1 .fit .words, c .before .before .before .before .list-at .ensures, c .before .before .before .loop .inv .1 .few, c .before .before .loop-test .taken, entry .pre .1 .few),
-    (omega (arith, entry .pre .0 .floats, pick-below (entry .pre .1) (entry .args .side) (c .before .before .before .loop .inv .1) (c .before .before .before .loop .inv .0 .1) (c .before .before .loop-test .taken)), omega (arith, c .before .before .before .loop .inv .1 .few, c .before .before .loop-test .taken, entry .pre .1 .few, entry .pre .0 .turfs)))
+    let entry = c .before .before .before .before .before .before .before in (
+      omega (arith, c .before .before .before .loop .inv .1 .fit .words, c .before .before .before .before .list-at .ensures, c .before .before .before .loop .inv .1 .few, c .before .before .loop-test .taken, entry .pre .1 .few),
+      (omega (arith, entry .pre .0 .floats, pick-below (entry .pre .1) (entry .args .side) (c .before .before .before .loop .inv .1) (c .before .before .before .loop .inv .0 .1) (c .before .before .loop-test .taken)), omega (arith, c .before .before .before .loop .inv .1 .few, c .before .before .loop-test .taken, entry .pre .1 .few, entry .pre .0 .turfs)),
+    )
 
 add-i : tie.Need-add-i Inv-loop μ-loop
 add-i c = omega (arith, c .before .before .before .before .before .loop-test .taken, c .before .before .before .before .before .before .before .before .before .before .pre .1 .few, c .before .before .before .before .before .before .before .before .before .before .pre .0 .turfs)
@@ -47,10 +48,11 @@ loop-less c = omega (arith, c .before .before .before .before .before .loop-test
 
 loop-again : tie.Need-loop-again Inv-loop μ-loop
 loop-again c =
-    let entry = c .before .before .before .before .before .before .before .before .before .before in
-    ((omega (arith, c .before .before .before .before .before .loop-test .taken), c .before .before .choose .kept .1 .1 .1 .1 .1 .0 ∙ c .before .before .before .before .before .before .loop .inv .0 .1),
-    picking-next _ _ (c .before .before .before .before .before .before .loop .inv .1) (rw (nodes-length (entry .pre .1)) (c .before .before .before .before .before .loop-test .taken)) _ (c .before .before .before .before .before .before .before .list-at .ensures) (omega (arith, c .before .before .before .before .before .before .loop .inv .1 .few, c .before .before .before .before .before .loop-test .taken, entry .pre .1 .few)) _
-    (pick-test (entry .pre .1) (entry .args .side) (c .before .before .before .before .before .before .loop .inv .1) (c .before .before .before .before .before .before .loop .inv .0 .1) (c .before .before .before .before .before .loop-test .taken)) _ (pick-row (entry .pre .1) (entry .args .side) (c .before .before .before .before .before .before .loop .inv .1) (c .before .before .before .before .before .before .loop .inv .0 .1) (c .before .before .before .before .before .loop-test .taken)) _ (c .before .before .choose .ensures .0) _ (c .before .before .choose .ensures .1))
+    let entry = c .before .before .before .before .before .before .before .before .before .before in (
+      (omega (arith, c .before .before .before .before .before .loop-test .taken), c .before .before .choose .kept .1 .1 .1 .1 .1 .0 ∙ c .before .before .before .before .before .before .loop .inv .0 .1),
+      picking-next _ _ (c .before .before .before .before .before .before .loop .inv .1) (rw (nodes-length (entry .pre .1)) (c .before .before .before .before .before .loop-test .taken)) _ (c .before .before .before .before .before .before .before .list-at .ensures) (omega (arith, c .before .before .before .before .before .before .loop .inv .1 .few, c .before .before .before .before .before .loop-test .taken, entry .pre .1 .few)) _
+          (pick-test (entry .pre .1) (entry .args .side) (c .before .before .before .before .before .before .loop .inv .1) (c .before .before .before .before .before .before .loop .inv .0 .1) (c .before .before .before .before .before .loop-test .taken)) _ (pick-row (entry .pre .1) (entry .args .side) (c .before .before .before .before .before .before .loop .inv .1) (c .before .before .before .before .before .before .loop .inv .0 .1) (c .before .before .before .before .before .loop-test .taken)) _ (c .before .before .choose .ensures .0) _ (c .before .before .choose .ensures .1),
+    )
 
 same-length : tie.Need-same-length Inv-loop μ-loop
 same-length c = c .before .loop .inv .0 .1

@@ -12,23 +12,27 @@ all-deltas-requires c κs = search needs
 
 fast-pass-requires : tie.Need-fast-pass-requires
 fast-pass-requires c κs =
-    let entry = c .before .before .before .before .before .before .before .before .before .before .before .before in
-    (record {
-      sized = entry .pre .1 .0 .sized;
-      fit = c .before .before .before .before .before .before .all-deltas .ensures .fit;
-      zone = entry .pre .1 .0 .zone;
-      reverses = reverses-kept (entry .pre .1 .0 .reverses) (does-frame (c .before .before .before .before .before .before .all-deltas .ensures));
-    }, nodes-kept (entry .pre .1 .1) (does-frame (c .before .before .before .before .before .before .all-deltas .ensures)) (c .before .before .before .before .before .before .all-deltas .kept .1 .1 .1 .1 .1 .0))
+    let entry = c .before .before .before .before .before .before .before .before .before .before .before .before in (
+      record {
+        sized = entry .pre .1 .0 .sized;
+        fit = c .before .before .before .before .before .before .all-deltas .ensures .fit;
+        zone = entry .pre .1 .0 .zone;
+        reverses = reverses-kept (entry .pre .1 .0 .reverses) (does-frame (c .before .before .before .before .before .before .all-deltas .ensures));
+      },
+      nodes-kept (entry .pre .1 .1) (does-frame (c .before .before .before .before .before .before .all-deltas .ensures)) (c .before .before .before .before .before .before .all-deltas .kept .1 .1 .1 .1 .1 .0),
+    )
 
 share-out-requires : tie.Need-share-out-requires
 share-out-requires c κs =
-    let entry = c .before .before .before .before .before .before .before .before .before .before .before .before .before .before .before .before .before .before .before in
-    (record {
-      sized = entry .pre .1 .0 .sized;
-      fit = c .before .before .before .before .before .before .fast-pass .ensures .fit;
-      zone = entry .pre .1 .0 .zone;
-      reverses = reverses-kept (reverses-kept (entry .pre .1 .0 .reverses) (does-frame (c .before .before .before .before .before .before .before .before .before .before .before .before .before .all-deltas .ensures))) (does-frame (c .before .before .before .before .before .before .fast-pass .ensures));
-    }, nodes-kept (nodes-kept (entry .pre .1 .1) (does-frame (c .before .before .before .before .before .before .before .before .before .before .before .before .before .all-deltas .ensures)) (c .before .before .before .before .before .before .before .before .before .before .before .before .before .all-deltas .kept .1 .1 .1 .1 .1 .0)) (does-frame (c .before .before .before .before .before .before .fast-pass .ensures)) (c .before .before .before .before .before .before .fast-pass .kept .1 .1 .1 .1 .0))
+    let entry = c .before .before .before .before .before .before .before .before .before .before .before .before .before .before .before .before .before .before .before in (
+      record {
+        sized = entry .pre .1 .0 .sized;
+        fit = c .before .before .before .before .before .before .fast-pass .ensures .fit;
+        zone = entry .pre .1 .0 .zone;
+        reverses = reverses-kept (reverses-kept (entry .pre .1 .0 .reverses) (does-frame (c .before .before .before .before .before .before .before .before .before .before .before .before .before .all-deltas .ensures))) (does-frame (c .before .before .before .before .before .before .fast-pass .ensures));
+      },
+      nodes-kept (nodes-kept (entry .pre .1 .1) (does-frame (c .before .before .before .before .before .before .before .before .before .before .before .before .before .all-deltas .ensures)) (c .before .before .before .before .before .before .before .before .before .before .before .before .before .all-deltas .kept .1 .1 .1 .1 .1 .0)) (does-frame (c .before .before .before .before .before .before .fast-pass .ensures)) (c .before .before .before .before .before .before .fast-pass .kept .1 .1 .1 .1 .0),
+    )
 
 same-length : tie.Need-same-length
 same-length c = search needs
