@@ -35,8 +35,5 @@ module _ (b : Board) (row : ℕ) (from to : ℕ) (f : from ≡ getD (b .starts) 
   unfolding linksOf
   links-run g s = rw (f, t)
 
-  pub links-order : Ground b → row < turfCount b → from ≤ to
-  links-order h r = rw (f, t) (h .parts .rise row r)
-
   pub links-end : Ground b → row < turfCount b → to ≤ linkCount b
   links-end h r = rw t (h .parts .end row r)

@@ -23,6 +23,7 @@ pub record State : Type 0 where
   pub words : List ℕ
   pub area : List ℕ
 
+-- the state of these
 abbrev pub at : Reach → List ℕ → List ℕ → State
 at reach words area = record { reach = reach; words = words; area = area }
 
@@ -30,6 +31,7 @@ at reach words area = record { reach = reach; words = words; area = area }
 abbrev pub sizes : ℕ → List ℕ
 sizes n = n ∷ n ∷ n ∷ []
 
+-- the walk that arrays and a reach hold, once these events are written
 abbrev pub walkIn : List (List ℕ) → Reach → List Event → Walk
 walkIn arrays g es = record {
   queue = take (g .count) (getD arrays 0 []);
