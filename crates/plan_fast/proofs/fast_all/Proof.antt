@@ -36,13 +36,15 @@ slice-read-fast-turf c = omega (arith, c .before .before .before .before .before
 
 fast-turf-requires : tie.Need-fast-turf-requires Inv-loop μ-loop
 fast-turf-requires c κs =
-    let entry = c .before .before .before .before .before .before .before in
-    (record {
-      sized = entry .pre .0 .sized;
-      fit = c .before .before .before .before .loop .inv .1 .fit;
-      zone = entry .pre .0 .zone;
-      reverses = reverses-kept (entry .pre .0 .reverses) (onto-frame (c .before .before .before .before .loop .inv .1));
-    }, now-below (entry .pre .1) (onto-frame (c .before .before .before .before .loop .inv .1)) (c .before .before .before .before .loop .inv .0 .1 .0) _ (c .before .before .before .loop-test .taken))
+    let entry = c .before .before .before .before .before .before .before in (
+      record {
+        sized = entry .pre .0 .sized;
+        fit = c .before .before .before .before .loop .inv .1 .fit;
+        zone = entry .pre .0 .zone;
+        reverses = reverses-kept (entry .pre .0 .reverses) (onto-frame (c .before .before .before .before .loop .inv .1));
+      },
+      now-below (entry .pre .1) (onto-frame (c .before .before .before .before .loop .inv .1)) (c .before .before .before .before .loop .inv .0 .1 .0) _ (c .before .before .before .loop-test .taken),
+    )
 
 add-i : tie.Need-add-i Inv-loop μ-loop
 add-i c = omega (arith, c .before .before .before .before .before .before .before .before .loop-test .taken, c .before .before .before .before .before .before .before .before .before .before .before .before .pre .1 .few, c .before .before .before .before .before .before .before .before .before .before .before .before .pre .0 .fit .turfs)
@@ -51,8 +53,14 @@ loop-less : tie.Need-loop-less Inv-loop μ-loop
 loop-less c = omega (arith, c .before .before .before .before .before .before .before .before .loop-test .taken)
 
 loop-again : tie.Need-loop-again Inv-loop μ-loop
-loop-again c = ((omega (arith, c .before .before .before .before .before .before .before .before .loop-test .taken), (c .before .before .before .before .fast-turf .kept .1 .1 .1 .1 .1 .0 ∙ c .before .before .before .before .before .before .before .before .before .loop .inv .0 .1 .0, c .before .before .before .before .fast-turf .kept .1 .1 .1 .1 .1 .1 .0 ∙ c .before .before .before .before .before .before .before .before .before .loop .inv .0 .1 .1)),
-    onto-next _ _ (c .before .before .before .before .before .before .before .before .before .loop .inv .1) (c .before .before .before .before .fast-turf .ensures) (λ o p. walk-next (c .before .before .before .before .before .before .before .before .before .before .before .before .pre .1) (onto-frame (c .before .before .before .before .before .before .before .before .before .loop .inv .1)) (c .before .before .before .before .before .before .before .before .before .loop .inv .0 .1 .0) _ (c .before .before .before .before .before .before .before .before .loop-test .taken) _ p))
+loop-again c =
+    let loop = c .before .before .before .before .before .before .before .before .before .loop in
+    let loop-test = c .before .before .before .before .before .before .before .before .loop-test in
+    let fast-turf = c .before .before .before .before .fast-turf in (
+      (omega (arith, loop-test .taken), (fast-turf .kept .1 .1 .1 .1 .1 .0 ∙ loop .inv .0 .1 .0, fast-turf .kept .1 .1 .1 .1 .1 .1 .0 ∙ loop .inv .0 .1 .1)),
+      onto-next _ _ (loop .inv .1) (fast-turf .ensures) (λ o p. walk-next (c .before .before .before .before .before .before .before .before .before .before .before .before .pre .1)
+          (onto-frame (loop .inv .1)) (loop .inv .0 .1 .0) _ (loop-test .taken) _ p),
+    )
 
 same-length : tie.Need-same-length Inv-loop μ-loop
 same-length c = c .before .loop .inv .0 .1 .0

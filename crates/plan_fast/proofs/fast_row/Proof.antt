@@ -2,27 +2,20 @@
 use Prim.Native.Nat.{ℕ, _≤_, _<_, _-_, _+_}
 use native.Mathlib.Omega.{arith}
 use mathlib.Core.Path.{_≡_, refl, _∙_}
-use mathlib.Core.List.{List}
-use lib.ListN.{length, getD}
+use lib.ListN.{length}
 use Rattle.basics.specs.Loops.{run, upFrom}
 use Rattle.basics.proofs.Loops.{run-up, run-up-end}
-use Rattle.process_zone.specs.Plan.{Plan}
 use Rattle.plan_state.specs.Held.{area, view}
 use Rattle.plan_state.proofs.Nodes.{Onto, onto-start, onto-next, onto-end}
-use Rattle.plan_fast.specs.declared.Share.{Share}
-use Rattle.plan_fast.specs.Steps.{fastVia}
+use Rattle.plan_fast.specs.Steps.{shareOver}
 use Rattle.plan_fast.proofs.Moves.{reverse-same, fast-same}
 use Rattle.plan_fast.proofs.fast_row.Statement.{statement}
 use Rattle.plan_fast.proofs.fast_row.Tie as tie
 
--- one link
-abbrev step : Share → List ℕ → List ℕ → List ℕ → ℕ → Plan → Plan
-step share neighbours rev o k s = fastVia rev (share .z) (share .r) (share .x) o k (getD neighbours k 0) s
-
 abbrev Inv-loop : tie.InvT-loop
 Inv-loop share from to neighbours words floats₀ k₀ floats k = ((from ≤ k) × ((k ≤ to) × (length floats ≡ length floats₀)))
-    × Onto (share .n) (share .e) (λ o p. run (step share neighbours (view (share .n) (share .e) (area words floats₀) .reverse) o) (upFrom k (to - k)) p)
-    (λ o p. run (step share neighbours (view (share .n) (share .e) (area words floats₀) .reverse) o) (upFrom from (to - from)) p)
+    × Onto (share .n) (share .e) (λ o p. run (shareOver share neighbours (view (share .n) (share .e) (area words floats₀) .reverse) o) (upFrom k (to - k)) p)
+    (λ o p. run (shareOver share neighbours (view (share .n) (share .e) (area words floats₀) .reverse) o) (upFrom from (to - from)) p)
     (area words floats₀) (area words floats)
 
 abbrev μ-loop : tie.MeasureT-loop
@@ -33,10 +26,16 @@ loop-holds c = ((omega arith, (c .before .before .before .pre .1 .1 .1 .0, refl)
 
 fast-link-requires : tie.Need-fast-link-requires Inv-loop μ-loop
 fast-link-requires c κs =
-    let entry = c .before .before .before .before .before .before in
-    (c .before .before .loop .inv .1 .fit, (entry .pre .1 .0,
-    (record { row = entry .pre .1 .1 .0 .row; all = entry .pre .1 .1 .0 .all; within = omega (arith, entry .pre .1 .1 .0 .within, c .before .loop-test .taken); ends = entry .pre .1 .1 .0 .ends },
-    rw (reverse-same _ _ _ _ (entry .args .floats .now)) (entry .pre .1 .1 .1 .1 _ (c .before .before .loop .inv .0 .0) (c .before .loop-test .taken)))))
+    let entry = c .before .before .before .before .before .before in (
+      c .before .before .loop .inv .1 .fit,
+      (
+        entry .pre .1 .0,
+        (
+          record { row = entry .pre .1 .1 .0 .row; all = entry .pre .1 .1 .0 .all; within = omega (arith, entry .pre .1 .1 .0 .within, c .before .loop-test .taken); ends = entry .pre .1 .1 .0 .ends },
+          rw (reverse-same _ _ _ _ (entry .args .floats .now)) (entry .pre .1 .1 .1 .1 _ (c .before .before .loop .inv .0 .0) (c .before .loop-test .taken)),
+        ),
+      ),
+    )
 
 add-k : tie.Need-add-k Inv-loop μ-loop
 add-k c = omega (arith, c .before .before .before .before .loop-test .taken, c .before .before .before .before .before .before .before .before .before .pre .1 .1 .0 .within, c .before .before .before .before .before .before .before .before .before .pre .0 .links)
@@ -45,8 +44,10 @@ loop-less : tie.Need-loop-less Inv-loop μ-loop
 loop-less c = omega (arith, c .before .before .before .before .loop-test .taken)
 
 loop-again : tie.Need-loop-again Inv-loop μ-loop
-loop-again c = ((omega (arith, c .before .before .before .before .before .loop .inv .0 .0), (omega (arith, c .before .before .before .before .loop-test .taken), c .before .before .fast-link .kept .1 .1 .1 .1 .0 ∙ c .before .before .before .before .before .loop .inv .0 .1 .1)),
-    onto-next _ _ (c .before .before .before .before .before .loop .inv .1) (fast-same _ _ _ _ _ _ _ _ _ _ (c .before .before .fast-link .ensures)) (λ o p. run-up _ _ _ _ (c .before .before .before .before .loop-test .taken)))
+loop-again c = (
+  (omega (arith, c .before .before .before .before .before .loop .inv .0 .0), (omega (arith, c .before .before .before .before .loop-test .taken), c .before .before .fast-link .kept .1 .1 .1 .1 .0 ∙ c .before .before .before .before .before .loop .inv .0 .1 .1)),
+  onto-next _ _ (c .before .before .before .before .before .loop .inv .1) (fast-same _ _ _ _ _ _ _ _ _ _ (c .before .before .fast-link .ensures)) (λ o p. run-up _ _ _ _ (c .before .before .before .before .loop-test .taken)),
+)
 
 same-length : tie.Need-same-length Inv-loop μ-loop
 same-length c = c .before .loop .inv .0 .1 .1

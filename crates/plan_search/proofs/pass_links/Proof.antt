@@ -20,9 +20,10 @@ loop-holds c = ((omega arith, (omega (arith, c .before .before .before .pre .1 .
 
 pass-link-requires : tie.Need-pass-link-requires Inv-loop μ-loop
 pass-link-requires c κs =
-    let entry = c .before .before .before .before .before .before .before in
-    (record { seeking = c .before .before .before .loop .inv .1 .seeking; zone = entry .pre .0 .zone; row = entry .pre .0 .row },
-    record { row = entry .pre .1 .0 .row; all = entry .pre .1 .0 .all; within = omega (arith, entry .pre .1 .0 .within, c .before .before .loop-test .taken); ends = entry .pre .1 .0 .ends })
+    let entry = c .before .before .before .before .before .before .before in (
+      record { seeking = c .before .before .before .loop .inv .1 .seeking; zone = entry .pre .0 .zone; row = entry .pre .0 .row },
+      record { row = entry .pre .1 .0 .row; all = entry .pre .1 .0 .all; within = omega (arith, entry .pre .1 .0 .within, c .before .before .loop-test .taken); ends = entry .pre .1 .0 .ends },
+    )
 
 same-length : tie.Need-same-length Inv-loop μ-loop
 same-length c = c .before .before .before .before .before .pass-link .kept .1 .1 .1 .1 .1 .0 ∙ c .before .before .before .before .before .before .before .before .before .loop .inv .0 .1 .1 .0
@@ -40,8 +41,23 @@ loop-less : tie.Need-loop-less Inv-loop μ-loop
 loop-less c = omega (arith, c .before .before .before .before .before .before .before .before .loop-test .taken)
 
 loop-again : tie.Need-loop-again Inv-loop μ-loop
-loop-again c = ((omega (arith, c .before .before .before .before .before .before .before .before .before .loop .inv .0 .0), (omega (arith, c .before .before .before .before .before .before .before .before .loop-test .taken), (c .before .before .before .before .before .pass-link .kept .1 .1 .1 .1 .1 .0 ∙ c .before .before .before .before .before .before .before .before .before .loop .inv .0 .1 .1 .0, c .before .before .before .before .before .pass-link .kept .1 .1 .1 .1 .1 .1 .0 ∙ c .before .before .before .before .before .before .before .before .before .loop .inv .0 .1 .1 .1))),
-    passes-next _ _ _ _ _ _ _ _ _ _ (c .before .before .before .before .before .before .before .before .before .loop .inv .0 .0) (c .before .before .before .before .before .before .before .before .loop-test .taken) (c .before .before .before .before .before .before .before .before .before .loop .inv .1) (c .before .before .before .before .before .pass-link .ensures .1 (c .if1 .left)))
+loop-again c =
+    let loop = c .before .before .before .before .before .before .before .before .before .loop in
+    let loop-test = c .before .before .before .before .before .before .before .before .loop-test in
+    let pass-link = c .before .before .before .before .before .pass-link in (
+      (
+        omega (arith, loop .inv .0 .0),
+        (
+          omega (arith, loop-test .taken),
+          (
+            pass-link .kept .1 .1 .1 .1 .1 .0 ∙ loop .inv .0 .1 .1 .0,
+            pass-link .kept .1 .1 .1 .1 .1 .1 .0 ∙
+                loop .inv .0 .1 .1 .1,
+          ),
+        ),
+      ),
+      passes-next _ _ _ _ _ _ _ _ _ _ (loop .inv .0 .0) (loop-test .taken) (loop .inv .1) (pass-link .ensures .1 (c .if1 .left)),
+    )
 
 same-length-3 : tie.Need-same-length-3 Inv-loop μ-loop
 same-length-3 c = c .before .loop .inv .0 .1 .1 .0

@@ -31,13 +31,21 @@ cast-to c =
 
 seek-row-requires : tie.Need-seek-row-requires
 seek-row-requires c κs =
-    let entry = c .before .before .before .before .before .before .before .before in
-    (entry .pre .0, (entry .pre .1 .0, (record {
-      row = entry .pre .1 .1 .0;
-      all = entry .pre .1 .1 .1 .1;
-      within = omega (arith, entry .pre .1 .1 .1 .0 .within _ (entry .pre .1 .1 .0), entry .pre .1 .1 .1 .1);
-      ends = λ k l. entry .pre .1 .1 .1 .0 .rows k (omega (arith, l, entry .pre .1 .1 .1 .1));
-    }, entry .pre .1 .1 .1 .0 .rise _ (entry .pre .1 .1 .0))))
+    let entry = c .before .before .before .before .before .before .before .before in (
+      entry .pre .0,
+      (
+        entry .pre .1 .0,
+        (
+          record {
+            row = entry .pre .1 .1 .0;
+            all = entry .pre .1 .1 .1 .1;
+            within = omega (arith, entry .pre .1 .1 .1 .0 .within _ (entry .pre .1 .1 .0), entry .pre .1 .1 .1 .1);
+            ends = λ k l. entry .pre .1 .1 .1 .0 .rows k (omega (arith, l, entry .pre .1 .1 .1 .1));
+          },
+          entry .pre .1 .1 .1 .0 .rise _ (entry .pre .1 .1 .0),
+        ),
+      ),
+    )
 
 same-length : tie.Need-same-length
 same-length c = search needs

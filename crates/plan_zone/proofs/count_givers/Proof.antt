@@ -46,10 +46,18 @@ loop-less c = omega (arith, c .before .before .loop-test .taken)
 
 loop-again : tie.Need-loop-again Inv-loop μ-loop
 loop-again c =
-    let entry = c .before .before .before .before .before .before in
-    ((omega (arith, c .before .before .loop-test .taken), omega (arith, c .before .before .before .loop .inv .0, c .count-one .ensures,
-    cond-le (picks Giving (getD (entry .args .floats .now) (entry .args .zone .e + getD (entry .args .words .now) (entry .args .zone .first + c .before .before .before .loop .i) 0 + getD (entry .args .words .now) (entry .args .zone .first + c .before .before .before .loop .i) 0) nan)) (c .before .before .before .loop .c))),
-    sym (count-next (entry .pre .1) _ _ (c .before .before .loop-test .taken) _ (c .count-one .ensures)) ∙ c .before .before .before .loop .inv .1)
+    let entry = c .before .before .before .before .before .before in (
+      (
+        omega (arith, c .before .before .loop-test .taken),
+        omega (
+          arith,
+          c .before .before .before .loop .inv .0,
+          c .count-one .ensures,
+          cond-le (picks Giving (getD (entry .args .floats .now) (entry .args .zone .e + getD (entry .args .words .now) (entry .args .zone .first + c .before .before .before .loop .i) 0 + getD (entry .args .words .now) (entry .args .zone .first + c .before .before .before .loop .i) 0) nan)) (c .before .before .before .loop .c),
+        ),
+      ),
+      sym (count-next (entry .pre .1) _ _ (c .before .before .loop-test .taken) _ (c .count-one .ensures)) ∙ c .before .before .before .loop .inv .1,
+    )
 
 returns : tie.Need-returns Inv-loop μ-loop
 returns c = sym (count-end (c .before .before .before .before .pre .1) _ _ (c .loop-test .left)) ∙ c .before .loop .inv .1

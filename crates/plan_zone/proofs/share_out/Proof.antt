@@ -21,13 +21,15 @@ gather-requires c κs = search needs
 
 serve-all-requires : tie.Need-serve-all-requires
 serve-all-requires c κs =
-    let entry = c .before .before .before .before .before .before .before .before .before .before .before .before .before in
-    (record {
-      sized = entry .pre .0 .sized;
-      fit = c .before .before .before .before .gather .ensures .fit;
-      zone = entry .pre .0 .zone;
-      reverses = reverses-kept (entry .pre .0 .reverses) (c .before .before .before .before .gather .ensures .frame);
-    }, (c .before .before .before .before .gather .ensures .few, chosen-below _ _ (entry .pre .1) (c .before .before .before .before .gather .ensures)))
+    let entry = c .before .before .before .before .before .before .before .before .before .before .before .before .before in (
+      record {
+        sized = entry .pre .0 .sized;
+        fit = c .before .before .before .before .gather .ensures .fit;
+        zone = entry .pre .0 .zone;
+        reverses = reverses-kept (entry .pre .0 .reverses) (c .before .before .before .before .gather .ensures .frame);
+      },
+      (c .before .before .before .before .gather .ensures .few, chosen-below _ _ (entry .pre .1) (c .before .before .before .before .gather .ensures)),
+    )
 
 same-length : tie.Need-same-length
 same-length c = search needs
@@ -38,7 +40,9 @@ same-length-2 c = search needs
 returns : tie.Need-returns
 returns c =
     let entry = c .before .before .before .before .before .before .before .before .before .before .before .before .before .before .before .before .before .before in
-    shared-out (boardOf (entry .args .rows .now) (entry .args .marks .now) (entry .args .gases)) _ _ _ _ (entry .pre .1) (c .before .before .before .before .before .before .before .before .before .before .before .before .before .count-givers .ensures) (c .before .before .before .before .before .before .before .before .before .before .before .before .side-of .ensures) (c .before .before .before .before .before .before .before .before .before .gather .ensures) (c .before .before .before .before .serve-all .ensures)
+    shared-out (boardOf (entry .args .rows .now) (entry .args .marks .now) (entry .args .gases)) _ _ _ _ (entry .pre .1) (c .before .before .before .before .before .before .before .before .before .before .before .before .before .count-givers .ensures)
+    (c .before .before .before .before .before .before .before .before .before .before .before .before .side-of .ensures) (c .before .before .before .before .before .before .before .before .before .gather .ensures)
+    (c .before .before .before .before .serve-all .ensures)
 
 pub share-out-spec : {M : Type 1} → statement M
 share-out-spec =

@@ -13,9 +13,10 @@ clear-part-requires c κs = search needs
 pair-rows-requires : tie.Need-pair-rows-requires
 pair-rows-requires c κs =
     let entry = c .before .before .before .before .before .before .before .before in
-    let clear = but-cleared (entry .args .e) (entry .args .e) (now (entry .args .words)) (entry .pre .room) (c .before .before .before .clear-part .ensures) in
-    (record { linked = entry .pre .linked; all = entry .pre .all; links = entry .pre .links; turfs = entry .pre .turfs; room = omega (arith, entry .pre, clear .0 .len) },
-    paired-none (entry .pre .linked) _ _ (entry .pre .all) (clear .1))
+    let clear = but-cleared (entry .args .e) (entry .args .e) (now (entry .args .words)) (entry .pre .room) (c .before .before .before .clear-part .ensures) in (
+      record { linked = entry .pre .linked; all = entry .pre .all; links = entry .pre .links; turfs = entry .pre .turfs; room = omega (arith, entry .pre, clear .0 .len) },
+      paired-none (entry .pre .linked) _ _ (entry .pre .all) (clear .1),
+    )
 
 same-length : tie.Need-same-length
 same-length c = search needs

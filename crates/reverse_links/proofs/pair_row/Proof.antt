@@ -47,9 +47,10 @@ sub-pair c = c .before .before .before .before .before .before .before .pre .0 .
 
 pair-requires : tie.Need-pair-requires Inv-loop μ-loop
 pair-requires c κs =
-    let entry = c .before .before .before .before .before .before .before .before in
-    (record { linked = entry .pre .0 .linked; all = entry .pre .0 .all; links = entry .pre .0 .links; turfs = entry .pre .0 .turfs; room = omega (arith, entry .pre .0, c .before .before .loop .inv .1 .0 .len) },
-    (record { row = entry .pre .1 .0; link = record { from = c .before .before .loop .inv .0 .0; to = c .before .loop-test .taken }; links = refl }, c .before .before .loop .inv .1 .1))
+    let entry = c .before .before .before .before .before .before .before .before in (
+      record { linked = entry .pre .0 .linked; all = entry .pre .0 .all; links = entry .pre .0 .links; turfs = entry .pre .0 .turfs; room = omega (arith, entry .pre .0, c .before .before .loop .inv .1 .0 .len) },
+      (record { row = entry .pre .1 .0; link = record { from = c .before .before .loop .inv .0 .0; to = c .before .loop-test .taken }; links = refl }, c .before .before .loop .inv .1 .1),
+    )
 
 add-k : tie.Need-add-k Inv-loop μ-loop
 add-k c = omega (arith, c .before .before .before .before .loop-test .taken, c .before .before .before .before .before .before .before .before .before .before .before .pre .0 .linked .within _ (c .before .before .before .before .before .before .before .before .before .before .before .pre .1 .0), c .before .before .before .before .before .before .before .before .before .before .before .pre .0)

@@ -20,9 +20,10 @@ loop-holds c = (omega arith, (but-none, paired-upto (sym (c .before .before .bef
 
 pair-row-requires : tie.Need-pair-row-requires Inv-loop μ-loop
 pair-row-requires c κs =
-    let entry = c .before .before .before .before .before .before in
-    (record { linked = entry .pre .0 .linked; all = entry .pre .0 .all; links = entry .pre .0 .links; turfs = entry .pre .0 .turfs; room = omega (arith, entry .pre .0, c .before .before .loop .inv .1 .0 .len) },
-    (c .before .loop-test .taken, c .before .before .loop .inv .1 .1))
+    let entry = c .before .before .before .before .before .before in (
+      record { linked = entry .pre .0 .linked; all = entry .pre .0 .all; links = entry .pre .0 .links; turfs = entry .pre .0 .turfs; room = omega (arith, entry .pre .0, c .before .before .loop .inv .1 .0 .len) },
+      (c .before .loop-test .taken, c .before .before .loop .inv .1 .1),
+    )
 
 add-r : tie.Need-add-r Inv-loop μ-loop
 add-r c = omega (arith, c .before .before .before .before .loop-test .taken, c .before .before .before .before .before .before .before .before .before .pre .0)
