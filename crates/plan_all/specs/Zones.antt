@@ -8,7 +8,7 @@ use lib.Ieee.{Float}
 use Rattle.basics.specs.Floats.{0f}
 use Rattle.basics.specs.Loops.{run, upFrom}
 use Rattle.basics.specs.Regions.{region}
-use Rattle.board_rules.specs.Board.{Board, turfCount}
+use Rattle.board_rules.specs.Board.{Board, turfCount, linkCount}
 use Rattle.index_set.specs.Line.{Below}
 use Rattle.flood_fill.specs.Held.{sizes, nodesAt, Sizes}
 use Rattle.process_zone.specs.Plan.{Plan, planZone}
@@ -25,6 +25,10 @@ use Rattle.plan_zone.specs.Zone.{Gassed}
 -- zone z: the starts say where its nodes and those of the next one start
 abbrev pub zoneOf : ℕ → ℕ → List ℕ → List Float → ℕ → Zone
 zoneOf n e w f = zoneIn (region (sizes n e) 11 w) (region (sizes n e) 12 w) (region (floatSizes n e) 4 f)
+
+-- the same of a board's areas
+abbrev pub zoneHeld : Board → Area → ℕ → Zone
+zoneHeld b a = zoneOf (turfCount b) (linkCount b) (a .words) (a .floats)
 
 -- where the nodes of zone z start
 abbrev pub startOf : ℕ → ℕ → List ℕ → ℕ → ℕ

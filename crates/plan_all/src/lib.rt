@@ -7,7 +7,7 @@ ghost use Rattle.process_zone.specs.Plan.{planZone};
 ghost use Rattle.reverse_links.specs.Reverse.{Reverses};
 ghost use Rattle.plan_state.specs.Held.{areaAt, view, Fit};
 ghost use Rattle.plan_zone.specs.Zone.{Plans};
-ghost use Rattle.plan_all.specs.Zones.{zoneOf, Plannable, Room, Ready, Zoned, Blanks, planZones, PlansAll};
+ghost use Rattle.plan_all.specs.Zones.{zoneHeld, Plannable, Room, Ready, Zoned, Blanks, planZones, PlansAll};
 use plan_state::ZoneAt;
 use turfs::IDS;
 use turfs::Marks;
@@ -41,7 +41,7 @@ fn plan_zone_at(
     requires { ⌜ z < turfCount (boardAt rows marks gases) ⌝ }
     requires { let b = boardAt rows marks gases in ⌜ Reverses b (turfCount b) (view (turfCount b) (linkCount b) (areaAt words floats) .reverse) ⌝ }
     requires { let b = boardAt rows marks gases in ⌜ Ready (turfCount b) (linkCount b) z (now words) (now floats) ⌝ }
-    ensures { λ _. let b = boardAt (rows .entry) (marks .entry) gases in let zone = zoneOf (turfCount b) (linkCount b) (now (words .entry)) (now (floats .entry)) z in ⌜ Plans (turfCount b) (linkCount b) (λ o p. planZone b o z (now (gas .entry)) (zone .nodes) (zone .moles) p) (areaAt (words .entry) (floats .entry)) (areaAt (words .exit) (floats .exit)) ⌝ }
+    ensures { λ _. let b = boardAt (rows .entry) (marks .entry) gases in let a = areaAt (words .entry) (floats .entry) in ⌜ Plans (turfCount b) (linkCount b) (λ o p. planZone b o z (now (gas .entry)) (zoneHeld b a z .nodes) (zoneHeld b a z .moles) p) a (areaAt (words .exit) (floats .exit)) ⌝ }
 {
     let ids = rows[IDS];
     let neighbours = rows[NEIGHBOURS];
@@ -75,7 +75,7 @@ fn plan_zones(
     requires { ⌜ Plannable (boardAt rows marks gases) (now gas) ⌝ }
     requires { let b = boardAt rows marks gases in ⌜ Zoned (turfCount b) (linkCount b) zones (now words) (now floats) ⌝ }
     requires { let b = boardAt rows marks gases in ⌜ Reverses b (turfCount b) (view (turfCount b) (linkCount b) (areaAt words floats) .reverse) ⌝ }
-    ensures { λ _. let b = boardAt (rows .entry) (marks .entry) gases in let zone = zoneOf (turfCount b) (linkCount b) (now (words .entry)) (now (floats .entry)) in ⌜ Plans (turfCount b) (linkCount b) (planZones b (now (gas .entry)) zone (upFrom 0 zones)) (areaAt (words .entry) (floats .entry)) (areaAt (words .exit) (floats .exit)) ⌝ }
+    ensures { λ _. let b = boardAt (rows .entry) (marks .entry) gases in let a = areaAt (words .entry) (floats .entry) in ⌜ Plans (turfCount b) (linkCount b) (planZones b (now (gas .entry)) (zoneHeld b a) (upFrom 0 zones)) a (areaAt (words .exit) (floats .exit)) ⌝ }
 {
     let mut z = 0;
     while z < zones {

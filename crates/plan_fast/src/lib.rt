@@ -6,8 +6,8 @@ ghost use Rattle.basics.specs.Lists.{Found};
 ghost use Rattle.basics.specs.Loops.{run, upFrom};
 ghost use Rattle.turfs.specs.Tables.{boardAt};
 ghost use Rattle.process_zone.specs.Plan.{fastTurf};
-ghost use Rattle.plan_state.specs.Held.{areaAt, view, Fit, Ends, Planning, Does, Nodes, nodesOf};
-ghost use Rattle.plan_fast.specs.Steps.{tallyStep, moveAt, fastVia};
+ghost use Rattle.plan_state.specs.Held.{areaAt, view, Fit, Ends, Planning, Does, Nodes, zoneNodes};
+ghost use Rattle.plan_fast.specs.Steps.{tallyStep, moveAt, shareOver};
 use basics::Spot;
 use plan_state::ZoneAt;
 use plan_state::adjust_eq_movement;
@@ -100,7 +100,7 @@ fn fast_link(share: Share, k: usize, neighbours: &[u32], words: &[u32], floats: 
     requires { ⌜ share .z < 4096 ⌝ }
     requires { ⌜ Ends (share .n) (share .e) (share .r) (k + 1) (now neighbours) ⌝ }
     requires { ⌜ getD (view (share .n) (share .e) (areaAt words floats) .reverse) k 0 ≤ share .e ⌝ }
-    ensures { λ _. let rev = view (share .n) (share .e) (areaAt (words .entry) (floats .entry)) .reverse in ⌜ Does (share .n) (share .e) (λ o p. fastVia rev (share .z) (share .r) (share .x) o k (getD (now (neighbours .entry)) k 0) p) (areaAt (words .entry) (floats .entry)) (areaAt (words .exit) (floats .exit)) ⌝ }
+    ensures { λ _. let a = areaAt (words .entry) (floats .entry) in let rev = view (share .n) (share .e) a .reverse in ⌜ Does (share .n) (share .e) (λ o p. shareOver share (now (neighbours .entry)) rev o k p) a (areaAt (words .exit) (floats .exit)) ⌝ }
 {
     let z = share.z;
     let n = share.n;
@@ -130,7 +130,7 @@ fn fast_row(
     requires { ⌜ Ends (share .n) (share .e) (share .r) to (now neighbours) ⌝ }
     requires { ⌜ from ≤ to ⌝ }
     requires { ⌜ ((k : ℕ) → from ≤ k → k < to → getD (view (share .n) (share .e) (areaAt words floats) .reverse) k 0 ≤ share .e) ⌝ }
-    ensures { λ _. let rev = view (share .n) (share .e) (areaAt (words .entry) (floats .entry)) .reverse in ⌜ Does (share .n) (share .e) (λ o p. run (λ k t. fastVia rev (share .z) (share .r) (share .x) o k (getD (now (neighbours .entry)) k 0) t) (upFrom from (to - from)) p) (areaAt (words .entry) (floats .entry)) (areaAt (words .exit) (floats .exit)) ⌝ }
+    ensures { λ _. let a = areaAt (words .entry) (floats .entry) in let rev = view (share .n) (share .e) a .reverse in ⌜ Does (share .n) (share .e) (λ o p. run (shareOver share (now (neighbours .entry)) rev o) (upFrom from (to - from)) p) a (areaAt (words .exit) (floats .exit)) ⌝ }
 {
     let mut k = from;
     while k < to {
@@ -188,7 +188,7 @@ pub fn fast_all(
 )
     requires { ⌜ Planning (boardAt rows marks gases) (zone .n) (zone .e) (zone .z) (areaAt words floats) ⌝ }
     requires { ⌜ Nodes (zone .n) (zone .e) (zone .first) (zone .count) (areaAt words floats) ⌝ }
-    ensures { λ _. let b = boardAt (rows .entry) (marks .entry) gases in let nodes = nodesOf (zone .n) (zone .e) (view (zone .n) (zone .e) (areaAt (words .entry) (floats .entry))) (zone .first) (zone .count) in ⌜ Does (zone .n) (zone .e) (λ o p. run (fastTurf b o (zone .z)) nodes p) (areaAt (words .entry) (floats .entry)) (areaAt (words .exit) (floats .exit)) ⌝ }
+    ensures { λ _. let b = boardAt (rows .entry) (marks .entry) gases in let a = areaAt (words .entry) (floats .entry) in ⌜ Does (zone .n) (zone .e) (λ o p. run (fastTurf b o (zone .z)) (zoneNodes zone a) p) a (areaAt (words .exit) (floats .exit)) ⌝ }
 {
     let first = zone.first;
     let count = zone.count;

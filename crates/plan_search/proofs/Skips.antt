@@ -117,7 +117,8 @@ module _ (rev via : List ℕ) (z : ℕ) (o : List ℕ) where
 
     passed : run D (reverse (take (first - low) (drop low q))) after ≡ after
     passed =
-        run-still D (reverse (take (first - low) (drop low q))) after (All-imp (λ r. ne (getD (after .amount) r nan) 0f ≡ false) (λ r. D r after ≡ after) (reverse (take (first - low) (drop low q))) (λ r t. idle-stays r after t) (all-back (λ r. ne (getD (after .amount) r nan) 0f ≡ false) (take (first - low) (drop low q)) (all-of-rows (λ r. ne (getD (after .amount) r nan) 0f ≡ false) (take (first - low) (drop low q)) (λ i l.
+        run-still D (reverse (take (first - low) (drop low q))) after
+        (All-imp (λ r. ne (getD (after .amount) r nan) 0f ≡ false) (λ r. D r after ≡ after) (reverse (take (first - low) (drop low q))) (λ r t. idle-stays r after t) (all-back (λ r. ne (getD (after .amount) r nan) 0f ≡ false) (take (first - low) (drop low q)) (all-of-rows (λ r. ne (getD (after .amount) r nan) 0f ≡ false) (take (first - low) (drop low q)) (λ i l.
         let k : i < first - low = span-long low (first - low) i l in
         let hi : low + i < first = omega (arith, k) in
         let keeps : getD (after .amount) (getD q (low + i) 0) nan ≡ getD (s .amount) (getD q (low + i) 0) nan =

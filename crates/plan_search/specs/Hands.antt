@@ -8,7 +8,7 @@ use lib.Ieee.{nan}
 use Rattle.basics.specs.Loops.{run, upFrom}
 use Rattle.process_zone.specs.Plan.{Seek, settled}
 use Rattle.plan_state.specs.Held.{Area}
-use Rattle.plan_trade.specs.Search.{Seeking, Sought, KeepsMet, KeepsIdle}
+use Rattle.plan_trade.specs.Search.{Seeking, Sought, KeepsMet, KeepsIdle, Passes}
 use Rattle.plan_trade.specs.Steps.{along}
 use Rattle.plan_search.specs.declared.Hand.{Hand}
 
@@ -31,3 +31,12 @@ pub record Goes (h : Hand) (r from to : ℕ) (neighbours : List ℕ) (f : List �
   pub sought : Sought (h .n) (h .e) f count count′ a a′
   pub met : KeepsMet (h .n) (h .e) (h .z) r from to neighbours count count′ a a′
   pub idle : KeepsIdle (h .n) (h .e) count first count′ first′ a a′
+
+-- the same over all links of the turf r
+abbrev pub GoesTurf : Hand → ℕ → List ℕ → List ℕ → ℕ → ℕ → ℕ → ℕ → Area → Area → Type 0
+GoesTurf h r starts neighbours count first count′ first′ a a′ =
+    Goes h r (getD starts r 0) (getD starts (r + 1) 0) neighbours (alongAll h r neighbours (getD starts r 0) (getD starts (r + 1) 0)) count first count′ first′ a a′
+
+-- links without a trade, by the zone and the side of the turf in hand
+abbrev pub PassesBy : Hand → (ℕ → List ℕ → Seek → Seek) → ℕ → ℕ → ℕ → List ℕ → ℕ → ℕ → Area → Area → Type 0
+PassesBy h f r from to neighbours count count′ a a′ = Passes (h .side) (h .n) (h .e) f (h .z) r from to neighbours count count′ a a′

@@ -10,9 +10,9 @@ ghost use Rattle.turfs.specs.Tables.{boardAt};
 ghost use Rattle.process_zone.specs.Plan.{settled, seekNext, serve};
 ghost use Rattle.reverse_links.specs.Reverse.{Linked};
 ghost use Rattle.plan_state.specs.Held.{areaAt, view, Sized, Ends, Planning, Serves};
-ghost use Rattle.plan_trade.specs.Search.{Searched, AllMet, Idle, Passes};
+ghost use Rattle.plan_trade.specs.Search.{Searched, AllMet, Idle};
 ghost use Rattle.plan_trade.specs.Steps.{along};
-ghost use Rattle.plan_search.specs.Hands.{Searching, Open, alongAll, Goes};
+ghost use Rattle.plan_search.specs.Hands.{Searching, Open, alongAll, Goes, GoesTurf, PassesBy};
 use index_set::contains;
 use index_set::insert;
 use plan_drain::drain;
@@ -124,7 +124,7 @@ fn pass_link(
     requires { ⌜ Searching hand count (areaAt words floats) ⌝ }
     requires { ⌜ Ends (hand .n) (hand .e) r (k + 1) (now neighbours) ⌝ }
     ensures { λ p. ⌜ (p .wants ≡ true → areaAt (words .exit) (floats .exit) ≡ areaAt (words .entry) (floats .entry)) ⌝ }
-    ensures { λ p. let ends = now (neighbours .entry) in ⌜ (p .wants ≡ false → Passes (hand .side) (hand .n) (hand .e) (λ g o s. along (hand .side) g r ends (hand .z) o k s) (hand .z) r k (k + 1) ends count (p .count) (areaAt (words .entry) (floats .entry)) (areaAt (words .exit) (floats .exit))) ⌝ }
+    ensures { λ p. let ends = now (neighbours .entry) in ⌜ (p .wants ≡ false → PassesBy hand (λ g o s. along (hand .side) g r ends (hand .z) o k s) r k (k + 1) ends count (p .count) (areaAt (words .entry) (floats .entry)) (areaAt (words .exit) (floats .exit))) ⌝ }
 {
     let side = hand.side;
     let z = hand.z;
@@ -180,7 +180,7 @@ fn pass_links(
     requires { ⌜ at ≤ to ⌝ }
     ensures { λ p. ⌜ at ≤ p .at ⌝ }
     ensures { λ p. ⌜ p .at ≤ to ⌝ }
-    ensures { λ p. let ends = now (neighbours .entry) in ⌜ Passes (hand .side) (hand .n) (hand .e) (λ g o s. run (along (hand .side) g r ends (hand .z) o) (upFrom at (p .at - at)) s) (hand .z) r at to ends count (p .count) (areaAt (words .entry) (floats .entry)) (areaAt (words .exit) (floats .exit)) ⌝ }
+    ensures { λ p. let ends = now (neighbours .entry) in ⌜ PassesBy hand (λ g o s. run (along (hand .side) g r ends (hand .z) o) (upFrom at (p .at - at)) s) r at to ends count (p .count) (areaAt (words .entry) (floats .entry)) (areaAt (words .exit) (floats .exit)) ⌝ }
 {
     let mut c = count;
     let mut k = at;
@@ -248,7 +248,7 @@ fn seek_turf(
     requires { ⌜ r < hand .n ⌝ }
     requires { ⌜ Linked (hand .n) (now starts) (now neighbours) ⌝ }
     requires { ⌜ length (now neighbours) ≡ hand .e ⌝ }
-    ensures { λ c. let from = getD (now (starts .entry)) r 0 in let to = getD (now (starts .entry)) (r + 1) 0 in let ends = now (neighbours .entry) in ⌜ Goes hand r from to ends (alongAll hand r ends from to) (reach .count) (reach .first) (c .count) (c .first) (areaAt (words .entry) (floats .entry)) (areaAt (words .exit) (floats .exit)) ⌝ }
+    ensures { λ c. ⌜ GoesTurf hand r (now (starts .entry)) (now (neighbours .entry)) (reach .count) (reach .first) (c .count) (c .first) (areaAt (words .entry) (floats .entry)) (areaAt (words .exit) (floats .exit)) ⌝ }
 {
     let row = r as usize;
     let from = starts[row] as usize;

@@ -11,6 +11,7 @@ use Rattle.process_zone.specs.Plan.{Plan}
 use Rattle.index_set.specs.Line.{Below}
 use Rattle.reverse_links.specs.Reverse.{Linked, Reverses}
 use Rattle.plan_state.specs.Pairs.{firsts, seconds}
+use Rattle.plan_state.specs.declared.ZoneAt.{ZoneAt}
 
 -- everything that a function of planning may change, before or after it
 pub record Area : Type 0 where
@@ -137,3 +138,7 @@ pub record Nodes (n e first count : ℕ) (a : Area) : Type 0 where
   pub past : top n e ≤ first
   pub room : first + count ≤ length (a .words)
   pub rows : Below n (nodesOf n e (view n e a) first count)
+
+-- the nodes of the zone in hand
+abbrev pub zoneNodes : ZoneAt → Area → List ℕ
+zoneNodes zone a = nodesOf (zone .n) (zone .e) (view (zone .n) (zone .e) a) (zone .first) (zone .count)

@@ -4,8 +4,10 @@ use mathlib.Core.Path.{_≡_}
 use mathlib.Core.List.{List}
 use lib.ListN.{length, getD, take}
 use lib.Ieee.{Float}
+use Rattle.basics.specs.Floats.{_/f_, ofCount}
 use Rattle.process_zone.specs.Plan.{Plan}
 use Rattle.plan_state.specs.Held.{Area, view, Fit, Frame}
+use Rattle.plan_state.specs.declared.ZoneAt.{ZoneAt}
 
 -- every turf's mixture lies in the gas
 pub record Gassed (n : ℕ) (mixtures : List ℕ) (gases : ℕ) (gas : List Float) : Type 0 where
@@ -25,3 +27,7 @@ pub record Plans (n e : ℕ) (h : List ℕ → Plan → Plan) (a a′ : Area) : 
   pub fit : Fit n e a′
   pub frame : Frame n e a a′
   pub plan : view n e a′ .plan ≡ h (view n e a .owner) (view n e a .plan)
+
+-- what each node of the zone in hand would have, if all had the same
+abbrev pub averageOf : ZoneAt → Float
+averageOf zone = zone .moles /f ofCount (zone .count)

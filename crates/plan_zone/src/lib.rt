@@ -5,13 +5,13 @@ ghost use Prim.Native.Nat.{_+_, _≤_, _<_};
 ghost use lib.Ieee.{nan};
 ghost use lib.ListN.{length, getD, take, set};
 ghost use Rattle.basics.specs.Loops.{run};
-ghost use Rattle.basics.specs.Floats.{0f, _/f_, ofCount};
+ghost use Rattle.basics.specs.Floats.{0f};
 ghost use Rattle.turfs.specs.Tables.{boardAt};
 ghost use Rattle.process_zone.specs.Plan.{store, picks, chosen, serve, fastPass, shareOut, deltas, planZone};
 ghost use Rattle.process_zone.specs.declared.Side.the-variants.{Giving};
 ghost use Rattle.index_set.specs.Line.{Below};
-ghost use Rattle.plan_state.specs.Held.{areaAt, view, Fit, Planning, Does, Serves, Nodes, nodesOf};
-ghost use Rattle.plan_zone.specs.Zone.{Gassed, Picked, Plans};
+ghost use Rattle.plan_state.specs.Held.{areaAt, view, Fit, Planning, Does, Serves, Nodes, zoneNodes};
+ghost use Rattle.plan_zone.specs.Zone.{Gassed, Picked, Plans, averageOf};
 use plan_fast::fast_all;
 use plan_search::Hand;
 use plan_search::serve;
@@ -46,7 +46,7 @@ fn count_one(r: u32, c: usize, zone: ZoneAt, floats: &[f32]) -> usize
 fn count_givers(zone: ZoneAt, words: &[u32], floats: &[f32]) -> usize
     requires { ⌜ Fit (zone .n) (zone .e) (areaAt words floats) ⌝ }
     requires { ⌜ Nodes (zone .n) (zone .e) (zone .first) (zone .count) (areaAt words floats) ⌝ }
-    ensures { λ k. let v = view (zone .n) (zone .e) (areaAt (words .entry) (floats .entry)) in ⌜ k ≡ length (chosen Giving (nodesOf (zone .n) (zone .e) v (zone .first) (zone .count)) (v .plan)) ⌝ }
+    ensures { λ k. let a = areaAt (words .entry) (floats .entry) in ⌜ k ≡ length (chosen Giving (zoneNodes zone a) (view (zone .n) (zone .e) a .plan)) ⌝ }
 {
     let first = zone.first;
     let count = zone.count;
@@ -88,7 +88,7 @@ fn choose(
 fn gather(side: Side, zone: ZoneAt, words: &mut [u32], floats: &[f32]) -> usize
     requires { ⌜ Fit (zone .n) (zone .e) (areaAt words floats) ⌝ }
     requires { ⌜ Nodes (zone .n) (zone .e) (zone .first) (zone .count) (areaAt words floats) ⌝ }
-    ensures { λ k. let v = view (zone .n) (zone .e) (areaAt (words .entry) (floats .entry)) in ⌜ Picked (zone .n) (zone .e) (chosen side (nodesOf (zone .n) (zone .e) v (zone .first) (zone .count)) (v .plan)) k (areaAt (words .entry) (floats .entry)) (areaAt (words .exit) (floats .exit)) ⌝ }
+    ensures { λ k. let a = areaAt (words .entry) (floats .entry) in ⌜ Picked (zone .n) (zone .e) (chosen side (zoneNodes zone a) (view (zone .n) (zone .e) a .plan)) k a (areaAt (words .exit) (floats .exit)) ⌝ }
 {
     let first = zone.first;
     let count = zone.count;
@@ -116,7 +116,7 @@ fn serve_all(
     requires { ⌜ Planning (boardAt rows marks gases) (zone .n) (zone .e) (zone .z) (areaAt words floats) ⌝ }
     requires { ⌜ listed ≤ zone .n ⌝ }
     requires { ⌜ Below (zone .n) (take listed (view (zone .n) (zone .e) (areaAt words floats) .list)) ⌝ }
-    ensures { λ _. let b = boardAt (rows .entry) (marks .entry) gases in let list = view (zone .n) (zone .e) (areaAt (words .entry) (floats .entry)) .list in ⌜ Serves (zone .n) (zone .e) (λ o p. run (serve b o (zone .z) side) (take listed list) p) (areaAt (words .entry) (floats .entry)) (areaAt (words .exit) (floats .exit)) ⌝ }
+    ensures { λ _. let b = boardAt (rows .entry) (marks .entry) gases in let a = areaAt (words .entry) (floats .entry) in ⌜ Serves (zone .n) (zone .e) (λ o p. run (serve b o (zone .z) side) (take listed (view (zone .n) (zone .e) a .list)) p) a (areaAt (words .exit) (floats .exit)) ⌝ }
 {
     let z = zone.z;
     let n = zone.n;
@@ -142,7 +142,7 @@ fn fast_pass(
 )
     requires { ⌜ Planning (boardAt rows marks gases) (zone .n) (zone .e) (zone .z) (areaAt words floats) ⌝ }
     requires { ⌜ Nodes (zone .n) (zone .e) (zone .first) (zone .count) (areaAt words floats) ⌝ }
-    ensures { λ _. let b = boardAt (rows .entry) (marks .entry) gases in let nodes = nodesOf (zone .n) (zone .e) (view (zone .n) (zone .e) (areaAt (words .entry) (floats .entry))) (zone .first) (zone .count) in ⌜ Does (zone .n) (zone .e) (λ o p. fastPass b o (zone .z) nodes p) (areaAt (words .entry) (floats .entry)) (areaAt (words .exit) (floats .exit)) ⌝ }
+    ensures { λ _. let b = boardAt (rows .entry) (marks .entry) gases in let a = areaAt (words .entry) (floats .entry) in ⌜ Does (zone .n) (zone .e) (λ o p. fastPass b o (zone .z) (zoneNodes zone a) p) a (areaAt (words .exit) (floats .exit)) ⌝ }
 {
     let count = zone.count;
     let givers = count_givers(zone, words, floats);
@@ -166,7 +166,7 @@ fn share_out(
 )
     requires { ⌜ Planning (boardAt rows marks gases) (zone .n) (zone .e) (zone .z) (areaAt words floats) ⌝ }
     requires { ⌜ Nodes (zone .n) (zone .e) (zone .first) (zone .count) (areaAt words floats) ⌝ }
-    ensures { λ _. let b = boardAt (rows .entry) (marks .entry) gases in let nodes = nodesOf (zone .n) (zone .e) (view (zone .n) (zone .e) (areaAt (words .entry) (floats .entry))) (zone .first) (zone .count) in ⌜ Plans (zone .n) (zone .e) (λ o p. shareOut b o (zone .z) nodes p) (areaAt (words .entry) (floats .entry)) (areaAt (words .exit) (floats .exit)) ⌝ }
+    ensures { λ _. let b = boardAt (rows .entry) (marks .entry) gases in let a = areaAt (words .entry) (floats .entry) in ⌜ Plans (zone .n) (zone .e) (λ o p. shareOut b o (zone .z) (zoneNodes zone a) p) a (areaAt (words .exit) (floats .exit)) ⌝ }
 {
     let count = zone.count;
     let givers = count_givers(zone, words, floats);
@@ -203,7 +203,7 @@ fn all_deltas(
     requires { let b = boardAt rows marks gases in ⌜ Gassed (zone .n) (b .mixtures) gases (now gas) ⌝ }
     requires { ⌜ Fit (zone .n) (zone .e) (areaAt words floats) ⌝ }
     requires { ⌜ Nodes (zone .n) (zone .e) (zone .first) (zone .count) (areaAt words floats) ⌝ }
-    ensures { λ _. let b = boardAt (rows .entry) (marks .entry) gases in let nodes = nodesOf (zone .n) (zone .e) (view (zone .n) (zone .e) (areaAt (words .entry) (floats .entry))) (zone .first) (zone .count) in ⌜ Does (zone .n) (zone .e) (λ o p. deltas b o (zone .z) (now (gas .entry)) nodes (zone .moles /f ofCount (zone .count)) p) (areaAt (words .entry) (floats .entry)) (areaAt (words .exit) (floats .exit)) ⌝ }
+    ensures { λ _. let b = boardAt (rows .entry) (marks .entry) gases in let a = areaAt (words .entry) (floats .entry) in ⌜ Does (zone .n) (zone .e) (λ o p. deltas b o (zone .z) (now (gas .entry)) (zoneNodes zone a) (averageOf zone) p) a (areaAt (words .exit) (floats .exit)) ⌝ }
 {
     let first = zone.first;
     let count = zone.count;
@@ -234,7 +234,7 @@ pub fn process_zone(
     requires { let b = boardAt rows marks gases in ⌜ Gassed (zone .n) (b .mixtures) gases (now gas) ⌝ }
     requires { ⌜ Planning (boardAt rows marks gases) (zone .n) (zone .e) (zone .z) (areaAt words floats) ⌝ }
     requires { ⌜ Nodes (zone .n) (zone .e) (zone .first) (zone .count) (areaAt words floats) ⌝ }
-    ensures { λ _. let b = boardAt (rows .entry) (marks .entry) gases in let nodes = nodesOf (zone .n) (zone .e) (view (zone .n) (zone .e) (areaAt (words .entry) (floats .entry))) (zone .first) (zone .count) in ⌜ Plans (zone .n) (zone .e) (λ o p. planZone b o (zone .z) (now (gas .entry)) nodes (zone .moles) p) (areaAt (words .entry) (floats .entry)) (areaAt (words .exit) (floats .exit)) ⌝ }
+    ensures { λ _. let b = boardAt (rows .entry) (marks .entry) gases in let a = areaAt (words .entry) (floats .entry) in ⌜ Plans (zone .n) (zone .e) (λ o p. planZone b o (zone .z) (now (gas .entry)) (zoneNodes zone a) (zone .moles) p) a (areaAt (words .exit) (floats .exit)) ⌝ }
 {
     all_deltas(zone, rows, marks, gases, gas, words, floats);
     fast_pass(zone, rows, marks, gases, words, floats);

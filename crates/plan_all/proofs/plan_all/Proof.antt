@@ -24,11 +24,14 @@ clear-plan-requires c κs = search needs
 
 plan-zones-requires : tie.Need-plan-zones-requires
 plan-zones-requires c κs =
-    let entry = c .before .before .before .before .before .before .before .before .before .before .before .before .before .before .before .before .before .before .before in (
+    let entry = c .before .before .before .before .before .before .before .before .before .before .before .before .before .before .before .before .before .before .before in
+    let find-reverses = c .before .before .before .before .before .before .before .before .before .before .before .find-reverses in
+    let clear-plan = c .before .before .before .before .before .before .clear-plan in (
       entry .pre .0,
       (
-        cleared-zoned (entry .pre .1) (c .before .before .before .before .before .before .before .before .before .before .before .find-reverses .ensures .0) (c .before .before .before .before .before .before .clear-plan .ensures) (c .before .before .before .before .before .before .clear-plan .kept .1 .1 .0) (c .before .before .before .before .before .before .clear-plan .kept .1 .1 .1 .0),
-        cleared-reverses (entry .pre .1) (c .before .before .before .before .before .before .before .before .before .before .before .find-reverses .ensures .0) (c .before .before .before .before .before .before .clear-plan .ensures) (reverses-of (boardOf (entry .args .rows .now) (entry .args .marks .now) (entry .args .gases)) _ (c .before .before .before .before .before .before .before .before .before .before .before .find-reverses .ensures .1)),
+        cleared-zoned (entry .pre .1) (find-reverses .ensures .0) (clear-plan .ensures) (clear-plan .kept .1 .1 .0) (clear-plan .kept .1 .1 .1 .0),
+        cleared-reverses (entry .pre .1) (find-reverses .ensures .0) (clear-plan .ensures) (reverses-of (boardOf (entry .args .rows .now) (entry .args .marks .now) (entry .args .gases))
+            _ (find-reverses .ensures .1)),
       ),
     )
 
@@ -41,8 +44,12 @@ same-length-2 c = search needs
 returns : tie.Need-returns
 returns c =
     let entry = c .before .before .before .before .before .before .before .before .before .before .before .before .before .before .before .before .before .before .before .before .before .before .before .before in
-    planned-all (entry .pre .1) (c .before .before .before .before .before .before .before .before .before .before .before .before .before .before .before .before .find-reverses .ensures .0) (c .before .before .before .before .before .before .before .before .before .before .before .clear-plan .ensures) (c .before .before .before .before .plan-zones .ensures) (c .before .before .before .before .plan-zones .kept .1 .1 .1 .1 .1 .0 ∙ c .before .before .before .before .before .before .before .before .before .before .before .clear-plan .kept .1 .1 .0)
-    (c .before .before .before .before .plan-zones .kept .1 .1 .1 .1 .1 .1 .0 ∙ c .before .before .before .before .before .before .before .before .before .before .before .clear-plan .kept .1 .1 .1 .0) refl refl (reverses-of (boardOf (entry .args .rows .now) (entry .args .marks .now) (entry .args .gases)) _ (c .before .before .before .before .before .before .before .before .before .before .before .before .before .before .before .before .find-reverses .ensures .1))
+    let find-reverses = c .before .before .before .before .before .before .before .before .before .before .before .before .before .before .before .before .find-reverses in
+    let clear-plan = c .before .before .before .before .before .before .before .before .before .before .before .clear-plan in
+    let plan-zones = c .before .before .before .before .plan-zones in
+    planned-all (entry .pre .1) (find-reverses .ensures .0) (clear-plan .ensures) (plan-zones .ensures) (plan-zones .kept .1 .1 .1 .1 .1 .0 ∙ clear-plan .kept .1 .1 .0)
+    (plan-zones .kept .1 .1 .1 .1 .1 .1 .0 ∙ clear-plan .kept .1 .1 .1 .0) refl refl (reverses-of (boardOf (entry .args .rows .now) (entry .args .marks .now) (entry .args .gases))
+    _ (find-reverses .ensures .1))
 
 pub plan-all-spec : {M : Type 1} → statement M
 plan-all-spec =

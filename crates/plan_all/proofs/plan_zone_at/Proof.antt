@@ -95,7 +95,9 @@ same-length-2 c = search needs
 returns : tie.Need-returns
 returns c =
     let entry = c .before .before .before .before .before .before .before .before .before .before .before .before .before .before .before .before .before .before in
-    zone-planned (boardOf (entry .args .rows .now) (entry .args .marks .now) (entry .args .gases)) _ (c .before .before .before .before .before .before .before .before .before .before .before .before .starts-at .ensures) (entry .pre .1 .1 .0) (entry .pre .1 .1 .1 .1) (c .before .before .before .before .before .before .before .before .nodes-at .ensures) (c .before .before .before .before .before .before .before .before .before .moles-at .ensures) (c .before .before .before .before .process-zone .ensures)
+    zone-planned (boardOf (entry .args .rows .now) (entry .args .marks .now) (entry .args .gases)) _ (c .before .before .before .before .before .before .before .before .before .before .before .before .starts-at .ensures)
+    (entry .pre .1 .1 .0) (entry .pre .1 .1 .1 .1) (c .before .before .before .before .before .before .before .before .nodes-at .ensures) (c .before .before .before .before .before .before .before .before .before .moles-at .ensures)
+    (c .before .before .before .before .process-zone .ensures)
 
 pub plan-zone-at-spec : {M : Type 1} → statement M
 plan-zone-at-spec =

@@ -34,10 +34,13 @@ loop-less : tie.Need-loop-less Inv-loop μ-loop
 loop-less c = omega (arith, c .before .before .before .before .before .before .before .loop-test .taken)
 
 loop-again : tie.Need-loop-again Inv-loop μ-loop
-loop-again c = (
-  (omega (arith, c .before .before .before .before .before .before .before .loop-test .taken), (c .before .before .before .before .plan-zone-at .kept .1 .1 .1 .1 .1 .0 ∙ c .before .before .before .before .before .before .before .before .loop .inv .0 .1 .0, c .before .before .before .before .plan-zone-at .kept .1 .1 .1 .1 .1 .1 .0 ∙ c .before .before .before .before .before .before .before .before .loop .inv .0 .1 .1)),
-  going-next (c .before .before .before .before .before .before .before .before .loop .inv .1) (c .before .before .before .before .before .before .before .loop-test .taken) (c .before .before .before .before .plan-zone-at .ensures),
-)
+loop-again c =
+    let loop = c .before .before .before .before .before .before .before .before .loop in
+    let loop-test = c .before .before .before .before .before .before .before .loop-test in
+    let plan-zone-at = c .before .before .before .before .plan-zone-at in (
+      (omega (arith, loop-test .taken), (plan-zone-at .kept .1 .1 .1 .1 .1 .0 ∙ loop .inv .0 .1 .0, plan-zone-at .kept .1 .1 .1 .1 .1 .1 .0 ∙ loop .inv .0 .1 .1)),
+      going-next (loop .inv .1) (loop-test .taken) (plan-zone-at .ensures),
+    )
 
 same-length : tie.Need-same-length Inv-loop μ-loop
 same-length c = c .before .loop .inv .0 .1 .0

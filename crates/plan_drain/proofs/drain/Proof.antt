@@ -42,13 +42,40 @@ shared-slice-read-drain-turf : tie.Need-shared-slice-read-drain-turf Inv-loop μ
 shared-slice-read-drain-turf c = omega (arith, c .before .before .before .queue-at .ensures, c .before .before .before .before .before .before .pre .0 .words, c .before .before .before .before .before .before .pre .1 .1 .0, c .before .before .loop .inv .0, c .before .loop-test .taken)
 
 drain-turf-requires : tie.Need-drain-turf-requires Inv-loop μ-loop
-drain-turf-requires c κs = (c .before .before .before .loop .inv .1 .fit, (c .before .before .before .before .before .before .before .pre .1 .0, row-within _ _ 0 (c .before .before .before .loop .i - 1) _ _ _ (c .before .before .before .before .queue-at .ensures) (omega (arith, c .before .before .before .loop .inv .0, c .before .before .loop-test .taken, c .before .before .before .before .before .before .before .pre .1 .1 .0)) _ (c .before .before .before .before .before .before .before .pre .1 .1 .1 (c .before .before .before .loop .i - 1) (omega (arith, c .before .before .before .loop .inv .0, c .before .before .loop-test .taken)))))
+drain-turf-requires c κs =
+    let entry = c .before .before .before .before .before .before .before in
+    let loop = c .before .before .before .loop in
+    let loop-test = c .before .before .loop-test in (
+      loop .inv .1 .fit,
+      (
+        entry .pre .1 .0,
+        row-within _ _ 0 (loop .i - 1) _ _ _ (c .before .before .before .before .queue-at .ensures) (omega (
+          arith,
+          loop .inv .0,
+          loop-test .taken,
+          entry .pre .1 .1 .0,
+        )) _ (entry .pre .1 .1 .1 (loop .i - 1) (omega (arith, loop .inv .0, loop-test .taken))),
+      ),
+    )
 
 loop-less : tie.Need-loop-less Inv-loop μ-loop
 loop-less c = omega arith
 
 loop-again : tie.Need-loop-again Inv-loop μ-loop
-loop-again c = ((omega (arith, c .before .before .before .before .before .before .loop .inv .0), c .before .before .drain-turf .kept .1 .1 .1 .1 .1 .0 ∙ c .before .before .before .before .before .before .loop .inv .0 .1), onto-next _ _ (c .before .before .before .before .before .before .loop .inv .1) (drained-same _ _ _ _ _ _ _ (c .before .before .drain-turf .ensures)) (λ o p. row-next _ _ _ (c .before .before .before .before .before .before .loop .i - 1) _ _ _ (c .before .before .before .before .before .before .before .queue-at .ensures) (omega (arith, c .before .before .before .before .before .before .loop .inv .0, c .before .before .before .before .before .loop-test .taken, c .before .before .before .before .before .before .before .before .before .before .pre .1 .1 .0)) _ (c .before .before .before .before .before .before .loop .i) (omega (arith, c .before .before .before .before .before .loop-test .taken)) (omega (arith, c .before .before .before .before .before .loop-test .taken)) (queue-length _ _ _ (c .before .before .before .before .before .before .before .before .before .before .pre .0)) _))
+loop-again c =
+    let entry = c .before .before .before .before .before .before .before .before .before .before in
+    let loop = c .before .before .before .before .before .before .loop in
+    let loop-test = c .before .before .before .before .before .loop-test in
+    let drain-turf = c .before .before .drain-turf in (
+      (omega (arith, loop .inv .0), drain-turf .kept .1 .1 .1 .1 .1 .0 ∙ loop .inv .0 .1),
+      onto-next _ _ (loop .inv .1) (drained-same _ _ _ _ _ _ _ (drain-turf .ensures))
+          (λ o p. row-next _ _ _ (loop .i - 1) _ _ _ (c .before .before .before .before .before .before .before .queue-at .ensures) (omega (
+            arith,
+            loop .inv .0,
+            loop-test .taken,
+            entry .pre .1 .1 .0,
+          )) _ (loop .i) (omega (arith, loop-test .taken)) (omega (arith, loop-test .taken)) (queue-length _ _ _ (entry .pre .0)) _),
+    )
 
 same-length : tie.Need-same-length Inv-loop μ-loop
 same-length c = search needs

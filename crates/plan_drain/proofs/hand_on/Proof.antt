@@ -24,7 +24,12 @@ slice-read-x : tie.Need-slice-read-x
 slice-read-x c = search needs
 
 adjust-eq-movement-requires : tie.Need-adjust-eq-movement-requires
-adjust-eq-movement-requires c κs = (found-more _ _ (c .before .before .before .before .args .there) (omega (arith, c .before .before .before .before .pre .0 .floats)) (c .before .before .before .before .pre .1 .1 .1 .0), found-more _ _ (c .before .before .before .before .args .back) (omega (arith, c .before .before .before .before .pre .0 .floats)) (c .before .before .before .before .pre .1 .1 .1 .1))
+adjust-eq-movement-requires c κs =
+    let entry = c .before .before .before .before in (
+      found-more _ _ (entry .args .there) (omega (arith, entry .pre .0 .floats)) (entry .pre .1 .1 .1 .0),
+      found-more _ _ (entry .args .back) (omega (arith, entry .pre .0 .floats))
+          (entry .pre .1 .1 .1 .1),
+    )
 
 add-floats : tie.Need-add-floats
 add-floats c = search needs
@@ -75,7 +80,9 @@ same-length : tie.Need-same-length
 same-length c = search needs
 
 returns : tie.Need-returns
-returns c = handed _ _ _ _ _ _ _ _ _ (c .before .before .before .before .before .before .before .before .pre .0) (c .before .before .before .before .before .before .before .before .pre .1 .0) (c .before .before .before .before .before .before .before .before .pre .1 .1 .0) (c .before .before .before .before .before .before .before .before .pre .1 .1 .1 .0) (c .before .before .before .before .before .before .before .before .pre .1 .1 .1 .1) (c .before .before .before .adjust-eq-movement .ensures)
+returns c =
+    let entry = c .before .before .before .before .before .before .before .before in
+    handed _ _ _ _ _ _ _ _ _ (entry .pre .0) (entry .pre .1 .0) (entry .pre .1 .1 .0) (entry .pre .1 .1 .1 .0) (entry .pre .1 .1 .1 .1) (c .before .before .before .adjust-eq-movement .ensures)
 
 pub hand-on-spec : {M : Type 1} → statement M
 hand-on-spec =

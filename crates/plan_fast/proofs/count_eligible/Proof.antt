@@ -44,20 +44,23 @@ loop-less c = omega (arith, c .before .before .loop-test .taken)
 
 loop-again : tie.Need-loop-again Inv-loop μ-loop
 loop-again c =
-    let entry = c .before .before .before .before .before .before in (
+    let entry = c .before .before .before .before .before .before in
+    let loop = c .before .before .before .loop in
+    let loop-test = c .before .before .loop-test in (
       (
-        omega (arith, c .before .before .before .loop .inv .0),
+        omega (arith, loop .inv .0),
         (
-          omega (arith, c .before .before .loop-test .taken),
+          omega (arith, loop-test .taken),
           omega (
             arith,
-            c .before .before .before .loop .inv .0,
+            loop .inv .0,
             c .tally .ensures,
-            tally-le (entry .args .n) (entry .args .e) (entry .args .words .now) (entry .args .z) (c .before .before .before .loop .k) (getD (entry .args .neighbours .now) (c .before .before .before .loop .k) 0) (c .before .before .before .loop .c) (omega (arith, entry .pre .1 .1 .1 .1 .0, c .before .before .loop-test .taken)) (entry .pre .1 .1 .1 .1 .1 .1 _ (omega (arith, entry .pre .1 .1 .1 .1 .0, c .before .before .loop-test .taken))),
+            tally-le (entry .args .n) (entry .args .e) (entry .args .words .now) (entry .args .z) (loop .k) (getD (entry .args .neighbours .now) (loop .k) 0) (loop .c) (omega
+                (arith, entry .pre .1 .1 .1 .1 .0, loop-test .taken)) (entry .pre .1 .1 .1 .1 .1 .1 _ (omega (arith, entry .pre .1 .1 .1 .1 .0, loop-test .taken))),
           ),
         ),
       ),
-      ap (run _ _) (c .tally .ensures) ∙ sym (run-up _ _ _ _ (c .before .before .loop-test .taken)) ∙ c .before .before .before .loop .inv .1,
+      ap (run _ _) (c .tally .ensures) ∙ sym (run-up _ _ _ _ (loop-test .taken)) ∙ loop .inv .1,
     )
 
 returns : tie.Need-returns Inv-loop μ-loop

@@ -53,10 +53,14 @@ loop-less : tie.Need-loop-less Inv-loop μ-loop
 loop-less c = omega (arith, c .before .before .before .before .before .before .before .before .loop-test .taken)
 
 loop-again : tie.Need-loop-again Inv-loop μ-loop
-loop-again c = (
-  (omega (arith, c .before .before .before .before .before .before .before .before .loop-test .taken), (c .before .before .before .before .fast-turf .kept .1 .1 .1 .1 .1 .0 ∙ c .before .before .before .before .before .before .before .before .before .loop .inv .0 .1 .0, c .before .before .before .before .fast-turf .kept .1 .1 .1 .1 .1 .1 .0 ∙ c .before .before .before .before .before .before .before .before .before .loop .inv .0 .1 .1)),
-  onto-next _ _ (c .before .before .before .before .before .before .before .before .before .loop .inv .1) (c .before .before .before .before .fast-turf .ensures) (λ o p. walk-next (c .before .before .before .before .before .before .before .before .before .before .before .before .pre .1) (onto-frame (c .before .before .before .before .before .before .before .before .before .loop .inv .1)) (c .before .before .before .before .before .before .before .before .before .loop .inv .0 .1 .0) _ (c .before .before .before .before .before .before .before .before .loop-test .taken) _ p),
-)
+loop-again c =
+    let loop = c .before .before .before .before .before .before .before .before .before .loop in
+    let loop-test = c .before .before .before .before .before .before .before .before .loop-test in
+    let fast-turf = c .before .before .before .before .fast-turf in (
+      (omega (arith, loop-test .taken), (fast-turf .kept .1 .1 .1 .1 .1 .0 ∙ loop .inv .0 .1 .0, fast-turf .kept .1 .1 .1 .1 .1 .1 .0 ∙ loop .inv .0 .1 .1)),
+      onto-next _ _ (loop .inv .1) (fast-turf .ensures) (λ o p. walk-next (c .before .before .before .before .before .before .before .before .before .before .before .before .pre .1)
+          (onto-frame (loop .inv .1)) (loop .inv .0 .1 .0) _ (loop-test .taken) _ p),
+    )
 
 same-length : tie.Need-same-length Inv-loop μ-loop
 same-length c = c .before .loop .inv .0 .1 .0

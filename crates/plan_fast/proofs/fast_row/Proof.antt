@@ -2,27 +2,20 @@
 use Prim.Native.Nat.{ℕ, _≤_, _<_, _-_, _+_}
 use native.Mathlib.Omega.{arith}
 use mathlib.Core.Path.{_≡_, refl, _∙_}
-use mathlib.Core.List.{List}
-use lib.ListN.{length, getD}
+use lib.ListN.{length}
 use Rattle.basics.specs.Loops.{run, upFrom}
 use Rattle.basics.proofs.Loops.{run-up, run-up-end}
-use Rattle.process_zone.specs.Plan.{Plan}
 use Rattle.plan_state.specs.Held.{area, view}
 use Rattle.plan_state.proofs.Nodes.{Onto, onto-start, onto-next, onto-end}
-use Rattle.plan_fast.specs.declared.Share.{Share}
-use Rattle.plan_fast.specs.Steps.{fastVia}
+use Rattle.plan_fast.specs.Steps.{shareOver}
 use Rattle.plan_fast.proofs.Moves.{reverse-same, fast-same}
 use Rattle.plan_fast.proofs.fast_row.Statement.{statement}
 use Rattle.plan_fast.proofs.fast_row.Tie as tie
 
--- one link
-abbrev step : Share → List ℕ → List ℕ → List ℕ → ℕ → Plan → Plan
-step share neighbours rev o k s = fastVia rev (share .z) (share .r) (share .x) o k (getD neighbours k 0) s
-
 abbrev Inv-loop : tie.InvT-loop
 Inv-loop share from to neighbours words floats₀ k₀ floats k = ((from ≤ k) × ((k ≤ to) × (length floats ≡ length floats₀)))
-    × Onto (share .n) (share .e) (λ o p. run (step share neighbours (view (share .n) (share .e) (area words floats₀) .reverse) o) (upFrom k (to - k)) p)
-    (λ o p. run (step share neighbours (view (share .n) (share .e) (area words floats₀) .reverse) o) (upFrom from (to - from)) p)
+    × Onto (share .n) (share .e) (λ o p. run (shareOver share neighbours (view (share .n) (share .e) (area words floats₀) .reverse) o) (upFrom k (to - k)) p)
+    (λ o p. run (shareOver share neighbours (view (share .n) (share .e) (area words floats₀) .reverse) o) (upFrom from (to - from)) p)
     (area words floats₀) (area words floats)
 
 abbrev μ-loop : tie.MeasureT-loop

@@ -67,8 +67,10 @@ int-to-float-t43 c = search needs
 
 fast-row-requires : tie.Need-fast-row-requires
 fast-row-requires c κs =
-    let entry = c .before .before .before .before .before .before .before .before .before .before .before .before .before .before .before .before .before .before .before .before .before .before .before in (
-      c .before .before .before .before .before .before .before .before .before .before .before .before .before .before .store .ensures .fit,
+    let entry = c .before .before .before .before .before .before .before .before .before .before .before .before .before .before .before .before .before .before .before .before .before .before .before in
+    let load = c .before .before .before .before .before .before .before .before .before .before .before .before .before .before .before .before .before .before .load in
+    let store = c .before .before .before .before .before .before .before .before .before .before .before .before .before .before .store in (
+      store .ensures .fit,
       (
         entry .pre .0 .zone,
         (
@@ -78,7 +80,12 @@ fast-row-requires c κs =
             within = omega (arith, entry .pre .0 .sized .linked .within _ (entry .pre .1), entry .pre .0 .sized .links);
             ends = λ k l. entry .pre .0 .sized .linked .rows k (omega (arith, l, entry .pre .0 .sized .links));
           },
-          (entry .pre .0 .sized .linked .rise _ (entry .pre .1), fast-within (boardOf (entry .args .rows .now) (entry .args .marks .now) (entry .args .gases)) _ _ (entry .args .zone .z) _ _ _ (c .before .before .before .before .before .before .before .before .before .before .before .before .before .before .before .before .before .before .load .ensures) (entry .pre .0 .sized .linked) (entry .pre .1) (entry .pre .0 .reverses) _ _ (stored (c .before .before .before .before .before .before .before .before .before .before .before .before .before .before .before .before .before .before .load .result) (c .before .before .before .before .before .before .before .before .before .before .before .before .before .before .before .before .before .marked .ensures) (c .before .before .before .before .before .before .before .before .before .before .before .before .before .before .store .ensures)) (entry .pre .0 .sized .links)),
+          (
+            entry .pre .0 .sized .linked .rise _ (entry .pre .1),
+            fast-within (boardOf (entry .args .rows .now) (entry .args .marks .now) (entry .args .gases)) _ _ (entry .args .zone .z)
+                _ _ _ (load .ensures) (entry .pre .0 .sized .linked) (entry .pre .1) (entry .pre .0 .reverses) _ _ (stored (load .result) (c .before .before .before .before .before .before .before .before .before .before .before .before .before .before .before .before .before .marked .ensures)
+                (store .ensures)) (entry .pre .0 .sized .links),
+          ),
         ),
       ),
     )
@@ -92,7 +99,11 @@ same-length-2 c = search needs
 returns : tie.Need-returns
 returns c =
     let entry = c .before .before .before .before .before .before .before .before .before .before .before .before .before .before .before .before .before .before .before .before .before .before .before .before .before .before in
-    fast-some (boardOf (entry .args .rows .now) (entry .args .marks .now) (entry .args .gases)) _ _ (entry .args .zone .z) _ _ _ (c .before .before .before .before .before .before .before .before .before .before .before .before .before .before .before .before .before .before .before .before .before .load .ensures) (entry .pre .0 .sized .linked) (entry .pre .1) (entry .pre .0 .reverses) _ _ (stored (c .before .before .before .before .before .before .before .before .before .before .before .before .before .before .before .before .before .before .before .before .before .load .result) (c .before .before .before .before .before .before .before .before .before .before .before .before .before .before .before .before .before .before .before .before .marked .ensures) (c .before .before .before .before .before .before .before .before .before .before .before .before .before .before .before .before .before .store .ensures)) _ (c .before .before .before .before .before .before .before .before .before .before .before .before .if1 .taken) (c .before .before .before .before .before .before .count-eligible .ensures) (c .before .before .fast-row .ensures)
+    let load = c .before .before .before .before .before .before .before .before .before .before .before .before .before .before .before .before .before .before .before .before .before .load in
+    fast-some (boardOf (entry .args .rows .now) (entry .args .marks .now) (entry .args .gases)) _ _ (entry .args .zone .z) _ _ _ (load .ensures) (entry .pre .0 .sized .linked)
+    (entry .pre .1) (entry .pre .0 .reverses) _ _ (stored (load .result) (c .before .before .before .before .before .before .before .before .before .before .before .before .before .before .before .before .before .before .before .before .marked .ensures)
+    (c .before .before .before .before .before .before .before .before .before .before .before .before .before .before .before .before .before .store .ensures)) _ (c .before .before .before .before .before .before .before .before .before .before .before .before .if1 .taken)
+    (c .before .before .before .before .before .before .count-eligible .ensures) (c .before .before .fast-row .ensures)
 
 same-length-3 : tie.Need-same-length-3
 same-length-3 c = search needs
@@ -103,7 +114,9 @@ same-length-4 c = search needs
 returns-2 : tie.Need-returns-2
 returns-2 c =
     let entry = c .before .before .before .before .before .before .before .before .before .before .before .before .before .before in
-    fast-none (boardOf (entry .args .rows .now) (entry .args .marks .now) (entry .args .gases)) _ _ (entry .args .zone .z) _ _ _ (c .before .before .before .before .before .before .before .before .before .load .ensures) (c .if1 .left) (stored (c .before .before .before .before .before .before .before .before .before .load .result) (c .before .before .before .before .before .before .before .before .marked .ensures) (c .before .before .before .before .before .store .ensures))
+    let load = c .before .before .before .before .before .before .before .before .before .load in
+    fast-none (boardOf (entry .args .rows .now) (entry .args .marks .now) (entry .args .gases)) _ _ (entry .args .zone .z) _ _ _ (load .ensures) (c .if1 .left) (stored
+    (load .result) (c .before .before .before .before .before .before .before .before .marked .ensures) (c .before .before .before .before .before .store .ensures))
 
 pub fast-turf-spec : {M : Type 1} → statement M
 fast-turf-spec =

@@ -52,8 +52,12 @@ returns-2 : tie.Need-returns-2
 returns-2 c =
     let entry = c .before .before .before .before .before .before .before .before .before .before .before in
     let hk : entry .args .k < entry .args .hand .e = omega (arith, entry .pre .1 .within) in
-    let ha = entry .pre .1 .ends (entry .args .k) hk in
-    (λ q. absurd (true≢false (sym q)), λ _. pass-queued (entry .args .hand .side) (entry .args .r) (entry .args .k) (entry .args .hand .z) _ _ _ (entry .args .neighbours .now) _ _ (entry .pre .0 .seeking) hk ha _ _ (c .before .before .before .before .before .queue-at .ensures) (c .before .before .before .before .places-at .ensures) (c .before .before .before .before .before .before .if1 .left) (sym (c .if2 .taken) ∙ c .before .contains .ensures))
+    let ha = entry .pre .1 .ends (entry .args .k) hk in (
+      λ q. absurd (true≢false (sym q)),
+      λ _. pass-queued (entry .args .hand .side) (entry .args .r) (entry .args .k) (entry .args .hand .z) _ _ _ (entry .args .neighbours .now)
+          _ _ (entry .pre .0 .seeking) hk ha _ _ (c .before .before .before .before .before .queue-at .ensures) (c .before .before .before .before .places-at .ensures) (c .before .before .before .before .before .before .if1 .left)
+          (sym (c .if2 .taken) ∙ c .before .contains .ensures),
+    )
 
 cast-row : tie.Need-cast-row
 cast-row c =
@@ -102,10 +106,23 @@ returns-3 c = (λ _. refl, λ q. absurd (true≢false q))
 insert-requires : tie.Need-insert-requires
 insert-requires c κs =
     let entry = c .before .before .before .before .before .before .before .before .before .before .before .before .before .before .before in
+    let queue-at = c .before .before .before .before .before .before .before .before .before .queue-at in
+    let places-at = c .before .before .before .before .before .before .before .before .places-at in
     let hk : entry .args .k < entry .args .hand .e = omega (arith, entry .pre .1 .within) in
     let ha = entry .pre .1 .ends (entry .args .k) hk in
-    let l = link-room (entry .args .hand .side) _ (entry .args .r) (entry .args .k) _ (entry .args .hand .z) _ _ _ _ _ (entry .pre .0 .seeking) hk ha ha _ _ (c .before .before .before .before .before .before .before .before .before .queue-at .ensures) (c .before .before .before .before .before .before .before .before .places-at .ensures) (c .before .before .before .before .before .before .before .before .before .before .if1 .left) (sym (c .before .before .before .before .if2 .left) ∙ c .before .before .before .before .before .contains .ensures) in
-    (omega (arith, l, c .before .before .before .before .before .before .before .before .before .queue-at .ensures, entry .pre .0 .seeking .fit .words), (omega (arith, l, c .before .before .before .before .before .before .before .before .places-at .ensures, entry .pre .0 .seeking .fit .words, ha), omega (arith, l, entry .pre .0 .seeking .fit .turfs)))
+    let l = link-room (entry .args .hand .side) _ (entry .args .r) (entry .args .k) _ (entry .args .hand .z) _ _ _ _ _ (entry .pre .0 .seeking) hk ha ha _ _ (queue-at .ensures)
+    (places-at .ensures) (c .before .before .before .before .before .before .before .before .before .before .if1 .left) (sym (c .before .before .before .before .if2 .left)
+    ∙ c .before .before .before .before .before .contains .ensures) in (
+      omega (arith, l, queue-at .ensures, entry .pre .0 .seeking .fit .words),
+      (
+        omega (arith, l, places-at .ensures, entry .pre .0 .seeking .fit .words, ha),
+        omega (
+          arith,
+          l,
+          entry .pre .0 .seeking .fit .turfs,
+        ),
+      ),
+    )
 
 cast-words : tie.Need-cast-words
 cast-words c = search needs
@@ -155,15 +172,24 @@ point-requires : tie.Need-point-requires
 point-requires c κs =
     let entry = c .before .before .before .before .before .before .before .before .before .before .before .before .before .before .before .before .before .before .before .before in
     let hk : entry .args .k < entry .args .hand .e = omega (arith, entry .pre .1 .within) in
-    let ha = entry .pre .1 .ends (entry .args .k) hk in
-    (push-fit (entry .args .hand .side) _ (entry .args .r) (entry .args .k) _ (entry .args .hand .z) _ _ _ _ _ (entry .pre .0 .seeking) hk ha ha _ _ (c .before .before .before .before .before .before .before .before .before .before .before .before .before .before .queue-at .ensures) (c .before .before .before .before .before .before .before .before .before .before .before .before .before .places-at .ensures) (c .before .before .before .before .before .before .before .before .before .before .before .before .before .before .before .if1 .left) (sym (c .before .before .before .before .before .before .before .before .before .if2 .left) ∙ c .before .before .before .before .before .before .before .before .before .before .contains .ensures) _ (c .before .before .before .before .insert .ensures), ha)
+    let ha = entry .pre .1 .ends (entry .args .k) hk in (
+      push-fit (entry .args .hand .side) _ (entry .args .r) (entry .args .k) _ (entry .args .hand .z) _ _ _ _ _ (entry .pre .0 .seeking) hk ha ha _ _ (c .before .before .before .before .before .before .before .before .before .before .before .before .before .before .queue-at .ensures)
+          (c .before .before .before .before .before .before .before .before .before .before .before .before .before .places-at .ensures) (c .before .before .before .before .before .before .before .before .before .before .before .before .before .before .before .if1 .left)
+          (sym (c .before .before .before .before .before .before .before .before .before .if2 .left) ∙ c .before .before .before .before .before .before .before .before .before .before .contains .ensures)
+          _ (c .before .before .before .before .insert .ensures),
+      ha,
+    )
 
 add-t34 : tie.Need-add-t34
 add-t34 c =
     let entry = c .before .before .before .before .before .before .before .before .before .before .before .before .before .before .before .before .before .before .before .before .before .before .before .before .before in
     let hk : entry .args .k < entry .args .hand .e = omega (arith, entry .pre .1 .within) in
     let ha = entry .pre .1 .ends (entry .args .k) hk in
-    let l = link-room (entry .args .hand .side) _ (entry .args .r) (entry .args .k) _ (entry .args .hand .z) _ _ _ _ _ (entry .pre .0 .seeking) hk ha ha _ _ (c .before .before .before .before .before .before .before .before .before .before .before .before .before .before .before .before .before .before .before .queue-at .ensures) (c .before .before .before .before .before .before .before .before .before .before .before .before .before .before .before .before .before .before .places-at .ensures) (c .before .before .before .before .before .before .before .before .before .before .before .before .before .before .before .before .before .before .before .before .if1 .left) (sym (c .before .before .before .before .before .before .before .before .before .before .before .before .before .before .if2 .left) ∙ c .before .before .before .before .before .before .before .before .before .before .before .before .before .before .before .contains .ensures) in
+    let l = link-room (entry .args .hand .side) _ (entry .args .r) (entry .args .k) _ (entry .args .hand .z) _ _ _ _ _ (entry .pre .0 .seeking) hk ha ha _ _ (c .before .before .before .before .before .before .before .before .before .before .before .before .before .before .before .before .before .before .before .queue-at .ensures)
+    (c .before .before .before .before .before .before .before .before .before .before .before .before .before .before .before .before .before .before .places-at .ensures)
+    (c .before .before .before .before .before .before .before .before .before .before .before .before .before .before .before .before .before .before .before .before .if1 .left)
+    (sym (c .before .before .before .before .before .before .before .before .before .before .before .before .before .before .if2 .left) ∙ c .before .before .before .before .before .before .before .before .before .before .before .before .before .before .before .contains .ensures)
+    in
     omega (arith, l, entry .pre .0 .seeking .fit .turfs)
 
 same-length-3 : tie.Need-same-length-3
@@ -178,7 +204,13 @@ returns-4 c =
     let hk : entry .args .k < entry .args .hand .e = omega (arith, entry .pre .1 .within) in
     let ha = entry .pre .1 .ends (entry .args .k) hk in (
       λ q. absurd (true≢false (sym q)),
-      λ _. pass-new (entry .args .hand .side) (entry .args .r) (entry .args .k) (entry .args .hand .z) _ _ _ (entry .args .neighbours .now) _ _ (entry .pre .0 .seeking) hk ha _ _ (c .before .before .before .before .before .before .before .before .before .before .before .before .before .before .before .before .before .before .before .queue-at .ensures) (c .before .before .before .before .before .before .before .before .before .before .before .before .before .before .before .before .before .before .places-at .ensures) (c .before .before .before .before .before .before .before .before .before .before .before .before .before .before .before .before .before .before .before .before .if1 .left) (sym (c .before .before .before .before .before .before .before .before .before .before .before .before .before .before .if2 .left) ∙ c .before .before .before .before .before .before .before .before .before .before .before .before .before .before .before .contains .ensures) (sym (c .before .before .before .before .before .before .before .before .before .before .before .before .wants .ensures) ∙ c .before .before .before .before .before .before .before .before .before .before .before .if3 .left) _ (c .before .before .before .before .before .before .before .before .before .insert .ensures) _ _ (c .before .before .before .before .point .ensures),
+      λ _. pass-new (entry .args .hand .side) (entry .args .r) (entry .args .k) (entry .args .hand .z) _ _ _ (entry .args .neighbours .now) _ _ (entry .pre .0 .seeking) hk
+          ha _ _ (c .before .before .before .before .before .before .before .before .before .before .before .before .before .before .before .before .before .before .before .queue-at .ensures)
+          (c .before .before .before .before .before .before .before .before .before .before .before .before .before .before .before .before .before .before .places-at .ensures)
+          (c .before .before .before .before .before .before .before .before .before .before .before .before .before .before .before .before .before .before .before .before .if1 .left)
+          (sym (c .before .before .before .before .before .before .before .before .before .before .before .before .before .before .if2 .left) ∙ c .before .before .before .before .before .before .before .before .before .before .before .before .before .before .before .contains .ensures)
+          (sym (c .before .before .before .before .before .before .before .before .before .before .before .before .wants .ensures) ∙ c .before .before .before .before .before .before .before .before .before .before .before .if3 .left)
+          _ (c .before .before .before .before .before .before .before .before .before .insert .ensures) _ _ (c .before .before .before .before .point .ensures),
     )
 
 pub pass-link-spec : {M : Type 1} → statement M

@@ -41,10 +41,23 @@ loop-less : tie.Need-loop-less Inv-loop μ-loop
 loop-less c = omega (arith, c .before .before .before .before .before .before .before .before .loop-test .taken)
 
 loop-again : tie.Need-loop-again Inv-loop μ-loop
-loop-again c = (
-  (omega (arith, c .before .before .before .before .before .before .before .before .before .loop .inv .0 .0), (omega (arith, c .before .before .before .before .before .before .before .before .loop-test .taken), (c .before .before .before .before .before .pass-link .kept .1 .1 .1 .1 .1 .0 ∙ c .before .before .before .before .before .before .before .before .before .loop .inv .0 .1 .1 .0, c .before .before .before .before .before .pass-link .kept .1 .1 .1 .1 .1 .1 .0 ∙ c .before .before .before .before .before .before .before .before .before .loop .inv .0 .1 .1 .1))),
-  passes-next _ _ _ _ _ _ _ _ _ _ (c .before .before .before .before .before .before .before .before .before .loop .inv .0 .0) (c .before .before .before .before .before .before .before .before .loop-test .taken) (c .before .before .before .before .before .before .before .before .before .loop .inv .1) (c .before .before .before .before .before .pass-link .ensures .1 (c .if1 .left)),
-)
+loop-again c =
+    let loop = c .before .before .before .before .before .before .before .before .before .loop in
+    let loop-test = c .before .before .before .before .before .before .before .before .loop-test in
+    let pass-link = c .before .before .before .before .before .pass-link in (
+      (
+        omega (arith, loop .inv .0 .0),
+        (
+          omega (arith, loop-test .taken),
+          (
+            pass-link .kept .1 .1 .1 .1 .1 .0 ∙ loop .inv .0 .1 .1 .0,
+            pass-link .kept .1 .1 .1 .1 .1 .1 .0 ∙
+                loop .inv .0 .1 .1 .1,
+          ),
+        ),
+      ),
+      passes-next _ _ _ _ _ _ _ _ _ _ (loop .inv .0 .0) (loop-test .taken) (loop .inv .1) (pass-link .ensures .1 (c .if1 .left)),
+    )
 
 same-length-3 : tie.Need-same-length-3 Inv-loop μ-loop
 same-length-3 c = c .before .loop .inv .0 .1 .1 .0

@@ -40,10 +40,34 @@ add-settled-2 : tie.Need-add-settled-2 Inv-loop μ-loop
 add-settled-2 c = omega (arith, c .before .loop .inv .1 .0 .seeking .fit .words, c .before .loop .inv .1 .0 .seeking .fit .floats, c .before .loop .inv .1 .0 .seeking .fit .turfs, c .before .loop .inv .1 .0 .seeking .fit .links, c .before .loop .inv .1 .0 .seeking .line .few, c .before .before .queue-at .ensures, c .before .before .before .before .before .before .before .pre .0 .row)
 
 mul-settled : tie.Need-mul-settled Inv-loop μ-loop
-mul-settled c = omega (arith, c .before .loop .inv .1 .0 .seeking .fit .words, c .before .loop .inv .1 .0 .seeking .fit .floats, c .before .loop .inv .1 .0 .seeking .fit .turfs, c .before .loop .inv .1 .0 .seeking .fit .links, c .before .loop .inv .1 .0 .seeking .line .few, c .before .before .queue-at .ensures, c .before .before .before .before .before .before .before .pre .0 .row, c .before .loop .inv .0, c .before .before .before .before .before .before .before .good)
+mul-settled c =
+    let entry = c .before .before .before .before .before .before .before in
+    omega (
+      arith,
+      c .before .loop .inv .1 .0 .seeking .fit .words,
+      c .before .loop .inv .1 .0 .seeking .fit .floats,
+      c .before .loop .inv .1 .0 .seeking .fit .turfs,
+      c .before .loop .inv .1 .0 .seeking .fit .links,
+      c .before .loop .inv .1 .0 .seeking .line .few,
+      c .before .before .queue-at .ensures,
+      entry .pre .0 .row,
+      c .before .loop .inv .0,
+      entry .good,
+    )
 
 slice-read-settled : tie.Need-slice-read-settled Inv-loop μ-loop
-slice-read-settled c = omega (arith, c .before .before .loop .inv .1 .0 .seeking .fit .words, c .before .before .loop .inv .1 .0 .seeking .fit .floats, c .before .before .loop .inv .1 .0 .seeking .fit .turfs, c .before .before .loop .inv .1 .0 .seeking .fit .links, c .before .before .loop .inv .1 .0 .seeking .line .few, c .before .before .before .queue-at .ensures, c .before .before .before .before .before .before .before .before .pre .0 .row)
+slice-read-settled c =
+    let loop = c .before .before .loop in
+    omega (
+      arith,
+      loop .inv .1 .0 .seeking .fit .words,
+      loop .inv .1 .0 .seeking .fit .floats,
+      loop .inv .1 .0 .seeking .fit .turfs,
+      loop .inv .1 .0 .seeking .fit .links,
+      loop .inv .1 .0 .seeking .line .few,
+      c .before .before .before .queue-at .ensures,
+      c .before .before .before .before .before .before .before .before .pre .0 .row,
+    )
 
 settled-requires : tie.Need-settled-requires Inv-loop μ-loop
 settled-requires c κs = search needs
@@ -55,39 +79,98 @@ same-length-2 : tie.Need-same-length-2 Inv-loop μ-loop
 same-length-2 c = c .before .before .before .before .loop .inv .0 .1
 
 returns : tie.Need-returns Inv-loop μ-loop
-returns c = (trail-end _ (c .before .before .before .before .loop .inv .1 .0) (turn-settled _ _ _ _ _ _ (c .before .before .before .before .loop .inv .1 .0 .seeking) (c .before .before .before .loop-test .taken) _ (c .before .before .before .before .before .queue-at .ensures) _ _ _ _ (c .before .before .before .before .before .before .before .before .before .before .pre .0 .row) (sym (c .before .settled .ensures) ∙ c .if1 .taken)), c .before .before .before .before .loop .inv .1 .1)
+returns c =
+    let loop = c .before .before .before .before .loop in (
+      trail-end _ (loop .inv .1 .0) (turn-settled _ _ _ _ _ _ (loop .inv .1 .0 .seeking) (c .before .before .before .loop-test .taken) _ (c .before .before .before .before .before .queue-at .ensures)
+          _ _ _ _ (c .before .before .before .before .before .before .before .before .before .before .pre .0 .row) (sym (c .before .settled .ensures) ∙ c .if1 .taken)),
+      loop .inv .1 .1,
+    )
 
 add-r : tie.Need-add-r Inv-loop μ-loop
-add-r c = omega (arith, c .before .before .before .before .loop .inv .1 .0 .seeking .fit .words, c .before .before .before .before .loop .inv .1 .0 .seeking .fit .floats, c .before .before .before .before .loop .inv .1 .0 .seeking .fit .turfs, c .before .before .before .before .loop .inv .1 .0 .seeking .fit .links, c .before .before .before .before .loop .inv .1 .0 .seeking .line .few, c .before .before .before .before .before .queue-at .ensures, c .before .before .before .loop-test .taken)
+add-r c =
+    let loop = c .before .before .before .before .loop in
+    omega (
+      arith,
+      loop .inv .1 .0 .seeking .fit .words,
+      loop .inv .1 .0 .seeking .fit .floats,
+      loop .inv .1 .0 .seeking .fit .turfs,
+      loop .inv .1 .0 .seeking .fit .links,
+      loop .inv .1 .0 .seeking .line .few,
+      c .before .before .before .before .before .queue-at .ensures,
+      c .before .before .before .loop-test .taken,
+    )
 
 mul-r : tie.Need-mul-r Inv-loop μ-loop
-mul-r c = omega (arith, c .before .before .before .before .loop .inv .1 .0 .seeking .fit .words, c .before .before .before .before .loop .inv .1 .0 .seeking .fit .floats, c .before .before .before .before .loop .inv .1 .0 .seeking .fit .turfs, c .before .before .before .before .loop .inv .1 .0 .seeking .fit .links, c .before .before .before .before .loop .inv .1 .0 .seeking .line .few, c .before .before .before .before .before .queue-at .ensures, c .before .before .before .loop-test .taken, c .before .before .before .before .loop .inv .0, c .before .before .before .before .before .before .before .before .before .before .good)
+mul-r c =
+    let loop = c .before .before .before .before .loop in
+    omega (
+      arith,
+      loop .inv .1 .0 .seeking .fit .words,
+      loop .inv .1 .0 .seeking .fit .floats,
+      loop .inv .1 .0 .seeking .fit .turfs,
+      loop .inv .1 .0 .seeking .fit .links,
+      loop .inv .1 .0 .seeking .line .few,
+      c .before .before .before .before .before .queue-at .ensures,
+      c .before .before .before .loop-test .taken,
+      loop .inv .0,
+      c .before .before .before .before .before .before .before .before .before .before .good,
+    )
 
 slice-read-r : tie.Need-slice-read-r Inv-loop μ-loop
-slice-read-r c = omega (arith, c .before .before .before .before .before .loop .inv .1 .0 .seeking .fit .words, c .before .before .before .before .before .loop .inv .1 .0 .seeking .fit .floats, c .before .before .before .before .before .loop .inv .1 .0 .seeking .fit .turfs, c .before .before .before .before .before .loop .inv .1 .0 .seeking .fit .links, c .before .before .before .before .before .loop .inv .1 .0 .seeking .line .few, c .before .before .before .before .before .before .queue-at .ensures, c .before .before .before .before .loop-test .taken)
+slice-read-r c =
+    let loop = c .before .before .before .before .before .loop in
+    omega (
+      arith,
+      loop .inv .1 .0 .seeking .fit .words,
+      loop .inv .1 .0 .seeking .fit .floats,
+      loop .inv .1 .0 .seeking .fit .turfs,
+      loop .inv .1 .0 .seeking .fit .links,
+      loop .inv .1 .0 .seeking .line .few,
+      c .before .before .before .before .before .before .queue-at .ensures,
+      c .before .before .before .before .loop-test .taken,
+    )
 
 seek-turf-requires : tie.Need-seek-turf-requires Inv-loop μ-loop
 seek-turf-requires c κs =
-    let entry = c .before .before .before .before .before .before .before .before .before .before .before .before .before in (
-      record { seeking = c .before .before .before .before .before .before .before .loop .inv .1 .0 .seeking; zone = entry .pre .0 .zone; row = entry .pre .0 .row },
-      (sym (c .before .before .before .before .settled .ensures) ∙ c .before .before .before .if1 .left, (seen-below _ _ _ _ _ _ (c .before .before .before .before .before .before .before .loop .inv .1 .0 .seeking) (c .before .before .before .before .before .before .loop-test .taken) _ (c .before .before .before .before .before .before .before .before .queue-at .ensures), (entry .pre .1 .0 .linked, entry .pre .1 .0 .links))),
+    let entry = c .before .before .before .before .before .before .before .before .before .before .before .before .before in
+    let loop = c .before .before .before .before .before .before .before .loop in (
+      record { seeking = loop .inv .1 .0 .seeking; zone = entry .pre .0 .zone; row = entry .pre .0 .row },
+      (
+        sym (c .before .before .before .before .settled .ensures) ∙ c .before .before .before .if1 .left,
+        (
+          seen-below _ _ _ _ _ _ (loop .inv .1 .0 .seeking) (c .before .before .before .before .before .before .loop-test .taken)
+              _ (c .before .before .before .before .before .before .before .before .queue-at .ensures),
+          (entry .pre .1 .0 .linked, entry .pre .1 .0 .links),
+        ),
+      ),
     )
 
 add-looked : tie.Need-add-looked Inv-loop μ-loop
-add-looked c = omega (arith, c .before .before .before .before .before .before .before .before .before .before .before .before .loop .inv .1 .0 .seeking .line .few, c .before .before .before .before .before .before .before .before .before .before .before .before .loop .inv .1 .0 .seeking .fit .turfs, c .before .before .before .before .before .before .before .before .before .before .before .loop-test .taken)
+add-looked c =
+    let loop = c .before .before .before .before .before .before .before .before .before .before .before .before .loop in
+    omega (arith, loop .inv .1 .0 .seeking .line .few, loop .inv .1 .0 .seeking .fit .turfs, c .before .before .before .before .before .before .before .before .before .before .before .loop-test .taken)
 
 loop-less : tie.Need-loop-less Inv-loop μ-loop
 loop-less c = omega (arith, c .before .before .before .before .before .before .before .before .before .before .before .before .loop .inv .1 .0 .seeking .line .few, c .before .before .before .before .before .before .before .before .before .before .before .loop-test .taken)
 
 loop-again : tie.Need-loop-again Inv-loop μ-loop
 loop-again c =
-    let entry = c .before .before .before .before .before .before .before .before .before .before .before .before .before .before .before .before .before .before in (
-      (c .before .before .before .before .seek-turf .kept .1 .1 .1 .1 .1 .0 ∙ c .before .before .before .before .before .before .before .before .before .before .before .before .loop .inv .0 .0, c .before .before .before .before .seek-turf .kept .1 .1 .1 .1 .1 .1 .0 ∙ c .before .before .before .before .before .before .before .before .before .before .before .before .loop .inv .0 .1),
+    let entry = c .before .before .before .before .before .before .before .before .before .before .before .before .before .before .before .before .before .before in
+    let queue-at = c .before .before .before .before .before .before .before .before .before .before .before .before .before .queue-at in
+    let loop = c .before .before .before .before .before .before .before .before .before .before .before .before .loop in
+    let loop-test = c .before .before .before .before .before .before .before .before .before .before .before .loop-test in
+    let seek-turf = c .before .before .before .before .seek-turf in (
+      (seek-turf .kept .1 .1 .1 .1 .1 .0 ∙ loop .inv .0 .0, seek-turf .kept .1 .1 .1 .1 .1 .1 .0 ∙ loop .inv .0 .1),
       (
-        trail-next _ _ (c .before .before .before .before .before .before .before .before .before .before .before .before .loop .inv .1 .0) (sought-as (c .before .before .before .before .seek-turf .ensures .sought) (links-are (boardOf (entry .args .rows .now) (entry .args .marks .now) (entry .args .gases)) (entry .args .hand .z) (entry .args .hand .side) (entry .args .hand .g) _))
-            (omega (arith, c .before .before .before .before .before .before .before .before .before .before .before .before .loop .inv .1 .0 .seeking .line .few, c .before .before .before .before .before .before .before .before .before .before .before .loop-test .taken))
-            (turn-on _ _ _ _ _ _ (c .before .before .before .before .before .before .before .before .before .before .before .before .loop .inv .1 .0 .seeking) (c .before .before .before .before .before .before .before .before .before .before .before .loop-test .taken) _ (c .before .before .before .before .before .before .before .before .before .before .before .before .before .queue-at .ensures) (boardOf (entry .args .rows .now) (entry .args .marks .now) (entry .args .gases)) _ _ _ (entry .pre .0 .row) (sym (c .before .before .before .before .before .before .before .before .before .settled .ensures) ∙ c .before .before .before .before .before .before .before .before .if1 .left)),
-        (c .before .before .before .before .seek-turf .ensures .met .keeps _ (links-lead (seen-below _ _ _ _ _ _ (c .before .before .before .before .before .before .before .before .before .before .before .before .loop .inv .1 .0 .seeking) (c .before .before .before .before .before .before .before .before .before .before .before .loop-test .taken) _ (c .before .before .before .before .before .before .before .before .before .before .before .before .before .queue-at .ensures))) (c .before .before .before .before .before .before .before .before .before .before .before .before .loop .inv .1 .1 .0), c .before .before .before .before .seek-turf .ensures .idle .keeps (c .before .before .before .before .before .before .before .before .before .before .before .before .loop .inv .1 .1 .1)),
+        trail-next _ _ (loop .inv .1 .0) (sought-as (seek-turf .ensures .sought) (links-are (boardOf (entry .args .rows .now) (entry .args .marks .now) (entry .args .gases))
+            (entry .args .hand .z) (entry .args .hand .side) (entry .args .hand .g) _))
+            (omega (arith, loop .inv .1 .0 .seeking .line .few, loop-test .taken))
+            (turn-on _ _ _ _ _ _ (loop .inv .1 .0 .seeking) (loop-test .taken) _ (queue-at .ensures) (boardOf (entry .args .rows .now) (entry .args .marks .now) (entry .args .gases))
+            _ _ _ (entry .pre .0 .row) (sym (c .before .before .before .before .before .before .before .before .before .settled .ensures) ∙ c .before .before .before .before .before .before .before .before .if1 .left)),
+        (
+          seek-turf .ensures .met .keeps _ (links-lead (seen-below _ _ _ _ _ _ (loop .inv .1 .0 .seeking) (loop-test .taken) _ (queue-at .ensures))) (loop .inv .1 .1 .0),
+          seek-turf .ensures .idle .keeps (loop .inv .1 .1 .1),
+        ),
       ),
     )
 

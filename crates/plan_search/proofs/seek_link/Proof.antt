@@ -54,17 +54,36 @@ returns-2 c =
     let entry = c .before .before .before .before .before .before .before .before .before .before .before in
     let hk : entry .args .k < entry .args .hand .e = omega (arith, entry .pre .1 .1 .within) in
     let ha = entry .pre .1 .1 .ends (entry .args .k) hk in (
-      record { sought = link-queued (entry .args .hand .side) (entry .args .hand .g) (entry .args .r) (entry .args .k) _ (entry .args .hand .z) _ _ _ _ _ (entry .pre .0 .seeking) hk (entry .pre .0 .row) ha _ _ (c .before .before .before .before .before .queue-at .ensures) (c .before .before .before .before .places-at .ensures) (c .before .before .before .before .before .before .if1 .left) (entry .pre .1 .0) (sym (c .if2 .taken) ∙ c .before .contains .ensures); met = keeps-none; idle = idle-none },
+      record {
+        sought = link-queued (entry .args .hand .side) (entry .args .hand .g) (entry .args .r) (entry .args .k) _ (entry .args .hand .z) _ _ _ _ _ (entry .pre .0 .seeking)
+            hk (entry .pre .0 .row) ha _ _ (c .before .before .before .before .before .queue-at .ensures) (c .before .before .before .before .places-at .ensures) (c .before .before .before .before .before .before .if1 .left)
+            (entry .pre .1 .0) (sym (c .if2 .taken) ∙ c .before .contains .ensures);
+        met = keeps-none;
+        idle = idle-none;
+      },
       sym (entry .pre .1 .0),
     )
 
 insert-requires : tie.Need-insert-requires
 insert-requires c κs =
     let entry = c .before .before .before .before .before .before .before .before .before .before .before .before in
+    let queue-at = c .before .before .before .before .before .before .queue-at in
+    let places-at = c .before .before .before .before .before .places-at in
     let hk : entry .args .k < entry .args .hand .e = omega (arith, entry .pre .1 .1 .within) in
     let ha = entry .pre .1 .1 .ends (entry .args .k) hk in
-    let l = link-room (entry .args .hand .side) (entry .args .hand .g) (entry .args .r) (entry .args .k) _ (entry .args .hand .z) _ _ _ _ _ (entry .pre .0 .seeking) hk (entry .pre .0 .row) ha _ _ (c .before .before .before .before .before .before .queue-at .ensures) (c .before .before .before .before .before .places-at .ensures) (c .before .before .before .before .before .before .before .if1 .left) (sym (c .before .if2 .left) ∙ c .before .before .contains .ensures) in
-    (omega (arith, l, c .before .before .before .before .before .before .queue-at .ensures, entry .pre .0 .seeking .fit .words), (omega (arith, l, c .before .before .before .before .before .places-at .ensures, entry .pre .0 .seeking .fit .words, ha), omega (arith, l, entry .pre .0 .seeking .fit .turfs)))
+    let l = link-room (entry .args .hand .side) (entry .args .hand .g) (entry .args .r) (entry .args .k) _ (entry .args .hand .z) _ _ _ _ _ (entry .pre .0 .seeking) hk
+    (entry .pre .0 .row) ha _ _ (queue-at .ensures) (places-at .ensures) (c .before .before .before .before .before .before .before .if1 .left) (sym (c .before .if2 .left)
+    ∙ c .before .before .contains .ensures) in (
+      omega (arith, l, queue-at .ensures, entry .pre .0 .seeking .fit .words),
+      (
+        omega (arith, l, places-at .ensures, entry .pre .0 .seeking .fit .words, ha),
+        omega (
+          arith,
+          l,
+          entry .pre .0 .seeking .fit .turfs,
+        ),
+      ),
+    )
 
 cast-row : tie.Need-cast-row
 cast-row c =
@@ -118,15 +137,30 @@ meet-requires : tie.Need-meet-requires
 meet-requires c κs =
     let entry = c .before .before .before .before .before .before .before .before .before .before .before .before .before .before .before .before .before in
     let hk : entry .args .k < entry .args .hand .e = omega (arith, entry .pre .1 .1 .within) in
-    let ha = entry .pre .1 .1 .ends (entry .args .k) hk in
-    (push-fit (entry .args .hand .side) (entry .args .hand .g) (entry .args .r) (entry .args .k) _ (entry .args .hand .z) _ _ _ _ _ (entry .pre .0 .seeking) hk (entry .pre .0 .row) ha _ _ (c .before .before .before .before .before .before .before .before .before .before .before .queue-at .ensures) (c .before .before .before .before .before .before .before .before .before .before .places-at .ensures) (c .before .before .before .before .before .before .before .before .before .before .before .before .if1 .left) (sym (c .before .before .before .before .before .before .if2 .left) ∙ c .before .before .before .before .before .before .before .contains .ensures) _ (c .before .before .before .before .insert .ensures), (entry .pre .0 .row, (ha, entry .pre .1 .1 .row)))
+    let ha = entry .pre .1 .1 .ends (entry .args .k) hk in (
+      push-fit (entry .args .hand .side) (entry .args .hand .g) (entry .args .r) (entry .args .k) _ (entry .args .hand .z) _ _ _ _ _ (entry .pre .0 .seeking) hk (entry .pre .0 .row)
+          ha _ _ (c .before .before .before .before .before .before .before .before .before .before .before .queue-at .ensures) (c .before .before .before .before .before .before .before .before .before .before .places-at .ensures)
+          (c .before .before .before .before .before .before .before .before .before .before .before .before .if1 .left) (sym (c .before .before .before .before .before .before .if2 .left)
+          ∙ c .before .before .before .before .before .before .before .contains .ensures) _ (c .before .before .before .before .insert .ensures),
+      (
+        entry .pre .0 .row,
+        (
+          ha,
+          entry .pre .1 .1 .row,
+        ),
+      ),
+    )
 
 add-t20 : tie.Need-add-t20
 add-t20 c =
     let entry = c .before .before .before .before .before .before .before .before .before .before .before .before .before .before .before .before .before .before .before .before .before .before in
     let hk : entry .args .k < entry .args .hand .e = omega (arith, entry .pre .1 .1 .within) in
     let ha = entry .pre .1 .1 .ends (entry .args .k) hk in
-    let l = link-room (entry .args .hand .side) (entry .args .hand .g) (entry .args .r) (entry .args .k) _ (entry .args .hand .z) _ _ _ _ _ (entry .pre .0 .seeking) hk (entry .pre .0 .row) ha _ _ (c .before .before .before .before .before .before .before .before .before .before .before .before .before .before .before .before .queue-at .ensures) (c .before .before .before .before .before .before .before .before .before .before .before .before .before .before .before .places-at .ensures) (c .before .before .before .before .before .before .before .before .before .before .before .before .before .before .before .before .before .if1 .left) (sym (c .before .before .before .before .before .before .before .before .before .before .before .if2 .left) ∙ c .before .before .before .before .before .before .before .before .before .before .before .before .contains .ensures) in
+    let l = link-room (entry .args .hand .side) (entry .args .hand .g) (entry .args .r) (entry .args .k) _ (entry .args .hand .z) _ _ _ _ _ (entry .pre .0 .seeking) hk
+    (entry .pre .0 .row) ha _ _ (c .before .before .before .before .before .before .before .before .before .before .before .before .before .before .before .before .queue-at .ensures)
+    (c .before .before .before .before .before .before .before .before .before .before .before .before .before .before .before .places-at .ensures) (c .before .before .before .before .before .before .before .before .before .before .before .before .before .before .before .before .before .if1 .left)
+    (sym (c .before .before .before .before .before .before .before .before .before .before .before .if2 .left) ∙ c .before .before .before .before .before .before .before .before .before .before .before .before .contains .ensures)
+    in
     omega (arith, l, entry .pre .0 .seeking .fit .turfs)
 
 first-traded-requires : tie.Need-first-traded-requires
@@ -157,14 +191,28 @@ returns-3 : tie.Need-returns-3
 unfolding along
 returns-3 c =
     let entry = c .before .before .before .before .before .before .before .before .before .before .before .before .before .before .before .before .before .before .before .before .before .before .before .before .before in
+    let if1 = c .before .before .before .before .before .before .before .before .before .before .before .before .before .before .before .before .before .before .before .before .if1 in
+    let queue-at = c .before .before .before .before .before .before .before .before .before .before .before .before .before .before .before .before .before .before .before .queue-at in
+    let places-at = c .before .before .before .before .before .before .before .before .before .before .before .before .before .before .before .before .before .before .places-at in
+    let contains = c .before .before .before .before .before .before .before .before .before .before .before .before .before .before .before .contains in
+    let if2 = c .before .before .before .before .before .before .before .before .before .before .before .before .before .before .if2 in
+    let insert = c .before .before .before .before .before .before .before .before .before .before .before .before .insert in
+    let meet = c .before .before .before .before .before .before .before .meet in
     let hk : entry .args .k < entry .args .hand .e = omega (arith, entry .pre .1 .1 .within) in
     let ha = entry .pre .1 .1 .ends (entry .args .k) hk in (
       record {
-        sought = link-new (entry .args .hand .side) (entry .args .hand .g) (entry .args .r) (entry .args .k) _ (entry .args .hand .z) _ _ _ _ _ (entry .pre .0 .seeking) hk (entry .pre .0 .row) ha _ _ (c .before .before .before .before .before .before .before .before .before .before .before .before .before .before .before .before .before .before .before .queue-at .ensures) (c .before .before .before .before .before .before .before .before .before .before .before .before .before .before .before .before .before .before .places-at .ensures) (c .before .before .before .before .before .before .before .before .before .before .before .before .before .before .before .before .before .before .before .before .if1 .left) (sym (c .before .before .before .before .before .before .before .before .before .before .before .before .before .before .if2 .left) ∙ c .before .before .before .before .before .before .before .before .before .before .before .before .before .before .before .contains .ensures) _ (c .before .before .before .before .before .before .before .before .before .before .before .before .insert .ensures) (c .before .before .before .before .before .before .before .meet .ensures .0) (entry .pre .1 .0);
-        met = link-keeps (entry .args .hand .side) (entry .args .hand .g) (entry .args .r) (entry .args .k) _ (entry .args .hand .z) _ _ _ _ _ (entry .pre .0 .seeking) hk (entry .pre .0 .row) ha _ _ (c .before .before .before .before .before .before .before .before .before .before .before .before .before .before .before .before .before .before .before .queue-at .ensures) (c .before .before .before .before .before .before .before .before .before .before .before .before .before .before .before .before .before .before .places-at .ensures) (c .before .before .before .before .before .before .before .before .before .before .before .before .before .before .before .before .before .before .before .before .if1 .left) (sym (c .before .before .before .before .before .before .before .before .before .before .before .before .before .before .if2 .left) ∙ c .before .before .before .before .before .before .before .before .before .before .before .before .before .before .before .contains .ensures) _ (c .before .before .before .before .before .before .before .before .before .before .before .before .insert .ensures) (c .before .before .before .before .before .before .before .meet .ensures .0) (entry .args .neighbours .now) refl;
-        idle = link-idle (entry .args .hand .side) (entry .args .hand .g) (entry .args .r) (entry .args .k) _ (entry .args .hand .z) _ _ _ _ _ (entry .pre .0 .seeking) hk (entry .pre .0 .row) ha _ _ (c .before .before .before .before .before .before .before .before .before .before .before .before .before .before .before .before .before .before .before .queue-at .ensures) (c .before .before .before .before .before .before .before .before .before .before .before .before .before .before .before .before .before .before .places-at .ensures) (c .before .before .before .before .before .before .before .before .before .before .before .before .before .before .before .before .before .before .before .before .if1 .left) (sym (c .before .before .before .before .before .before .before .before .before .before .before .before .before .before .if2 .left) ∙ c .before .before .before .before .before .before .before .before .before .before .before .before .before .before .before .contains .ensures) _ (c .before .before .before .before .before .before .before .before .before .before .before .before .insert .ensures) (c .before .before .before .before .before .before .before .meet .ensures .0) _ _ _ (c .before .before .before .before .before .before .before .meet .ensures .1) (c .before .before .first-traded .ensures);
+        sought = link-new (entry .args .hand .side) (entry .args .hand .g) (entry .args .r) (entry .args .k) _ (entry .args .hand .z) _ _ _ _ _ (entry .pre .0 .seeking) hk
+            (entry .pre .0 .row) ha _ _ (queue-at .ensures) (places-at .ensures) (if1 .left) (sym (if2 .left) ∙ contains .ensures) _ (insert .ensures) (meet .ensures .0) (entry .pre .1 .0);
+        met = link-keeps (entry .args .hand .side) (entry .args .hand .g) (entry .args .r) (entry .args .k) _ (entry .args .hand .z) _ _ _ _ _ (entry .pre .0 .seeking) hk
+            (entry .pre .0 .row) ha _ _ (queue-at .ensures) (places-at .ensures) (if1 .left) (sym (if2 .left) ∙ contains .ensures) _ (insert .ensures) (meet .ensures .0) (entry .args .neighbours .now)
+            refl;
+        idle = link-idle (entry .args .hand .side) (entry .args .hand .g) (entry .args .r) (entry .args .k) _ (entry .args .hand .z) _ _ _ _ _ (entry .pre .0 .seeking) hk
+            (entry .pre .0 .row) ha _ _ (queue-at .ensures) (places-at .ensures) (if1 .left) (sym (if2 .left) ∙ contains .ensures) _ (insert .ensures) (meet .ensures .0) _ _ _
+            (meet .ensures .1) (c .before .before .first-traded .ensures);
       },
-      link-open (entry .args .hand .side) (entry .args .hand .g) (entry .args .r) (entry .args .k) _ (entry .args .hand .z) _ _ _ _ _ (entry .pre .0 .seeking) hk (entry .pre .0 .row) ha _ _ (c .before .before .before .before .before .before .before .before .before .before .before .before .before .before .before .before .before .before .before .queue-at .ensures) (c .before .before .before .before .before .before .before .before .before .before .before .before .before .before .before .before .before .before .places-at .ensures) (c .before .before .before .before .before .before .before .before .before .before .before .before .before .before .before .before .before .before .before .before .if1 .left) (sym (c .before .before .before .before .before .before .before .before .before .before .before .before .before .before .if2 .left) ∙ c .before .before .before .before .before .before .before .before .before .before .before .before .before .before .before .contains .ensures) _ (c .before .before .before .before .before .before .before .before .before .before .before .before .insert .ensures) (c .before .before .before .before .before .before .before .meet .ensures .0) (entry .pre .1 .0) _ (c .before .before .before .before .before .before .before .meet .ensures .1) _ _ refl _ (c .settles .ensures),
+      link-open (entry .args .hand .side) (entry .args .hand .g) (entry .args .r) (entry .args .k) _ (entry .args .hand .z) _ _ _ _ _ (entry .pre .0 .seeking) hk (entry .pre .0 .row)
+          ha _ _ (queue-at .ensures) (places-at .ensures) (if1 .left) (sym (if2 .left) ∙ contains .ensures) _ (insert .ensures) (meet .ensures .0) (entry .pre .1 .0) _ (meet .ensures .1)
+          _ _ refl _ (c .settles .ensures),
     )
 
 pub seek-link-spec : {M : Type 1} → statement M

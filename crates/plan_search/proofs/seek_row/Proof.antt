@@ -28,36 +28,92 @@ pass-links-requires c κs =
 seek-link-requires : tie.Need-seek-link-requires Inv-loop μ-loop
 seek-link-requires c κs =
     let entry = c .before .before .before .before .before .before .before .before .before .before .before .before .before .before .before in
-    let t = row-passes (c .before .before .before .before .before .before .before .before .before .before .before .loop .inv .1) (entry .pre .0 .row) (c .before .before .before .before .before .before .before .before .before .before .before .loop .inv .0 .0) (c .before .before .before .before .before .before .before .pass-links .ensures .0) (c .before .before .before .before .before .before .before .pass-links .ensures .1 .0) (c .before .before .before .before .before .before .before .pass-links .ensures .1 .1) in
-    (record { seeking = t .on .seeking; zone = entry .pre .0 .zone; row = entry .pre .0 .row }, (t .unsettled, record { row = entry .pre .1 .1 .0 .row; all = entry .pre .1 .1 .0 .all; within = omega (arith, entry .pre .1 .1 .0 .within, c .before .before .if1 .taken); ends = entry .pre .1 .1 .0 .ends }))
+    let loop = c .before .before .before .before .before .before .before .before .before .before .before .loop in
+    let pass-links = c .before .before .before .before .before .before .before .pass-links in
+    let t = row-passes (loop .inv .1) (entry .pre .0 .row) (loop .inv .0 .0) (pass-links .ensures .0) (pass-links .ensures .1 .0) (pass-links .ensures .1 .1) in (
+      record { seeking = t .on .seeking; zone = entry .pre .0 .zone; row = entry .pre .0 .row },
+      (
+        t .unsettled,
+        record {
+          row = entry .pre .1 .1 .0 .row;
+          all = entry .pre .1 .1 .0 .all;
+          within = omega (arith, entry .pre .1 .1 .0 .within, c .before .before .if1 .taken);
+          ends = entry .pre .1 .1 .0 .ends;
+        },
+      ),
+    )
 
 add-k : tie.Need-add-k Inv-loop μ-loop
-add-k c = omega (arith, c .before .before .before .before .before .before .before .if1 .taken, c .before .before .before .before .before .before .before .before .before .before .before .before .before .before .before .before .before .before .before .before .pre .1 .1 .0 .within, c .before .before .before .before .before .before .before .before .before .before .before .before .before .before .before .before .before .before .before .before .pre .0 .seeking .fit .links)
+add-k c =
+    let entry = c .before .before .before .before .before .before .before .before .before .before .before .before .before .before .before .before .before .before .before .before in
+    omega (arith, c .before .before .before .before .before .before .before .if1 .taken, entry .pre .1 .1 .0 .within, entry .pre .0 .seeking .fit .links)
 
 same-length : tie.Need-same-length Inv-loop μ-loop
-same-length c = c .before .before .before .before .before .seek-link .kept .1 .1 .1 .1 .1 .0 ∙ c .before .before .before .before .before .before .before .before .before .before .before .before .before .pass-links .kept .1 .1 .1 .1 .1 .1 .0 ∙ c .before .before .before .before .before .before .before .before .before .before .before .before .before .before .before .before .before .loop .inv .0 .1 .1 .0
+same-length c =
+    c .before .before .before .before .before .seek-link .kept .1 .1 .1 .1 .1 .0 ∙ c .before .before .before .before .before .before .before .before .before .before .before .before .before .pass-links .kept .1 .1 .1 .1 .1 .1 .0
+    ∙ c .before .before .before .before .before .before .before .before .before .before .before .before .before .before .before .before .before .loop .inv .0 .1 .1 .0
 
 same-length-2 : tie.Need-same-length-2 Inv-loop μ-loop
-same-length-2 c = c .before .before .before .before .before .seek-link .kept .1 .1 .1 .1 .1 .1 .0 ∙ c .before .before .before .before .before .before .before .before .before .before .before .before .before .pass-links .kept .1 .1 .1 .1 .1 .1 .1 .0 ∙ c .before .before .before .before .before .before .before .before .before .before .before .before .before .before .before .before .before .loop .inv .0 .1 .1 .1
+same-length-2 c =
+    c .before .before .before .before .before .seek-link .kept .1 .1 .1 .1 .1 .1 .0 ∙ c .before .before .before .before .before .before .before .before .before .before .before .before .before .pass-links .kept .1 .1 .1 .1 .1 .1 .1 .0
+    ∙ c .before .before .before .before .before .before .before .before .before .before .before .before .before .before .before .before .before .loop .inv .0 .1 .1 .1
 
 returns : tie.Need-returns Inv-loop μ-loop
-returns c = let t = row-passes (c .before .before .before .before .before .before .before .before .before .before .before .before .before .before .before .before .before .loop .inv .1) (c .before .before .before .before .before .before .before .before .before .before .before .before .before .before .before .before .before .before .before .before .before .pre .0 .row) (c .before .before .before .before .before .before .before .before .before .before .before .before .before .before .before .before .before .loop .inv .0 .0) (c .before .before .before .before .before .before .before .before .before .before .before .before .before .pass-links .ensures .0) (c .before .before .before .before .before .before .before .before .before .before .before .before .before .pass-links .ensures .1 .0) (c .before .before .before .before .before .before .before .before .before .before .before .before .before .pass-links .ensures .1 .1) in
-    row-settled _ _ t (omega (arith, c .before .before .before .before .before .before .before .before .before .before .before .before .before .before .before .before .before .loop .inv .0 .0, c .before .before .before .before .before .before .before .before .before .before .before .before .before .pass-links .ensures .0)) (c .before .before .before .before .before .before .before .before .if1 .taken) (c .before .before .before .before .before .seek-link .ensures .0) (c .before .before .before .before .before .before .before .before .before .before .before .before .before .before .before .before .before .before .before .before .before .pre .0 .row) (sym (c .before .before .before .before .before .seek-link .ensures .1) ∙ c .if2 .taken)
+returns c =
+    let entry = c .before .before .before .before .before .before .before .before .before .before .before .before .before .before .before .before .before .before .before .before .before in
+    let loop = c .before .before .before .before .before .before .before .before .before .before .before .before .before .before .before .before .before .loop in
+    let pass-links = c .before .before .before .before .before .before .before .before .before .before .before .before .before .pass-links in
+    let seek-link = c .before .before .before .before .before .seek-link in
+    let t = row-passes (loop .inv .1) (entry .pre .0 .row) (loop .inv .0 .0) (pass-links .ensures .0) (pass-links .ensures .1 .0) (pass-links .ensures .1 .1) in
+    row-settled _ _ t (omega (arith, loop .inv .0 .0, pass-links .ensures .0)) (c .before .before .before .before .before .before .before .before .if1 .taken) (seek-link .ensures .0)
+    (entry .pre .0 .row) (sym (seek-link .ensures .1) ∙ c .if2 .taken)
 
 loop-less : tie.Need-loop-less Inv-loop μ-loop
 loop-less c = omega (arith, c .before .before .before .before .before .before .before .before .before .before .before .before .before .before .before .before .loop-test .taken, c .before .before .before .before .before .before .before .before .before .before .before .before .before .pass-links .ensures .0, c .before .before .before .before .before .before .before .before .if1 .taken)
 
 loop-again : tie.Need-loop-again Inv-loop μ-loop
-loop-again c = let t = row-passes (c .before .before .before .before .before .before .before .before .before .before .before .before .before .before .before .before .before .loop .inv .1) (c .before .before .before .before .before .before .before .before .before .before .before .before .before .before .before .before .before .before .before .before .before .pre .0 .row) (c .before .before .before .before .before .before .before .before .before .before .before .before .before .before .before .before .before .loop .inv .0 .0) (c .before .before .before .before .before .before .before .before .before .before .before .before .before .pass-links .ensures .0) (c .before .before .before .before .before .before .before .before .before .before .before .before .before .pass-links .ensures .1 .0) (c .before .before .before .before .before .before .before .before .before .before .before .before .before .pass-links .ensures .1 .1) in (
-  (omega (arith, c .before .before .before .before .before .before .before .before .before .before .before .before .before .before .before .before .before .loop .inv .0 .0, c .before .before .before .before .before .before .before .before .before .before .before .before .before .pass-links .ensures .0), (omega (arith, c .before .before .before .before .before .before .before .before .if1 .taken), (c .before .before .before .before .before .seek-link .kept .1 .1 .1 .1 .1 .0 ∙ c .before .before .before .before .before .before .before .before .before .before .before .before .before .pass-links .kept .1 .1 .1 .1 .1 .1 .0 ∙ c .before .before .before .before .before .before .before .before .before .before .before .before .before .before .before .before .before .loop .inv .0 .1 .1 .0, c .before .before .before .before .before .seek-link .kept .1 .1 .1 .1 .1 .1 .0 ∙ c .before .before .before .before .before .before .before .before .before .before .before .before .before .pass-links .kept .1 .1 .1 .1 .1 .1 .1 .0 ∙ c .before .before .before .before .before .before .before .before .before .before .before .before .before .before .before .before .before .loop .inv .0 .1 .1 .1))),
-  row-next t (omega (arith, c .before .before .before .before .before .before .before .before .before .before .before .before .before .before .before .before .before .loop .inv .0 .0, c .before .before .before .before .before .before .before .before .before .before .before .before .before .pass-links .ensures .0)) (c .before .before .before .before .before .before .before .before .if1 .taken) (c .before .before .before .before .before .seek-link .ensures .0) (sym (c .before .before .before .before .before .seek-link .ensures .1) ∙ c .if2 .left),
-)
+loop-again c =
+    let loop = c .before .before .before .before .before .before .before .before .before .before .before .before .before .before .before .before .before .loop in
+    let pass-links = c .before .before .before .before .before .before .before .before .before .before .before .before .before .pass-links in
+    let if1 = c .before .before .before .before .before .before .before .before .if1 in
+    let seek-link = c .before .before .before .before .before .seek-link in
+    let t = row-passes (loop .inv .1) (c .before .before .before .before .before .before .before .before .before .before .before .before .before .before .before .before .before .before .before .before .before .pre .0 .row)
+    (loop .inv .0 .0) (pass-links .ensures .0) (pass-links .ensures .1 .0) (pass-links .ensures .1 .1) in (
+      (
+        omega (arith, loop .inv .0 .0, pass-links .ensures .0),
+        (
+          omega (arith, if1 .taken),
+          (
+            seek-link .kept .1 .1 .1 .1 .1 .0 ∙ pass-links .kept .1 .1 .1 .1 .1 .1 .0 ∙
+                loop .inv .0 .1 .1 .0,
+            seek-link .kept .1 .1 .1 .1 .1 .1 .0 ∙ pass-links .kept .1 .1 .1 .1 .1 .1 .1 .0 ∙ loop .inv .0 .1 .1 .1,
+          ),
+        ),
+      ),
+      row-next t (omega (arith, loop .inv .0 .0, pass-links .ensures .0)) (if1 .taken) (seek-link .ensures .0) (sym (seek-link .ensures .1) ∙ c .if2 .left),
+    )
 
 loop-less-2 : tie.Need-loop-less-2 Inv-loop μ-loop
 loop-less-2 c = omega (arith, c .before .before .before .before .before .before .before .before .loop-test .taken, c .if1 .left)
 
 loop-again-2 : tie.Need-loop-again-2 Inv-loop μ-loop
-loop-again-2 c = ((omega (arith, c .before .before .before .before .before .before .before .before .before .loop .inv .0 .0, c .before .before .before .before .before .pass-links .ensures .0), (c .before .before .before .before .before .pass-links .ensures .1 .0, (c .before .before .before .before .before .pass-links .kept .1 .1 .1 .1 .1 .1 .0 ∙ c .before .before .before .before .before .before .before .before .before .loop .inv .0 .1 .1 .0, c .before .before .before .before .before .pass-links .kept .1 .1 .1 .1 .1 .1 .1 .0 ∙ c .before .before .before .before .before .before .before .before .before .loop .inv .0 .1 .1 .1))), row-passes (c .before .before .before .before .before .before .before .before .before .loop .inv .1) (c .before .before .before .before .before .before .before .before .before .before .before .before .before .pre .0 .row) (c .before .before .before .before .before .before .before .before .before .loop .inv .0 .0) (c .before .before .before .before .before .pass-links .ensures .0) (c .before .before .before .before .before .pass-links .ensures .1 .0) (c .before .before .before .before .before .pass-links .ensures .1 .1))
+loop-again-2 c =
+    let loop = c .before .before .before .before .before .before .before .before .before .loop in
+    let pass-links = c .before .before .before .before .before .pass-links in (
+      (
+        omega (arith, loop .inv .0 .0, pass-links .ensures .0),
+        (
+          pass-links .ensures .1 .0,
+          (
+            pass-links .kept .1 .1 .1 .1 .1 .1 .0 ∙ loop .inv .0 .1 .1 .0,
+            pass-links .kept .1 .1 .1 .1 .1 .1 .1 .0
+                ∙ loop .inv .0 .1 .1 .1,
+          ),
+        ),
+      ),
+      row-passes (loop .inv .1) (c .before .before .before .before .before .before .before .before .before .before .before .before .before .pre .0 .row)
+          (loop .inv .0 .0) (pass-links .ensures .0) (pass-links .ensures .1 .0) (pass-links .ensures .1 .1),
+    )
 
 same-length-3 : tie.Need-same-length-3 Inv-loop μ-loop
 same-length-3 c = c .before .loop .inv .0 .1 .1 .0

@@ -60,20 +60,32 @@ total-requires c κs =
     (rw (entry .pre .0 .mixtures-n) (now-below (entry .pre .1 .1) (onto-frame (c .before .before .loop .inv .1)) (c .before .before .loop .inv .0 .1 .0) _ (c .before .loop-test .taken)), entry .pre .0 .within _ (now-below (entry .pre .1 .1) (onto-frame (c .before .before .loop .inv .1)) (c .before .before .loop .inv .0 .1 .0) _ (c .before .loop-test .taken)))
 
 first-delta-requires : tie.Need-first-delta-requires Inv-loop μ-loop
-first-delta-requires c κs = (c .before .before .before .before .before .loop .inv .1 .fit, now-below (c .before .before .before .before .before .before .before .before .before .before .before .before .pre .1 .1) (onto-frame (c .before .before .before .before .before .loop .inv .1)) (c .before .before .before .before .before .loop .inv .0 .1 .0) _ (c .before .before .before .before .loop-test .taken))
+first-delta-requires c κs =
+    let loop = c .before .before .before .before .before .loop in (
+      loop .inv .1 .fit,
+      now-below (c .before .before .before .before .before .before .before .before .before .before .before .before .pre .1 .1) (onto-frame (loop .inv .1))
+          (loop .inv .0 .1 .0) _ (c .before .before .before .before .loop-test .taken),
+    )
 
 add-i : tie.Need-add-i Inv-loop μ-loop
-add-i c = omega (arith, c .before .before .before .before .before .before .before .before .before .loop-test .taken, c .before .before .before .before .before .before .before .before .before .before .before .before .before .before .before .before .before .pre .1 .1 .few, c .before .before .before .before .before .before .before .before .before .before .before .before .before .before .before .before .before .pre .1 .0 .turfs)
+add-i c =
+    let entry = c .before .before .before .before .before .before .before .before .before .before .before .before .before .before .before .before .before in
+    omega (arith, c .before .before .before .before .before .before .before .before .before .loop-test .taken, entry .pre .1 .1 .few, entry .pre .1 .0 .turfs)
 
 loop-less : tie.Need-loop-less Inv-loop μ-loop
 loop-less c = omega (arith, c .before .before .before .before .before .before .before .before .before .loop-test .taken)
 
 loop-again : tie.Need-loop-again Inv-loop μ-loop
 loop-again c =
-    let entry = c .before .before .before .before .before .before .before .before .before .before .before .before .before .before .before .before .before in (
-      (omega (arith, c .before .before .before .before .before .before .before .before .before .loop-test .taken), (c .before .before .before .before .first-delta .kept .1 .1 .1 .1 .0 ∙ c .before .before .before .before .before .before .before .before .before .before .loop .inv .0 .1 .0, c .before .before .before .before .first-delta .kept .1 .1 .1 .1 .1 .0 ∙ c .before .before .before .before .before .before .before .before .before .before .loop .inv .0 .1 .1)),
-      onto-next _ _ (c .before .before .before .before .before .before .before .before .before .before .loop .inv .1) (delta-set _ _ _ (c .before .before .before .before .before .before .before .total .ensures (boardOf (entry .args .rows .now) (entry .args .marks .now) (entry .args .gases)) refl refl) (c .before .before .before .before .first-delta .ensures))
-          (λ o p. walk-next (entry .pre .1 .1) (onto-frame (c .before .before .before .before .before .before .before .before .before .before .loop .inv .1)) (c .before .before .before .before .before .before .before .before .before .before .loop .inv .0 .1 .0) _ (c .before .before .before .before .before .before .before .before .before .loop-test .taken) (step (boardOf (entry .args .rows .now) (entry .args .marks .now) (entry .args .gases)) _ _) p),
+    let entry = c .before .before .before .before .before .before .before .before .before .before .before .before .before .before .before .before .before in
+    let loop = c .before .before .before .before .before .before .before .before .before .before .loop in
+    let loop-test = c .before .before .before .before .before .before .before .before .before .loop-test in
+    let first-delta = c .before .before .before .before .first-delta in (
+      (omega (arith, loop-test .taken), (first-delta .kept .1 .1 .1 .1 .0 ∙ loop .inv .0 .1 .0, first-delta .kept .1 .1 .1 .1 .1 .0 ∙ loop .inv .0 .1 .1)),
+      onto-next _ _ (loop .inv .1) (delta-set _ _ _ (c .before .before .before .before .before .before .before .total .ensures (boardOf (entry .args .rows .now) (entry .args .marks .now)
+          (entry .args .gases)) refl refl) (first-delta .ensures))
+          (λ o p. walk-next (entry .pre .1 .1) (onto-frame (loop .inv .1)) (loop .inv .0 .1 .0) _ (loop-test .taken) (step (boardOf (entry .args .rows .now) (entry .args .marks .now)
+          (entry .args .gases)) _ _) p),
     )
 
 same-length : tie.Need-same-length Inv-loop μ-loop

@@ -33,7 +33,9 @@ same-length-2 c = search needs
 returns : tie.Need-returns
 returns c =
     let entry = c .before .before .before .before .before .before .before .before .before .before .before .before .before .before .before in
-    pass-on (boardOf (entry .args .rows .now) (entry .args .marks .now) (entry .args .gases)) _ _ _ (entry .pre .1) (c .before .before .before .before .before .before .before .before .before .before .count-givers .ensures) (c .before .before .before .before .before .before .before .before .before .log2 .ensures) (c .before .before .before .before .before .before .before .before .if1 .taken) (c .before .before .before .before .before .before .before .if2 .taken) (c .before .before .before .before .fast-all .ensures)
+    pass-on (boardOf (entry .args .rows .now) (entry .args .marks .now) (entry .args .gases)) _ _ _ (entry .pre .1) (c .before .before .before .before .before .before .before .before .before .before .count-givers .ensures)
+    (c .before .before .before .before .before .before .before .before .before .log2 .ensures) (c .before .before .before .before .before .before .before .before .if1 .taken)
+    (c .before .before .before .before .before .before .before .if2 .taken) (c .before .before .before .before .fast-all .ensures)
 
 same-length-3 : tie.Need-same-length-3
 same-length-3 c = search needs

@@ -48,10 +48,15 @@ loop-less c = omega (arith, c .before .before .before .before .before .loop-test
 
 loop-again : tie.Need-loop-again Inv-loop μ-loop
 loop-again c =
-    let entry = c .before .before .before .before .before .before .before .before .before .before in (
-      (omega (arith, c .before .before .before .before .before .loop-test .taken), c .before .before .choose .kept .1 .1 .1 .1 .1 .0 ∙ c .before .before .before .before .before .before .loop .inv .0 .1),
-      picking-next _ _ (c .before .before .before .before .before .before .loop .inv .1) (rw (nodes-length (entry .pre .1)) (c .before .before .before .before .before .loop-test .taken)) _ (c .before .before .before .before .before .before .before .list-at .ensures) (omega (arith, c .before .before .before .before .before .before .loop .inv .1 .few, c .before .before .before .before .before .loop-test .taken, entry .pre .1 .few)) _
-          (pick-test (entry .pre .1) (entry .args .side) (c .before .before .before .before .before .before .loop .inv .1) (c .before .before .before .before .before .before .loop .inv .0 .1) (c .before .before .before .before .before .loop-test .taken)) _ (pick-row (entry .pre .1) (entry .args .side) (c .before .before .before .before .before .before .loop .inv .1) (c .before .before .before .before .before .before .loop .inv .0 .1) (c .before .before .before .before .before .loop-test .taken)) _ (c .before .before .choose .ensures .0) _ (c .before .before .choose .ensures .1),
+    let entry = c .before .before .before .before .before .before .before .before .before .before in
+    let loop = c .before .before .before .before .before .before .loop in
+    let loop-test = c .before .before .before .before .before .loop-test in
+    let choose = c .before .before .choose in (
+      (omega (arith, loop-test .taken), choose .kept .1 .1 .1 .1 .1 .0 ∙ loop .inv .0 .1),
+      picking-next _ _ (loop .inv .1) (rw (nodes-length (entry .pre .1)) (loop-test .taken)) _ (c .before .before .before .before .before .before .before .list-at .ensures)
+          (omega (arith, loop .inv .1 .few, loop-test .taken, entry .pre .1 .few)) _
+          (pick-test (entry .pre .1) (entry .args .side) (loop .inv .1) (loop .inv .0 .1) (loop-test .taken)) _ (pick-row (entry .pre .1) (entry .args .side) (loop .inv .1)
+          (loop .inv .0 .1) (loop-test .taken)) _ (choose .ensures .0) _ (choose .ensures .1),
     )
 
 same-length : tie.Need-same-length Inv-loop μ-loop

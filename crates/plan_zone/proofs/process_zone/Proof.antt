@@ -24,14 +24,16 @@ fast-pass-requires c κs =
 
 share-out-requires : tie.Need-share-out-requires
 share-out-requires c κs =
-    let entry = c .before .before .before .before .before .before .before .before .before .before .before .before .before .before .before .before .before .before .before in (
+    let entry = c .before .before .before .before .before .before .before .before .before .before .before .before .before .before .before .before .before .before .before in
+    let all-deltas = c .before .before .before .before .before .before .before .before .before .before .before .before .before .all-deltas in
+    let fast-pass = c .before .before .before .before .before .before .fast-pass in (
       record {
         sized = entry .pre .1 .0 .sized;
-        fit = c .before .before .before .before .before .before .fast-pass .ensures .fit;
+        fit = fast-pass .ensures .fit;
         zone = entry .pre .1 .0 .zone;
-        reverses = reverses-kept (reverses-kept (entry .pre .1 .0 .reverses) (does-frame (c .before .before .before .before .before .before .before .before .before .before .before .before .before .all-deltas .ensures))) (does-frame (c .before .before .before .before .before .before .fast-pass .ensures));
+        reverses = reverses-kept (reverses-kept (entry .pre .1 .0 .reverses) (does-frame (all-deltas .ensures))) (does-frame (fast-pass .ensures));
       },
-      nodes-kept (nodes-kept (entry .pre .1 .1) (does-frame (c .before .before .before .before .before .before .before .before .before .before .before .before .before .all-deltas .ensures)) (c .before .before .before .before .before .before .before .before .before .before .before .before .before .all-deltas .kept .1 .1 .1 .1 .1 .0)) (does-frame (c .before .before .before .before .before .before .fast-pass .ensures)) (c .before .before .before .before .before .before .fast-pass .kept .1 .1 .1 .1 .0),
+      nodes-kept (nodes-kept (entry .pre .1 .1) (does-frame (all-deltas .ensures)) (all-deltas .kept .1 .1 .1 .1 .1 .0)) (does-frame (fast-pass .ensures)) (fast-pass .kept .1 .1 .1 .1 .0),
     )
 
 same-length : tie.Need-same-length
@@ -43,7 +45,9 @@ same-length-2 c = search needs
 returns : tie.Need-returns
 returns c =
     let entry = c .before .before .before .before .before .before .before .before .before .before .before .before .before .before .before .before .before .before .before .before .before .before .before .before in
-    processed (boardOf (entry .args .rows .now) (entry .args .marks .now) (entry .args .gases)) _ _ (entry .args .zone .first) (entry .args .zone .count) _ _ _ (entry .pre .1 .1) (c .before .before .before .before .before .before .before .before .before .before .before .before .before .before .before .before .before .before .all-deltas .ensures) (c .before .before .before .before .before .before .before .before .before .before .before .fast-pass .ensures) (c .before .before .before .before .share-out .ensures)
+    processed (boardOf (entry .args .rows .now) (entry .args .marks .now) (entry .args .gases)) _ _ (entry .args .zone .first) (entry .args .zone .count) _ _ _ (entry .pre .1 .1)
+    (c .before .before .before .before .before .before .before .before .before .before .before .before .before .before .before .before .before .before .all-deltas .ensures)
+    (c .before .before .before .before .before .before .before .before .before .before .before .fast-pass .ensures) (c .before .before .before .before .share-out .ensures)
 
 pub process-zone-spec : {M : Type 1} → statement M
 process-zone-spec =

@@ -60,10 +60,15 @@ loop-less : tie.Need-loop-less Inv-loop μ-loop
 loop-less c = omega (arith, c .before .before .before .before .before .before .before .before .loop-test .taken)
 
 loop-again : tie.Need-loop-again Inv-loop μ-loop
-loop-again c = (
-  (omega (arith, c .before .before .before .before .before .before .before .before .loop-test .taken), (c .before .before .before .before .serve .kept .1 .1 .1 .1 .0 ∙ c .before .before .before .before .before .before .before .before .before .loop .inv .0 .1 .0, c .before .before .before .before .serve .kept .1 .1 .1 .1 .1 .0 ∙ c .before .before .before .before .before .before .before .before .before .loop .inv .0 .1 .1)),
-  along-next _ _ (c .before .before .before .before .before .before .before .before .before .loop .inv .1) (c .before .before .before .before .serve .ensures) (λ o p. list-next (c .before .before .before .before .before .before .before .before .before .before .before .before .before .pre .1 .0) (c .before .before .before .before .before .before .before .before .before .before .before .before .before .pre .1 .1) (c .before .before .before .before .before .before .before .before .before .loop .inv .1) _ (c .before .before .before .before .before .before .before .before .before .before .list-at .ensures) _ (c .before .before .before .before .before .before .before .before .loop-test .taken) _ p),
-)
+loop-again c =
+    let entry = c .before .before .before .before .before .before .before .before .before .before .before .before .before in
+    let loop = c .before .before .before .before .before .before .before .before .before .loop in
+    let loop-test = c .before .before .before .before .before .before .before .before .loop-test in
+    let serve′ = c .before .before .before .before .serve in (
+      (omega (arith, loop-test .taken), (serve′ .kept .1 .1 .1 .1 .0 ∙ loop .inv .0 .1 .0, serve′ .kept .1 .1 .1 .1 .1 .0 ∙ loop .inv .0 .1 .1)),
+      along-next _ _ (loop .inv .1) (serve′ .ensures) (λ o p. list-next (entry .pre .1 .0) (entry .pre .1 .1) (loop .inv .1) _ (c .before .before .before .before .before .before .before .before .before .before .list-at .ensures)
+          _ (loop-test .taken) _ p),
+    )
 
 same-length : tie.Need-same-length Inv-loop μ-loop
 same-length c = c .before .loop .inv .0 .1 .0

@@ -40,7 +40,9 @@ same-length-2 c = search needs
 returns : tie.Need-returns
 returns c =
     let entry = c .before .before .before .before .before .before .before .before .before .before .before .before .before .before .before .before .before .before in
-    shared-out (boardOf (entry .args .rows .now) (entry .args .marks .now) (entry .args .gases)) _ _ _ _ (entry .pre .1) (c .before .before .before .before .before .before .before .before .before .before .before .before .before .count-givers .ensures) (c .before .before .before .before .before .before .before .before .before .before .before .before .side-of .ensures) (c .before .before .before .before .before .before .before .before .before .gather .ensures) (c .before .before .before .before .serve-all .ensures)
+    shared-out (boardOf (entry .args .rows .now) (entry .args .marks .now) (entry .args .gases)) _ _ _ _ (entry .pre .1) (c .before .before .before .before .before .before .before .before .before .before .before .before .before .count-givers .ensures)
+    (c .before .before .before .before .before .before .before .before .before .before .before .before .side-of .ensures) (c .before .before .before .before .before .before .before .before .before .gather .ensures)
+    (c .before .before .before .before .serve-all .ensures)
 
 pub share-out-spec : {M : Type 1} → statement M
 share-out-spec =
