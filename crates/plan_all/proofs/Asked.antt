@@ -1,7 +1,7 @@
 -- What filling leaves on accepted tables is what planning asks for. Assumes nothing.
 use Prim.Native.Nat.{ℕ, _+_, _≤_}
 use native.Mathlib.Omega.{arith}
-use mathlib.Core.Path.{_≡_, refl}
+use mathlib.Core.Path.{refl}
 use mathlib.Core.List.{List}
 use lib.Dec.{T}
 use lib.ListN.{length}

@@ -3,7 +3,7 @@ use Prim.Native.Nat.{ℕ, _+_, _-_, _≤_, _<_}
 use native.Mathlib.Omega.{arith}
 use mathlib.Core.Path.{_≡_, ap, ap₂, _∙_, sym, subst}
 use mathlib.Core.List.{List, map}
-use lib.ListN.{length, take, drop, length-drop, length-map}
+use lib.ListN.{length, drop, length-drop, length-map}
 use lib.Seq.{length-take-le}
 use lib.Ieee.{Float}
 use Rattle.basics.specs.Loops.{run, upFrom}
@@ -14,7 +14,7 @@ use Rattle.board_rules.specs.Board.{Board, turfCount, linkCount}
 use Rattle.turfs.proofs.Line.{Line, line-short}
 use Rattle.index_set.specs.Line.{Below}
 use Rattle.index_set.proofs.Queue.{all-below}
-use Rattle.flood_fill.specs.Held.{sizes, nodesAt}
+use Rattle.flood_fill.specs.Held.{sizes}
 use Rattle.process_zone.specs.Plan.{planZone}
 use Rattle.finalize_eq.specs.Turns.{Zone, zoneAt}
 use Rattle.equalize.specs.Equalize.{Filled, planAll}

@@ -18,7 +18,7 @@ use Rattle.board_rules.specs.Board.{Board, turfCount, linkCount}
 use Rattle.process_zone.specs.Plan.{Plan, planZone}
 use Rattle.flood_fill.specs.Held.{sizes, startsAt, nodesAt}
 use Rattle.finalize_eq.specs.Turns.{Zone, zoneAt}
-use Rattle.equalize.specs.Equalize.{Filled, planAll}
+use Rattle.equalize.specs.Equalize.{planAll}
 use Rattle.reverse_links.specs.Reverse.{Reverses}
 use Rattle.reverse_links.specs.Words.{Outside, But}
 use Rattle.plan_state.specs.Held.{Area, area, wsizes, fsizes, viewIn, View, view, Fit, Frame, top, nodesOf}

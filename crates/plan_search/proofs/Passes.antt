@@ -16,7 +16,7 @@ use Rattle.plan_state.proofs.Stores.{does-as, delta-at}
 use Rattle.plan_trade.specs.Search.{Seeking, seekOf, Sought, Passes}
 use Rattle.plan_trade.specs.Steps.{point, along}
 use Rattle.plan_trade.proofs.Trades.{meet-none}
-use Rattle.plan_search.proofs.Seeks.{sought-none, keeps-none, idle-none, idle-then, link-foreign, link-queued, link-seeking, link-new, link-keeps, link-idle, link-deltas}
+use Rattle.plan_trade.proofs.Seeks.{sought-none, keeps-none, idle-none, idle-then, link-foreign, link-queued, link-seeking, link-new, link-keeps, link-idle, link-deltas}
 use Rattle.plan_search.proofs.Rows.{leaves-then, keeps-within, keeps-then}
 
 -- ---- a link

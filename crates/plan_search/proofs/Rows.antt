@@ -19,7 +19,7 @@ use Rattle.plan_trade.specs.Search.{Seeking, seekOf, Leaves, Sought, Leads, Kee
 use Rattle.plan_trade.specs.Steps.{along}
 use Rattle.plan_search.specs.Hands.{Open, alongAll, Goes}
 use Rattle.plan_search.specs.declared.Hand.{Hand}
-use Rattle.plan_search.proofs.Seeks.{leaves-none, keeps-none, idle-none, idle-then, to-settled}
+use Rattle.plan_trade.proofs.Seeks.{leaves-none, keeps-none, idle-none, idle-then, to-settled}
 
 -- ---- in a loop: what is left to do, f, from here on comes to what the whole, f₀, comes to from the start
 

@@ -1,7 +1,7 @@
 -- The loop's invariant: the givers counted and those left are all givers. Assumes nothing.
-use Prim.Native.Nat.{ℕ, _≤_, _<_, _-_, _+_}
+use Prim.Native.Nat.{_≤_, _-_, _+_}
 use native.Mathlib.Omega.{arith}
-use mathlib.Core.Path.{_≡_, refl, _∙_, sym}
+use mathlib.Core.Path.{_≡_, _∙_, sym}
 use lib.ListN.{length, drop, getD}
 use lib.Ieee.{nan}
 use Rattle.basics.specs.Loops.{keep}

@@ -1,11 +1,11 @@
 -- One link of a search: a new row joins the queue with its place and its link, and is met. Assumes nothing.
-use Prim.Native.Nat.{ℕ, zero, suc, _+_, _-_, _≤_, _<_}
+use Prim.Native.Nat.{ℕ, _+_, _-_, _≤_, _<_}
 use native.Mathlib.Omega.{arith}
 use native.Mathlib.Decide.{ℕ-discrete}
-use mathlib.Core.Path.{_≡_, refl, ap, ap₂, _∙_, sym, subst}
+use mathlib.Core.Path.{_≡_, refl, ap, _∙_, sym, subst}
 use mathlib.Core.Logic.{_≢_}
-use mathlib.Core.List.{List, [], _∷_}
-use mathlib.Core.Bool.{Bool, true, false, _||_, cond}
+use mathlib.Core.List.{List, []}
+use mathlib.Core.Bool.{Bool, true, false, cond}
 use lib.Dec.{eqb}
 use lib.ListN.{length, getD, set, take, drop, length-set}
 use lib.Seq.{getD-take, getD-set-same, getD-set-other, length-take-le}
@@ -14,17 +14,17 @@ use borrow.Author.Tests.{eq-eqb, ne-eqb}
 use Rattle.basics.specs.Floats.{0f}
 use Rattle.basics.specs.Loops.{member, snoc}
 use Rattle.basics.specs.Regions.{cut}
-use Rattle.basics.proofs.Regions.{cut-set, cut-length, region-part}
+use Rattle.basics.proofs.Regions.{cut-set, region-part}
 use Rattle.process_zone.specs.Plan.{Plan, Seek, settled, wants, meet, seekTo}
 use Rattle.process_zone.specs.declared.Side.{Side}
 use Rattle.index_set.specs.Line.{Line, array, Holds}
 use Rattle.index_set.proofs.Queue.{not-member, count-below, take-more, line-more}
 use Rattle.plan_state.specs.Held.{Area, area, wsizes, fsizes, View, viewIn, view, Fit, onPlan, Does}
 use Rattle.plan_state.proofs.Stores.{frame-none, owner-at, delta-at, direction-length, via-length, amount-length, paired, via-view}
 use Rattle.plan_trade.specs.Search.{Seeking, seekOf, Leaves, Sought, Leads, Met, AllMet, KeepsMet, Idle, KeepsIdle}
 use Rattle.plan_trade.specs.Steps.{lesser, point}
 use Rattle.plan_trade.proofs.Lessers.{lesser-left, lesser-right}
 use Rattle.plan_trade.proofs.Trades.{meet-none, meet-direction, meet-others, meet-here}
 
 pub leaves-none : {n e : ℕ} {a : Area} → Leaves n e a a
 leaves-none = record { frame = frame-none; list = refl }
