@@ -11,7 +11,7 @@ use Rattle.board_rules.specs.Refuse.{linksFit}
 use Rattle.turfs.specs.Tables.{Accepted}
 use Rattle.lent_rules.specs.Lent.{wordsRoom, floatsRoom}
 use Rattle.fill_zone.proofs.Boards.{gas-holds}
-use Rattle.equalize.specs.Equalize.{Ask, fillAll}
+use Rattle.equalize_rules.specs.Equalize.{Ask, fillAll}
 use Rattle.equalize.proofs.Zones.{zone-has}
 use Rattle.fill_all.specs.Held.{FillsAll}
 use Rattle.fill_all.specs.declared.Filling.{Filling}

@@ -15,9 +15,9 @@ use Rattle.turfs.proofs.Line.{Line, line-short}
 use Rattle.index_set.specs.Line.{Below}
 use Rattle.index_set.proofs.Queue.{all-below}
 use Rattle.flood_fill.specs.Held.{sizes}
-use Rattle.process_zone.specs.Plan.{planZone}
-use Rattle.finalize_eq.specs.Turns.{Zone, zoneAt}
-use Rattle.equalize.specs.Equalize.{Filled, planAll}
+use Rattle.plan_rules.specs.Plan.{planZone}
+use Rattle.finish_rules.specs.Turns.{Zone, zoneAt}
+use Rattle.equalize_rules.specs.Equalize.{Filled, planAll}
 use Rattle.plan_state.specs.Held.{area, view}
 use Rattle.plan_all.specs.Zones.{zoneOf, startOf, Room, Zoned, blank, PlansAll}
 use Rattle.plan_all.proofs.Plans.{zone-is}

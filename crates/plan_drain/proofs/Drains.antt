@@ -15,8 +15,8 @@ use Rattle.basics.specs.declared.Spot.the-variants.{At}
 use Rattle.basics.specs.Lists.{All, Found}
 use Rattle.basics.proofs.Loops.{run-back, run-back-end}
 use Rattle.basics.proofs.Regions.{cut-length}
-use Rattle.process_zone.specs.Plan.{Plan, load}
-use Rattle.process_zone.specs.declared.MonstermosInfo.{MonstermosInfo}
+use Rattle.plan_rules.specs.Plan.{Plan, load}
+use Rattle.plan_rules.specs.declared.MonstermosInfo.{MonstermosInfo}
 use Rattle.plan_state.specs.Held.{Area, area, wsizes, View, view, Fit, Does}
 use Rattle.plan_state.specs.Steps.{backLink, adjustAt}
 use Rattle.plan_state.proofs.Stores.{does-as, does-then, does-none, amount-at, amount-set, via-at, queue-at, reverse-at}

@@ -17,9 +17,9 @@ use Rattle.basics.specs.Lists.{All}
 use Rattle.basics.proofs.Loops.{run-both, run-keep}
 use Rattle.basics.proofs.Regions.{region-part}
 use Rattle.board_rules.specs.Board.{Board, end, linksOf}
-use Rattle.process_zone.specs.Edges.{edgesOf, edge, adjust}
-use Rattle.process_zone.specs.Plan.{Plan, load, store, reweigh, withDelta, countOf, eligible, fastMove, fastTurf}
-use Rattle.process_zone.specs.declared.MonstermosInfo.{MonstermosInfo}
+use Rattle.plan_rules.specs.Edges.{edgesOf, edge, adjust}
+use Rattle.plan_rules.specs.Plan.{Plan, load, store, reweigh, withDelta, countOf, eligible, fastMove, fastTurf}
+use Rattle.plan_rules.specs.declared.MonstermosInfo.{MonstermosInfo}
 use Rattle.reverse_links.specs.Reverse.{InRow, Linked, Reverses}
 use Rattle.plan_state.specs.Held.{Area, area, wsizes, View, view, Does}
 use Rattle.plan_state.specs.Steps.{backLink, adjustAt}

@@ -8,8 +8,8 @@ use lib.ListN.{getD, set, take}
 use lib.Ieee.{Float, nan}
 use Rattle.basics.specs.Loops.{run, upFrom, member}
 use Rattle.basics.proofs.Loops.{run-suc, run-up-end}
-use Rattle.process_zone.specs.Plan.{Seek, settled, wants, meet}
-use Rattle.process_zone.specs.declared.Side.{Side}
+use Rattle.plan_rules.specs.Plan.{Seek, settled, wants, meet}
+use Rattle.plan_rules.specs.declared.Side.{Side}
 use Rattle.index_set.specs.Line.{array}
 use Rattle.plan_state.specs.Held.{Area, area, view, Does}
 use Rattle.plan_state.proofs.Stores.{does-as, delta-at}

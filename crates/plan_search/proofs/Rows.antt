@@ -10,9 +10,9 @@ use lib.Ieee.{Float, nan}
 use Rattle.basics.specs.Loops.{run, upFrom}
 use Rattle.basics.proofs.Loops.{run-append, run-keep, run-up, run-up-end, up-append, run-still, All-any}
 use Rattle.board_rules.specs.Board.{Board, linksOf}
-use Rattle.process_zone.specs.Edges.{edgesOf}
-use Rattle.process_zone.specs.Plan.{Seek, settled, seekTo, seekLink}
-use Rattle.process_zone.specs.declared.Side.{Side}
+use Rattle.plan_rules.specs.Edges.{edgesOf}
+use Rattle.plan_rules.specs.Plan.{Seek, settled, seekTo, seekLink}
+use Rattle.plan_rules.specs.declared.Side.{Side}
 use Rattle.plan_state.specs.Held.{Area, area, view}
 use Rattle.plan_state.proofs.Stores.{frame-then, delta-at}
 use Rattle.plan_trade.specs.Search.{Seeking, seekOf, Leaves, Sought, Leads, KeepsMet, KeepsIdle, Passes}

@@ -12,9 +12,9 @@ use borrow.Author.Tests.{lt-ltb, le-ltb}
 use Rattle.basics.specs.Loops.{run, times}
 use Rattle.basics.proofs.Loops.{times-still}
 use Rattle.board_rules.specs.Board.{Board}
-use Rattle.process_zone.specs.Edges.{edgesOf}
-use Rattle.process_zone.specs.Plan.{Seek, settled, seekLink, seekRow, seekNext}
-use Rattle.process_zone.specs.declared.Side.{Side}
+use Rattle.plan_rules.specs.Edges.{edgesOf}
+use Rattle.plan_rules.specs.Plan.{Seek, settled, seekLink, seekRow, seekNext}
+use Rattle.plan_rules.specs.declared.Side.{Side}
 use Rattle.index_set.proofs.Queue.{Below-at}
 use Rattle.plan_state.specs.Held.{Area, area, view}
 use Rattle.plan_state.proofs.Stores.{queue-at, delta-at}

@@ -18,10 +18,10 @@ use Rattle.basics.specs.Lists.{All}
 use Rattle.basics.proofs.Loops.{run-both}
 use Rattle.basics.proofs.Regions.{cut-set, cut-length}
 use Rattle.board_rules.specs.Board.{Board, turfCount}
-use Rattle.process_zone.specs.Edges.{edge, adjust}
-use Rattle.process_zone.specs.Plan.{Plan, Seek, load, store, reweigh, withAmount, drainTo, drain, serve, seekNext}
-use Rattle.process_zone.specs.declared.MonstermosInfo.{MonstermosInfo}
-use Rattle.process_zone.specs.declared.Side.{Side}
+use Rattle.plan_rules.specs.Edges.{edge, adjust}
+use Rattle.plan_rules.specs.Plan.{Plan, Seek, load, store, reweigh, withAmount, drainTo, drain, serve, seekNext}
+use Rattle.plan_rules.specs.declared.MonstermosInfo.{MonstermosInfo}
+use Rattle.plan_rules.specs.declared.Side.{Side}
 use Rattle.index_set.specs.Line.{Below, Apart, Line}
 use Rattle.index_set.proofs.Queue.{take-more, line-more}
 use Rattle.reverse_links.specs.Reverse.{Linked, Reverses}

@@ -13,7 +13,7 @@ use Rattle.basics.specs.declared.Spot.the-variants.{At, Nowhere}
 use Rattle.basics.specs.Lists.{Found}
 use Rattle.basics.proofs.Loops.{first-found, first-passes}
 use Rattle.board_rules.specs.Board.{Board, end, linksOf}
-use Rattle.process_zone.specs.Edges.{owned, edge}
+use Rattle.plan_rules.specs.Edges.{owned, edge}
 use Rattle.reverse_links.proofs.Firsts.{first-none, first-only, first-nowhere, up-all}
 use Rattle.reverse_links.specs.Reverse.{InRow, Linked, reverseOf, wordOf, Reverses}
 use Rattle.plan_state.specs.Steps.{ownedBy, backLink}

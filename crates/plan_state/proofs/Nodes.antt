@@ -9,7 +9,7 @@ use Rattle.basics.specs.Loops.{run}
 use Rattle.basics.proofs.Regions.{cut-rest}
 use Rattle.basics.proofs.Loops.{run-at, run-stop}
 use Rattle.board_rules.specs.Board.{Board}
-use Rattle.process_zone.specs.Plan.{Plan}
+use Rattle.plan_rules.specs.Plan.{Plan}
 use Rattle.index_set.proofs.Queue.{Below-at}
 use Rattle.reverse_links.specs.Reverse.{Reverses}
 use Rattle.plan_state.specs.Held.{Area, wsizes, View, view, Fit, onPlan, Does, Frame, top, Nodes, nodesOf}

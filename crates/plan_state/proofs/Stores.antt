@@ -8,8 +8,8 @@ use lib.Seq.{set-getD}
 use lib.Ieee.{Float, nan}
 use Rattle.basics.specs.Regions.{cut, region}
 use Rattle.basics.proofs.Regions.{cut-set, cut-get, cut-length}
-use Rattle.process_zone.specs.Plan.{Plan, store, load, withDelta, withAmount}
-use Rattle.process_zone.specs.declared.MonstermosInfo.{MonstermosInfo}
+use Rattle.plan_rules.specs.Plan.{Plan, store, load, withDelta, withAmount}
+use Rattle.plan_rules.specs.declared.MonstermosInfo.{MonstermosInfo}
 use Rattle.plan_state.specs.Held.{Area, area, wsizes, fsizes, View, viewIn, view, Fit, onPlan, Does, Frame}
 use Rattle.plan_state.proofs.Pairs.{firsts-get, seconds-get, firsts-set, seconds-set, firsts-keep, seconds-keep, firsts-length, seconds-length}
 

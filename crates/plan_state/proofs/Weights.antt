@@ -17,9 +17,9 @@ use Rattle.basics.specs.declared.Spot.{Spot}
 use Rattle.basics.specs.declared.Spot.the-variants.{At, Nowhere}
 use Rattle.basics.specs.Lists.{Found}
 use Rattle.basics.proofs.Regions.{cut-set, cut-get}
-use Rattle.process_zone.specs.Edges.{alter}
-use Rattle.process_zone.specs.Plan.{reweigh}
-use Rattle.process_zone.proofs.Sizes.{alter-size}
+use Rattle.plan_rules.specs.Edges.{alter}
+use Rattle.plan_rules.specs.Plan.{reweigh}
+use Rattle.plan_laws.proofs.Sizes.{alter-size}
 use Rattle.plan_state.specs.Held.{area, wsizes, fsizes, viewIn, view, Fit, Does}
 use Rattle.plan_state.specs.Steps.{ownedBy, backLink, adjustAt}
 

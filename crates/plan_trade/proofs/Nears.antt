@@ -12,9 +12,9 @@ use lib.Seq.{getD-set-other, getD-append-seam}
 use borrow.Author.Tests.{ltb-true}
 use Rattle.basics.specs.Loops.{run, times, member, snoc}
 use Rattle.board_rules.specs.Board.{Board, end}
-use Rattle.process_zone.specs.Edges.{edgesOf}
-use Rattle.process_zone.specs.Plan.{Seek, stopped, meet, seekTo, seekLink, seekRow, seekNext}
-use Rattle.process_zone.specs.declared.Side.{Side}
+use Rattle.plan_rules.specs.Edges.{edgesOf}
+use Rattle.plan_rules.specs.Plan.{Seek, stopped, meet, seekTo, seekLink, seekRow, seekNext}
+use Rattle.plan_rules.specs.declared.Side.{Side}
 use Rattle.index_set.proofs.Queue.{not-member}
 use Rattle.plan_trade.proofs.Trades.{meet-direction}
 

@@ -15,8 +15,8 @@ use Rattle.basics.specs.Floats.{0f}
 use Rattle.basics.specs.Loops.{member, snoc}
 use Rattle.basics.specs.Regions.{cut}
 use Rattle.basics.proofs.Regions.{cut-set, region-part}
-use Rattle.process_zone.specs.Plan.{Plan, Seek, settled, wants, meet, seekTo}
-use Rattle.process_zone.specs.declared.Side.{Side}
+use Rattle.plan_rules.specs.Plan.{Plan, Seek, settled, wants, meet, seekTo}
+use Rattle.plan_rules.specs.declared.Side.{Side}
 use Rattle.index_set.specs.Line.{Line, array, Holds}
 use Rattle.index_set.proofs.Queue.{not-member, count-below, take-more, line-more}
 use Rattle.plan_state.specs.Held.{Area, area, wsizes, fsizes, View, viewIn, view, Fit, onPlan, Does}

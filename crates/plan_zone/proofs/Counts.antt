@@ -9,8 +9,8 @@ use lib.ListN.{length, getD, drop, drop-of-length-le}
 use lib.Seq.{drop-cons}
 use lib.Ieee.{Float, nan}
 use Rattle.basics.specs.Loops.{keep, consIf}
-use Rattle.process_zone.specs.Plan.{Plan, gives, picks, chosen}
-use Rattle.process_zone.specs.declared.Side.the-variants.{Giving, Taking}
+use Rattle.plan_rules.specs.Plan.{Plan, gives, picks, chosen}
+use Rattle.plan_rules.specs.declared.Side.the-variants.{Giving, Taking}
 use Rattle.plan_state.specs.Held.{Area, area, view, Nodes, nodesOf}
 use Rattle.plan_state.proofs.Stores.{delta-at}
 use Rattle.plan_state.proofs.Nodes.{nodes-length, node-at, node-below}

@@ -14,9 +14,9 @@ use Rattle.basics.specs.Regions.{cut}
 use Rattle.basics.proofs.Regions.{cut-set, cut-length}
 use Rattle.basics.proofs.Loops.{run-at, run-stop}
 use Rattle.board_rules.specs.Board.{Board}
-use Rattle.process_zone.specs.Plan.{Plan, picks, chosen, serve, fastTurf, log2, fastPass, shareOut}
-use Rattle.process_zone.specs.declared.Side.{Side}
-use Rattle.process_zone.specs.declared.Side.the-variants.{Giving, Taking}
+use Rattle.plan_rules.specs.Plan.{Plan, picks, chosen, serve, fastTurf, log2, fastPass, shareOut}
+use Rattle.plan_rules.specs.declared.Side.{Side}
+use Rattle.plan_rules.specs.declared.Side.the-variants.{Giving, Taking}
 use Rattle.index_set.specs.Line.{Below}
 use Rattle.index_set.proofs.Queue.{Below-at}
 use Rattle.plan_state.specs.Held.{Area, area, wsizes, fsizes, View, viewIn, view, Fit, Does, Frame, Serves, Nodes, nodesOf}

@@ -10,7 +10,7 @@ use Rattle.lent_rules.specs.Lent.{Lent}
 use Rattle.lent.specs.Given.{lent}
 use Rattle.fill_all.specs.Held.{asked}
 use Rattle.fill_all.proofs.Asked.{fill-asks}
-use Rattle.equalize.specs.Equalize.{Ask}
+use Rattle.equalize_rules.specs.Equalize.{Ask}
 use Rattle.equalize_call.proofs.Calls.{fills, filled}
 use Rattle.equalize_call.proofs.accepted.Statement.{statement}
 use Rattle.equalize_call.proofs.accepted.Tie as tie

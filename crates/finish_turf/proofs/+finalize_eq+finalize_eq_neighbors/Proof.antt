@@ -4,7 +4,7 @@ use native.Mathlib.Omega.{arith}
 use lib.ListN.{length, take}
 use denote.Ref.{now}
 use borrow.Author.Needs.{needs}
-use Rattle.finalize_eq.specs.Lifted.{pending}
+use Rattle.finish_rules.specs.Lifted.{pending}
 use Rattle.turfs.specs.Tables.{boardOf, table}
 use Rattle.finish_send.specs.Areas.{areas}
 use Rattle.finish_turf.proofs.Turf.{links-room, clear-room, saved-size, quiet-finishes, lifted-going, sent-finishes, fell, givers-begun, rest-going, rest-finishes}

@@ -5,7 +5,7 @@ use mathlib.Core.Path.{_≡_, refl, _∙_}
 use lib.ListN.{length, drop}
 use Rattle.basics.specs.Loops.{run}
 use Rattle.turfs.specs.Tables.{boardOf}
-use Rattle.process_zone.specs.Plan.{fastTurf}
+use Rattle.plan_rules.specs.Plan.{fastTurf}
 use Rattle.plan_state.specs.Held.{area, view, nodesOf}
 use Rattle.plan_state.proofs.Nodes.{Onto, onto-start, onto-next, onto-end, onto-frame, reverses-kept, now-below, walk-next, walk-end}
 use Rattle.plan_fast.proofs.fast_all.Statement.{statement}

@@ -4,7 +4,7 @@ use native.Mathlib.Omega.{arith}
 use mathlib.Core.Path.{_≡_, refl, _∙_, sym}
 use lib.ListN.{length}
 use Rattle.turfs.specs.Tables.{table, boardOf}
-use Rattle.process_zone.specs.Plan.{seekNext}
+use Rattle.plan_rules.specs.Plan.{seekNext}
 use Rattle.plan_state.specs.Held.{area, view}
 use Rattle.plan_trade.specs.Search.{AllMet, Idle}
 use Rattle.plan_search.proofs.Rows.{sought-as, links-are, links-lead}

@@ -4,7 +4,7 @@ use native.Mathlib.Omega.{arith}
 use mathlib.Core.Path.{_≡_, refl, _∙_}
 use lib.ListN.{length, getD}
 use lib.Ieee.{nan}
-use Rattle.process_zone.specs.Plan.{picks}
+use Rattle.plan_rules.specs.Plan.{picks}
 use Rattle.plan_state.specs.Held.{area, view, nodesOf}
 use Rattle.plan_state.proofs.Nodes.{nodes-length}
 use Rattle.plan_zone.proofs.Lists.{Picking, picking-start, picking-next, picking-end, pick-row, pick-below, pick-test}

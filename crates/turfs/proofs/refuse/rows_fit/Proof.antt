@@ -61,8 +61,11 @@ row-fits-requires c κs = search needs
 
 returns : tie.Need-returns Inv-loop μ-loop
 returns c =
-    let s = c .before .before .before .before .before .before .before .before .args in
-    sym (every-up-fails _ _ _ (c .before .before .before .before .loop-test .taken) (row-test (boardOf (now (s .rows)) [] 0) (c .before .before .before .before .before .loop .row) (c .before .before .before .links-of .result .from) (c .before .before .before .links-of .result .to) _ (c .before .row-fits .ensures) (c .before .before .before .links-of .ensures .0) (c .before .before .before .links-of .ensures .1) ∙ not-true _ (c .if1 .taken))) ∙ c .before .before .before .before .before .loop .inv .1
+    let entry = c .before .before .before .before .before .before .before .before in
+    let loop = c .before .before .before .before .before .loop in
+    let links-of = c .before .before .before .links-of in
+    let s = entry .args in
+    sym (every-up-fails _ _ _ (c .before .before .before .before .loop-test .taken) (row-test (boardOf (now (s .rows)) [] 0) (loop .row) (links-of .result .from) (links-of .result .to) _ (c .before .row-fits .ensures) (links-of .ensures .0) (links-of .ensures .1) ∙ not-true _ (c .if1 .taken))) ∙ loop .inv .1
 
 add-row : tie.Need-add-row Inv-loop μ-loop
 add-row c = search needs
