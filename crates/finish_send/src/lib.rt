@@ -51,7 +51,9 @@ fn side(above: bool, x: f32) -> bool
 
 // Zone `zone` owns the link k, whose float from `base` on is above 0, or below it.
 fn marked(k: usize, zone: u32, base: usize, above: bool, words: &[u32], floats: &[f32]) -> bool
-    requires { ⌜ (zone < 4096) × ((k < length (now words)) × (base + k < length (now floats))) ⌝ }
+    requires { ⌜ zone < 4096 ⌝ }
+    requires { ⌜ k < length (now words) ⌝ }
+    requires { ⌜ base + k < length (now floats) ⌝ }
     ensures { λ r. ⌜ r ≡ isMarked (now (words .entry)) (now (floats .entry)) zone base above k ⌝ }
 {
     if words[k] != zone + 1 {
@@ -70,7 +72,10 @@ pub fn next_edge(
     words: &[u32],
     floats: &[f32],
 ) -> usize
-    requires { ⌜ (zone < 4096) × ((k ≤ to) × ((to ≤ length (now words)) × (base + to ≤ length (now floats)))) ⌝ }
+    requires { ⌜ zone < 4096 ⌝ }
+    requires { ⌜ k ≤ to ⌝ }
+    requires { ⌜ to ≤ length (now words) ⌝ }
+    requires { ⌜ base + to ≤ length (now floats) ⌝ }
     ensures { λ r. ⌜ Next (isMarked (now (words .entry)) (now (floats .entry)) zone base above) k to r ⌝ }
 {
     let mut i = k;
@@ -85,7 +90,9 @@ pub fn next_edge(
 
 // The weight of the link k copied, where the zone owns it.
 fn save_at(k: usize, zone: u32, up: usize, words: &[u32], floats: &mut [f32])
-    requires { ⌜ (zone < 4096) × ((k < length (now words)) × (up + k < length (now floats))) ⌝ }
+    requires { ⌜ zone < 4096 ⌝ }
+    requires { ⌜ k < length (now words) ⌝ }
+    requires { ⌜ up + k < length (now floats) ⌝ }
     ensures { λ _. ⌜ now (floats .exit) ≡ saveAt (now (words .entry)) zone up k (now (floats .entry)) ⌝ }
 {
     if words[k] != zone + 1 {
@@ -96,7 +103,10 @@ fn save_at(k: usize, zone: u32, up: usize, words: &[u32], floats: &mut [f32])
 
 // The weights of the zone's edges from one link up to another copied.
 pub fn save(from: usize, to: usize, zone: u32, up: usize, words: &[u32], floats: &mut [f32])
-    requires { ⌜ (zone < 4096) × ((from ≤ to) × ((to ≤ length (now words)) × (up + to ≤ length (now floats)))) ⌝ }
+    requires { ⌜ zone < 4096 ⌝ }
+    requires { ⌜ from ≤ to ⌝ }
+    requires { ⌜ to ≤ length (now words) ⌝ }
+    requires { ⌜ up + to ≤ length (now floats) ⌝ }
     ensures { λ _. ⌜ now (floats .exit) ≡ run (saveAt (now (words .entry)) zone up) (upFrom from (to - from)) (now (floats .entry)) ⌝ }
 {
     let mut k = from;
@@ -108,7 +118,9 @@ pub fn save(from: usize, to: usize, zone: u32, up: usize, words: &[u32], floats:
 
 // 0 left in the weight of the link k, where the zone owns it.
 fn clear_own(k: usize, zone: u32, words: &[u32], floats: &mut [f32])
-    requires { ⌜ (zone < 4096) × ((k < length (now words)) × (k < length (now floats))) ⌝ }
+    requires { ⌜ zone < 4096 ⌝ }
+    requires { ⌜ k < length (now words) ⌝ }
+    requires { ⌜ k < length (now floats) ⌝ }
     ensures { λ _. ⌜ now (floats .exit) ≡ zeroAt (now (words .entry)) zone k (now (floats .entry)) ⌝ }
 {
     if words[k] != zone + 1 {
@@ -119,7 +131,10 @@ fn clear_own(k: usize, zone: u32, words: &[u32], floats: &mut [f32])
 
 // 0 left in the weights of the zone's edges from one link up to another.
 pub fn clear_weights(from: usize, to: usize, zone: u32, words: &[u32], floats: &mut [f32])
-    requires { ⌜ (zone < 4096) × ((from ≤ to) × ((to ≤ length (now words)) × (to ≤ length (now floats)))) ⌝ }
+    requires { ⌜ zone < 4096 ⌝ }
+    requires { ⌜ from ≤ to ⌝ }
+    requires { ⌜ to ≤ length (now words) ⌝ }
+    requires { ⌜ to ≤ length (now floats) ⌝ }
     ensures { λ _. ⌜ now (floats .exit) ≡ run (zeroAt (now (words .entry)) zone) (upFrom from (to - from)) (now (floats .entry)) ⌝ }
 {
     let mut k = from;

@@ -50,7 +50,9 @@ fn take_out(p: usize, count: usize, live: usize, words: &mut [u32])
 
 // No node of the zone had its turn; where it has nodes, it is the next of the unfinished zones, whose number is answered.
 fn start_zone(zone: usize, count: usize, cursor: usize, n: usize, words: &mut [u32]) -> usize
-    requires { ⌜ Laid n cursor (now words) zone × ((count ≤ zone) × (n ≤ 4096)) ⌝ }
+    requires { ⌜ Laid n cursor (now words) zone ⌝ }
+    requires { ⌜ count ≤ zone ⌝ }
+    requires { ⌜ n ≤ 4096 ⌝ }
     ensures { λ r. ⌜ StartsZone n cursor zone count r (now (words .entry)) (now (words .exit)) ⌝ }
 {
     words[cursor + zone] = 0;

@@ -36,7 +36,9 @@ pub fn contains(a: u32, count: usize, n: usize, queue: usize, places: usize, wor
 
 // The row a joins the `count` rows of the set.
 pub fn insert(a: u32, count: usize, queue: usize, places: usize, words: &mut [u32])
-    requires { ⌜ (queue + count < length (now words)) × ((places + a < length (now words)) × (count < 4096)) ⌝ }
+    requires { ⌜ queue + count < length (now words) ⌝ }
+    requires { ⌜ places + a < length (now words) ⌝ }
+    requires { ⌜ count < 4096 ⌝ }
     ensures { λ _. ⌜ now (words .exit) ≡ set (set (now (words .entry)) (queue + count) a) (places + a) count ⌝ }
 {
     words[queue + count] = a;
