@@ -1,0 +1,39 @@
+-- The call's own promise. Assumes nothing.
+use borrow.Author.Needs.{needs}
+use Rattle.answers.specs.Answers.{equalizeNumbers}
+use Rattle.katmos.proofs.Results.{answers}
+use Rattle.katmos.proofs.katmos_equalize.Statement.{statement}
+use Rattle.katmos.proofs.katmos_equalize.Tie as tie
+
+equalize-requires : tie.Need-equalize-requires
+equalize-requires c κs = search needs
+
+equalize-numbers-requires : tie.Need-equalize-numbers-requires
+equalize-numbers-requires c κs = search needs
+
+same-length : tie.Need-same-length
+same-length c = search needs
+
+same-length-2 : tie.Need-same-length-2
+same-length-2 c = search needs
+
+same-length-3 : tie.Need-same-length-3
+same-length-3 c = search needs
+
+same-length-4 : tie.Need-same-length-4
+same-length-4 c = search needs
+
+returns : tie.Need-returns
+returns c = answers equalizeNumbers _ _ _ (c .before .before .before .before .before .before .before .before .before .equalize .ensures) (c .equalize-numbers .ensures)
+
+pub katmos-equalize-spec : {M : Type 1} → statement M
+katmos-equalize-spec =
+    tie.close
+    (tie.spec
+    equalize-requires
+    equalize-numbers-requires
+    same-length
+    same-length-2
+    same-length-3
+    same-length-4
+    returns)
