@@ -3,9 +3,24 @@
 // is printed too.
 use fill_rules::Settings;
 use libc::STDOUT_FILENO;
-use turfs::{Marks, Rows};
+use turfs::Marks;
+use turfs::Rows;
+use vectors::Case;
+use vectors::Vector;
+use vectors::amount_of;
+use vectors::case_of;
+use vectors::further;
+use vectors::held;
+use vectors::lend_events;
+use vectors::lend_floats;
+use vectors::lend_words;
+use vectors::nan_bits;
+use vectors::number_at;
+use vectors::put_amounts;
+use vectors::put_bytes;
+use vectors::span_at;
 use vectors::text;
-use vectors::{Case, Vector, amount_of, case_of, further, held, lend_events, lend_floats, lend_words, nan_bits, number_at, put_amounts, put_bytes, span_at, torn};
+use vectors::torn;
 
 // Equalizes as is asked from a place on, and looks at every cell.
 fn equalize(
@@ -45,8 +60,25 @@ fn equalize(
         floats,
         events,
     );
-    let answer = [a.number, a.cancelled, a.processed, a.tests, a.zones, a.apart, a.bytes];
-    held(1, numbers, further(turns_to, 3), &answer, gas, words, floats, events)
+    let answer = [
+        a.number,
+        a.cancelled,
+        a.processed,
+        a.tests,
+        a.zones,
+        a.apart,
+        a.bytes,
+    ];
+    held(
+        1,
+        numbers,
+        further(turns_to, 3),
+        &answer,
+        gas,
+        words,
+        floats,
+        events,
+    )
 }
 
 // Depressurizes as is asked from a place on, and looks at every cell.
@@ -65,7 +97,16 @@ fn depressurize(
     let limit = number_at(numbers, further(asked, 1));
     let a = depressurize::depressurize(id, limit, rows, marks, gases, gas, words, floats, events);
     let answer = [a.number, a.outcome, a.bytes];
-    held(2, numbers, further(asked, 2), &answer, gas, words, floats, events)
+    held(
+        2,
+        numbers,
+        further(asked, 2),
+        &answer,
+        gas,
+        words,
+        floats,
+        events,
+    )
 }
 
 // Walks to a planet as is asked from a place on, and looks at every cell.
@@ -84,7 +125,16 @@ fn planet_walk(
     let limit = number_at(numbers, further(asked, 1));
     let a = planet_walk::planet_walk(id, limit, rows, marks, gases, gas, words, floats, events);
     let answer = [a.number, a.bytes];
-    held(3, numbers, further(asked, 2), &answer, gas, words, floats, events)
+    held(
+        3,
+        numbers,
+        further(asked, 2),
+        &answer,
+        gas,
+        words,
+        floats,
+        events,
+    )
 }
 
 // Makes the call of a case, whose numbers are here as bytes too.
@@ -127,9 +177,39 @@ fn make(
     ];
     let call = c.call;
     match call {
-        1 => equalize(numbers, c.asked, &rows, &marks, c.gases, gas, words, floats, events),
-        2 => depressurize(numbers, c.asked, &rows, &marks, c.gases, gas, words, floats, events),
-        3 => planet_walk(numbers, c.asked, &rows, &marks, c.gases, gas, words, floats, events),
+        1 => equalize(
+            numbers,
+            c.asked,
+            &rows,
+            &marks,
+            c.gases,
+            gas,
+            words,
+            floats,
+            events,
+        ),
+        2 => depressurize(
+            numbers,
+            c.asked,
+            &rows,
+            &marks,
+            c.gases,
+            gas,
+            words,
+            floats,
+            events,
+        ),
+        3 => planet_walk(
+            numbers,
+            c.asked,
+            &rows,
+            &marks,
+            c.gases,
+            gas,
+            words,
+            floats,
+            events,
+        ),
         _ => torn(call),
     }
 }

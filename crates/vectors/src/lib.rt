@@ -4,6 +4,14 @@
 // A place in a vector only grows, and one beyond the numbers stays beyond: one test of the last place shows that nothing is missing.
 pub mod text;
 
+ghost use mathlib.Core.Path.{_≡_};
+ghost use Prim.Native.Nat.{_%_, _≤_};
+ghost use lib.ListN.{length};
+ghost use lib.Ieee.{nan};
+ghost use Rattle.vectors.specs.Vectors.{onward, number, Stands, Reads, Expects};
+ghost use Rattle.vectors.specs.Cells.{wordBefore, floatBefore, eventBefore, nanPattern, amount, hasBits, Follows, after, eventAfter, tornVector};
+ghost use Rattle.vectors.specs.Cells.{sameAnswer, sameGas, sameEvents, sameWords, sameFloats, sameResults, met, Inside, Held};
+
 // A list's elements: the first one, and the place behind the last.
 pub struct Span {
     pub from: usize,
@@ -49,7 +57,9 @@ pub struct Vector {
 }
 
 // A place so much further on; the last one of all where there is none.
-pub fn further(at: usize, by: usize) -> usize {
+pub fn further(at: usize, by: usize) -> usize
+    ensures { λ r. ⌜ (r ≡ onward at by) × (at ≤ r) ⌝ }
+{
     if 0xffff_ffff_ffff_ffff - at < by {
         return 0xffff_ffff_ffff_ffff;
     }
@@ -57,7 +67,9 @@ pub fn further(at: usize, by: usize) -> usize {
 }
 
 // The number that stands at a place; 0 where there is none.
-pub fn number_at(numbers: &[u32], at: usize) -> u32 {
+pub fn number_at(numbers: &[u32], at: usize) -> u32
+    ensures { λ r. ⌜ r ≡ number (now (numbers .entry)) at ⌝ }
+{
     if at < numbers.len() {
         return numbers[at];
     }
@@ -65,14 +77,18 @@ pub fn number_at(numbers: &[u32], at: usize) -> u32 {
 }
 
 // The list that stands at a place: its length, then its elements.
-pub fn span_at(numbers: &[u32], at: usize) -> Span {
+pub fn span_at(numbers: &[u32], at: usize) -> Span
+    ensures { λ r. ⌜ Stands (now (numbers .entry)) at r ⌝ }
+{
     let from = further(at, 1);
     let to = further(from, number_at(numbers, at) as usize);
     Span { from, to }
 }
 
 // The case that a vector begins with.
-pub fn case_of(numbers: &[u32]) -> Case {
+pub fn case_of(numbers: &[u32]) -> Case
+    ensures { λ r. ⌜ Reads (now (numbers .entry)) r ⌝ }
+{
     let ids = span_at(numbers, 1);
     let flags = span_at(numbers, ids.to);
     let planetary = span_at(numbers, flags.to);
@@ -102,12 +118,16 @@ pub fn case_of(numbers: &[u32]) -> Case {
 }
 
 // Whether these are the bits of a NaN.
-pub fn nan_bits(bits: u32) -> bool {
+pub fn nan_bits(bits: u32) -> bool
+    ensures { λ r. ⌜ r ≡ nanPattern bits ⌝ }
+{
     0x7f80_0000 < bits % 0x8000_0000
 }
 
 // The amount with these bits; one NaN is as good as another.
-pub fn amount_of(bits: u32) -> f32 {
+pub fn amount_of(bits: u32) -> f32
+    ensures { λ r. ⌜ r ≡ amount bits ⌝ }
+{
     if 0x7f80_0000 < bits % 0x8000_0000 {
         return 0.0 / 0.0;
     }
@@ -115,7 +135,9 @@ pub fn amount_of(bits: u32) -> f32 {
 }
 
 // Whether an amount has these bits.
-fn has_bits(x: f32, bits: u32) -> bool {
+fn has_bits(x: f32, bits: u32) -> bool
+    ensures { λ r. ⌜ r ≡ hasBits x bits ⌝ }
+{
     if x == x {
         return f32::to_bits(x) == bits;
     }
@@ -123,7 +145,9 @@ fn has_bits(x: f32, bits: u32) -> bool {
 }
 
 // Makes bytes of numbers.
-pub fn put_bytes(numbers: &[u32], bytes: &mut [u8]) {
+pub fn put_bytes(numbers: &[u32], bytes: &mut [u8])
+    ensures { λ _. ⌜ Follows (now (bytes .exit)) 0 (λ i. number (now (numbers .entry)) i % 256) ⌝ }
+{
     let mut i = 0;
     while i < bytes.len() {
         bytes[i] = (number_at(numbers, i) % 256) as u8;
@@ -132,7 +156,9 @@ pub fn put_bytes(numbers: &[u32], bytes: &mut [u8]) {
 }
 
 // Makes amounts of numbers.
-pub fn put_amounts(numbers: &[u32], gas: &mut [f32]) {
+pub fn put_amounts(numbers: &[u32], gas: &mut [f32])
+    ensures { λ _. ⌜ Follows (now (gas .exit)) nan (λ i. amount (number (now (numbers .entry)) i)) ⌝ }
+{
     let mut i = 0;
     while i < gas.len() {
         gas[i] = amount_of(number_at(numbers, i));
@@ -141,22 +167,30 @@ pub fn put_amounts(numbers: &[u32], gas: &mut [f32]) {
 }
 
 // What a scratch word holds before a call.
-fn word_before(i: usize) -> u32 {
+fn word_before(i: usize) -> u32
+    ensures { λ r. ⌜ r ≡ wordBefore i ⌝ }
+{
     ((i % 0x1_0000_0000 * 2_654_435_761 + 1) % 0x1_0000_0000) as u32
 }
 
 // The bits that a scratch float holds before a call.
-fn float_before(i: usize) -> u32 {
+fn float_before(i: usize) -> u32
+    ensures { λ r. ⌜ r ≡ floatBefore i ⌝ }
+{
     (0x3f00_0000 + i % 65536) as u32
 }
 
 // What a byte of the event area holds before a call.
-fn event_before(i: usize) -> u8 {
+fn event_before(i: usize) -> u8
+    ensures { λ r. ⌜ r ≡ eventBefore i ⌝ }
+{
     ((i % 256 * 31 + 7) % 256) as u8
 }
 
 // Fills the scratch words.
-pub fn lend_words(words: &mut [u32]) {
+pub fn lend_words(words: &mut [u32])
+    ensures { λ _. ⌜ Follows (now (words .exit)) 0 wordBefore ⌝ }
+{
     let mut i = 0;
     while i < words.len() {
         words[i] = word_before(i);
@@ -165,7 +199,9 @@ pub fn lend_words(words: &mut [u32]) {
 }
 
 // Fills the scratch floats.
-pub fn lend_floats(floats: &mut [f32]) {
+pub fn lend_floats(floats: &mut [f32])
+    ensures { λ _. ⌜ Follows (now (floats .exit)) nan (λ i. amount (floatBefore i)) ⌝ }
+{
     let mut i = 0;
     while i < floats.len() {
         floats[i] = amount_of(float_before(i));
@@ -174,7 +210,9 @@ pub fn lend_floats(floats: &mut [f32]) {
 }
 
 // Fills the event area.
-pub fn lend_events(events: &mut [u8]) {
+pub fn lend_events(events: &mut [u8])
+    ensures { λ _. ⌜ Follows (now (events .exit)) 0 eventBefore ⌝ }
+{
     let mut i = 0;
     while i < events.len() {
         events[i] = event_before(i);
@@ -183,7 +221,9 @@ pub fn lend_events(events: &mut [u8]) {
 }
 
 // What a scratch word holds after a call that clears so many.
-fn word_after(zeros: usize, i: usize) -> u32 {
+fn word_after(zeros: usize, i: usize) -> u32
+    ensures { λ r. ⌜ r ≡ after zeros i (wordBefore i) ⌝ }
+{
     if i < zeros {
         return 0;
     }
@@ -191,7 +231,9 @@ fn word_after(zeros: usize, i: usize) -> u32 {
 }
 
 // The bits that a scratch float holds after a call that clears so many.
-fn float_after(zeros: usize, i: usize) -> u32 {
+fn float_after(zeros: usize, i: usize) -> u32
+    ensures { λ r. ⌜ r ≡ after zeros i (floatBefore i) ⌝ }
+{
     if i < zeros {
         return 0;
     }
@@ -199,7 +241,9 @@ fn float_after(zeros: usize, i: usize) -> u32 {
 }
 
 // What a byte of the event area holds after a call that writes these.
-fn event_after(written: &[u32], i: usize) -> u32 {
+fn event_after(written: &[u32], i: usize) -> u32
+    ensures { λ r. ⌜ r ≡ eventAfter (now (written .entry)) i ⌝ }
+{
     if i < written.len() {
         return written[i];
     }
@@ -207,7 +251,9 @@ fn event_after(written: &[u32], i: usize) -> u32 {
 }
 
 // Whether the answer is what is expected.
-fn same_answer(expected: &[u32], answer: &[u32]) -> bool {
+fn same_answer(expected: &[u32], answer: &[u32]) -> bool
+    ensures { λ r. ⌜ r ≡ sameAnswer (now (expected .entry)) (now (answer .entry)) ⌝ }
+{
     let mut i = 0;
     while i < answer.len() {
         if answer[i] != number_at(expected, i) {
@@ -219,7 +265,9 @@ fn same_answer(expected: &[u32], answer: &[u32]) -> bool {
 }
 
 // Whether the amounts are what is expected.
-fn same_gas(expected: &[u32], gas: &[f32]) -> bool {
+fn same_gas(expected: &[u32], gas: &[f32]) -> bool
+    ensures { λ r. ⌜ r ≡ sameGas (now (expected .entry)) (now (gas .entry)) ⌝ }
+{
     let mut i = 0;
     while i < gas.len() {
         if !has_bits(gas[i], number_at(expected, i)) {
@@ -231,12 +279,16 @@ fn same_gas(expected: &[u32], gas: &[f32]) -> bool {
 }
 
 // A byte as a number.
-fn wide(b: u8) -> u32 {
+fn wide(b: u8) -> u32
+    ensures { λ r. ⌜ r ≡ b ⌝ }
+{
     b as u32
 }
 
 // Whether the event area begins with the bytes expected, and goes on as it was.
-fn same_events(expected: &[u32], events: &[u8]) -> bool {
+fn same_events(expected: &[u32], events: &[u8]) -> bool
+    ensures { λ r. ⌜ r ≡ sameEvents (now (expected .entry)) (now (events .entry)) ⌝ }
+{
     let mut i = 0;
     while i < events.len() {
         if wide(events[i]) != event_after(expected, i) {
@@ -248,7 +300,9 @@ fn same_events(expected: &[u32], events: &[u8]) -> bool {
 }
 
 // Whether so many words from the first are 0, and the others what they were.
-fn same_words(zeros: usize, words: &[u32]) -> bool {
+fn same_words(zeros: usize, words: &[u32]) -> bool
+    ensures { λ r. ⌜ r ≡ sameWords zeros (now (words .entry)) ⌝ }
+{
     let mut i = 0;
     while i < words.len() {
         if words[i] != word_after(zeros, i) {
@@ -260,7 +314,9 @@ fn same_words(zeros: usize, words: &[u32]) -> bool {
 }
 
 // Whether so many floats from the first are 0, and the others what they were.
-fn same_floats(zeros: usize, floats: &[f32]) -> bool {
+fn same_floats(zeros: usize, floats: &[f32]) -> bool
+    ensures { λ r. ⌜ r ≡ sameFloats zeros (now (floats .entry)) ⌝ }
+{
     let mut i = 0;
     while i < floats.len() {
         if !has_bits(floats[i], float_after(zeros, i)) {
@@ -272,7 +328,9 @@ fn same_floats(zeros: usize, floats: &[f32]) -> bool {
 }
 
 // A vector that isn't whole, or has no room.
-pub fn torn(call: u32) -> Vector {
+pub fn torn(call: u32) -> Vector
+    ensures { λ r. ⌜ r ≡ tornVector call ⌝ }
+{
     Vector {
         call,
         number: 0,
@@ -283,7 +341,9 @@ pub fn torn(call: u32) -> Vector {
 }
 
 // Where what is expected stands from a place on.
-fn due_at(numbers: &[u32], at: usize) -> Due {
+fn due_at(numbers: &[u32], at: usize) -> Due
+    ensures { λ r. ⌜ Expects (now (numbers .entry)) at r ⌝ }
+{
     let answer = span_at(numbers, at);
     let gas = span_at(numbers, answer.to);
     let events = span_at(numbers, gas.to);
@@ -297,16 +357,11 @@ fn due_at(numbers: &[u32], at: usize) -> Due {
     }
 }
 
-// Whether the scratch is what is expected.
-fn same_scratch(due: Due, words: &[u32], floats: &[f32]) -> bool {
-    if !same_words(due.words, words) {
-        return false;
-    }
-    same_floats(due.floats, floats)
-}
-
 // Whether the answer, the gas and the events are what is expected.
-fn same_results(due: Due, numbers: &[u32], answer: &[u32], gas: &[f32], events: &[u8]) -> bool {
+fn same_results(due: Due, numbers: &[u32], answer: &[u32], gas: &[f32], events: &[u8]) -> bool
+    requires { ⌜ Inside due (length (now numbers)) ⌝ }
+    ensures { λ r. ⌜ r ≡ sameResults due (now (numbers .entry)) (now (answer .entry)) (now (gas .entry)) (now (events .entry)) ⌝ }
+{
     let answer_from = due.answer.from;
     let answer_to = due.answer.to;
     if !same_answer(&numbers[answer_from..answer_to], answer) {
@@ -322,6 +377,28 @@ fn same_results(due: Due, numbers: &[u32], answer: &[u32], gas: &[f32], events: 
     same_events(&numbers[events_from..events_to], events)
 }
 
+// Whether all cells are what is expected.
+fn meets(
+    due: Due,
+    numbers: &[u32],
+    answer: &[u32],
+    gas: &[f32],
+    words: &[u32],
+    floats: &[f32],
+    events: &[u8],
+) -> bool
+    requires { ⌜ Inside due (length (now numbers)) ⌝ }
+    ensures { λ r. ⌜ r ≡ met (now (numbers .entry)) (now (answer .entry)) (now (gas .entry)) (now (words .entry)) (now (floats .entry)) (now (events .entry)) due ⌝ }
+{
+    if !same_words(due.words, words) {
+        return false;
+    }
+    if !same_floats(due.floats, floats) {
+        return false;
+    }
+    same_results(due, numbers, answer, gas, events)
+}
+
 // A call's answer and the lent cells, held to what is expected from a place on.
 pub fn held(
     call: u32,
@@ -332,20 +409,18 @@ pub fn held(
     words: &[u32],
     floats: &[f32],
     events: &[u8],
-) -> Vector {
+) -> Vector
+    ensures { λ r. ⌜ Held (now (numbers .entry)) (now (answer .entry)) (now (gas .entry)) (now (words .entry)) (now (floats .entry)) (now (events .entry)) call expected r ⌝ }
+{
     let due = due_at(numbers, expected);
     if numbers.len() < due.next {
         return torn(call);
-    }
-    let mut met = same_scratch(due, words, floats);
-    if met {
-        met = same_results(due, numbers, answer, gas, events);
     }
     Vector {
         call,
         number: number_at(answer, 0),
         expected,
-        met,
+        met: meets(due, numbers, answer, gas, words, floats, events),
         next: due.next,
     }
 }
