@@ -387,6 +387,11 @@ module _ {n zones first base at hi : ℕ} {w₀ w : List ℕ} (h : Laid n zones 
   tells-after {b} q t = record { words = but-then (omega arith) (omega arith) (subst (λ (x : ℕ). But at x w₀ w) q k) (t .words); answer = λ zs e s. t .answer zs e (stands-kept zs e s) }
 
 -- the number of gases is read nowhere
+pub fits-gases : (rows marks : Slices) (gases : ℕ) {zones : ℕ} {w : List ℕ} → ApartFits (boardOf rows marks gases) zones w → ApartFits (boardOf rows marks 0) zones w
+fits-gases rows marks gases f =
+    let p = f .pass in
+    record { sizes = f .sizes; pass = record { turfs = p .turfs; few = p .few; room = p .room; mixtures = p .mixtures; mixed = p .mixed }; laid = f .laid }
+
 pub tells-gases : (rows marks : Slices) (gases : ℕ) {zones first base at : ℕ} {r : Bool} {w w′ : List ℕ} → Tells (boardOf rows marks 0) zones first base at r w w′
     → Tells (boardOf rows marks gases) zones first base at r w w′
 unfolding apart hasMix

@@ -22,15 +22,14 @@ use Rattle.turfs.proofs.Line.{Line}
 use Rattle.events.proofs.Sizes.{size}
 use Rattle.events.proofs.Areas.{wrote-length}
 use Rattle.lent_rules.specs.Lent.{Lent, wordsRoom, floatsRoom}
+use Rattle.lent.proofs.Numbers.{bare}
 use Rattle.flood_fill.specs.Held.{sizes, startsAt, nodesAt}
 use Rattle.process_zone.specs.Plan.{Plan}
 use Rattle.reverse_links.specs.Reverse.{Linked, Reverses}
 use Rattle.reverse_links.specs.Words.{But}
 use Rattle.reverse_links.proofs.Accepted.{linked}
 use Rattle.plan_state.specs.Held.{area, view, top}
-use Rattle.plan_zone.specs.Zone.{Gassed}
-use Rattle.plan_zone.proofs.Whole.{tablesOf}
-use Rattle.plan_all.specs.Zones.{Zoned, PlansAll}
+use Rattle.plan_all.specs.Zones.{Plannable, Zoned, PlansAll}
 use Rattle.plan_all.proofs.Asked as asked
 use Rattle.plan_all.proofs.Calls.{planned-filled}
 use Rattle.fill_all.specs.Held.{floatSizes, View, FillsAll}
@@ -50,7 +49,7 @@ use Rattle.equalize.specs.Equalize.{Ask, fillAll, planAll, planned, played, has
 use Rattle.equalize.specs.Result.{equalizeRoom}
 use Rattle.equalize.proofs.Zones.{test-room}
 use Rattle.equalize.proofs.Room.{requests-bytes}
-use Rattle.apart.specs.Marks.{mixed, Laid, Stands, Tells}
+use Rattle.apart.specs.Marks.{marksAt, ApartFits, Laid, Stands, Tells}
 use Rattle.equalize_call.specs.Parts.{Fills, Filled, Comes}
 use Rattle.equalize_call.specs.declared.Outcome.{Outcome}
 
@@ -92,10 +91,10 @@ module _ (b : Board) (q : Ask) (l₀ l : Lent) (s : Filling) (d : Fills b q s l�
   links : Linked n (b .starts) (b .neighbours)
   links = linked b (h .starts) k
 
-  pub plan-asks : (Gassed n (b .mixtures) (b .gases) (l .gas) × (Linked n (b .starts) (b .neighbours) × (linkCount b ≡ e))) × Zoned n e (s .zones) (l .words) (l .floats)
+  pub plan-asks : Plannable b (l .gas) × Zoned n e (s .zones) (l .words) (l .floats)
   plan-asks =
-      subst (λ (g : List Float). (Gassed n (b .mixtures) (b .gases) g × (Linked n (b .starts) (b .neighbours) × (linkCount b ≡ e))) × Zoned n e (s .zones) (l .words) (l .floats))
-      (sym (d .gas)) (asked.plan-asks b q (l₀ .gas) s (d .fills) accepted k words-room floats-room)
+      subst (λ (g : List Float). Plannable b g × Zoned n e (s .zones) (l .words) (l .floats)) (sym (d .gas))
+      (asked.plan-asks b q (l₀ .gas) s (d .fills) accepted k words-room floats-room)
 
   -- ---- what filling left, by its places
 
@@ -126,7 +125,7 @@ module _ (b : Board) (q : Ask) (l₀ l : Lent) (s : Filling) (d : Fills b q s l�
 
   -- ---- apart
 
-  module _ (w₁ : List ℕ) (f₁ : List Float) (p : PlansAll n e (s .zones) (tablesOf b) (l .gas) (l .words) w₁ (l .floats) f₁) where
+  module _ (w₁ : List ℕ) (f₁ : List Float) (p : PlansAll n e (s .zones) b (l .gas) (l .words) w₁ (l .floats) f₁) where
     kept₁ : (j : ℕ) → top n e ≤ j → getD w₁ j 0 ≡ getD (l .words) j 0
     kept₁ j a = p .words .same j (inr a)
 
@@ -169,11 +168,14 @@ module _ (b : Board) (q : Ask) (l₀ l : Lent) (s : Filling) (d : Fills b q s l�
             ∙ kept₁ (nodesAt n e + at D z + i) (omega arith)
             ∙ row-at z i k ∙ ap (λ (x : List ℕ). getD x i 0) (sym (rows-are D z a))
 
-    pub apart-asks : (Laid n (s .zones) (startsAt n e) (nodesAt n e) marks w₁ × ((marks + mixtureCount b ≤ length w₁) × (mixtureCount b ≤ 4096))) × ((r : ℕ) → r < length (b .mixtures) → getD (b .mixtures) r 0 < mixtureCount b)
-    apart-asks = ((laid, (omega (arith, p .words .len, words-long), h .mixtures .1)), λ r a. h .mixed r)
+    pub apart-asks : ApartFits (bare b) (s .zones) w₁
+    apart-asks = record {
+      sizes = record { turfs = h .turfs .1; links = h .links };
+      pass = record { turfs = h .turfs .1; few = h .mixtures .1; room = omega (arith, p .words .len, words-long); mixtures = h .mixes; mixed = λ r a. h .mixed r };
+      laid = laid;
+    }
 
-    apart-is : {r : Bool} {w₂ : List ℕ} → Tells (mixed (b .mixtures) (b .immutable)) (s .zones) (startsAt n e) (nodesAt n e) marks r w₁ w₂ → r ≡ apart b zones
-    unfolding apart hasMix
+    apart-is : {r : Bool} {w₂ : List ℕ} → Tells b (s .zones) (startsAt n e) (nodesAt n e) marks r w₁ w₂ → r ≡ apart b zones
     apart-is t = t .answer zones (zones-count D) stands
 
     -- ---- finishing
@@ -193,7 +195,7 @@ module _ (b : Board) (q : Ask) (l₀ l : Lent) (s : Filling) (d : Fills b q s l�
       reverses : Reverses b n (reverseIn e w₂)
       reverses =
           subst (Reverses b n) (sym (part-alike e e w₂ w₁ (t .len) (λ i a. t .same (e + i) (inl (omega arith)))))
-          (p .reverses b refl refl)
+          (p .reverses)
 
       start₂ : (z : ℕ) → z ≤ s .zones → startOf n (cursorAt b) w₂ z ≡ at D z
       start₂ z a =
@@ -218,7 +220,7 @@ module _ (b : Board) (q : Ask) (l₀ l : Lent) (s : Filling) (d : Fills b q s l�
       pub finish-asks : Planned b (s .zones) w₂ (areas (l .gas) f₁ (l .area) (s .used))
       unfolding floatsRoom
       finish-asks = record {
-        ready = record { board = h; linked = links; reverse = reverses; words = omega (arith, words-long, long₂); floats = omega (arith, floats-room, p .reals .0) };
+        ready = record { board = h; linked = links; reverse = reverses; words = omega (arith, words-long, long₂); floats = omega (arith, floats-room, p .floats .0) };
         arrays = omega (arith, words-long, long₂);
         laid = record {
           few = few-zones;
@@ -262,11 +264,11 @@ module _ (b : Board) (q : Ask) (l₀ l : Lent) (s : Filling) (d : Fills b q s l�
         unfolding floatsRoom fill.view others
         floats-rest =
             let m : ℕ = 4 * n + 2 * e in
-            later-same (fsizes n e) m f₁ f₃ (omega arith) (ap (λ (r : List (List Float)). getD r 2 []) (u .kept .rest))
-            ∙ drop-later (e + n + n) m f₁ (l .floats) (omega arith) (p .reals .1)
+            later-same (fsizes b) m f₁ f₃ (omega arith) (ap (λ (r : List (List Float)). getD r 2 []) (u .kept .rest))
+            ∙ drop-later (e + n + n) m f₁ (l .floats) (omega arith) (p .floats .1)
             ∙ later-same (floatSizes n e) m (l₀ .floats) (l .floats) (omega arith) (ap (λ (v : View). v .around .restR) (D .same))
 
-        pub comes-played : (r : Bool) → Tells (mixed (b .mixtures) (b .immutable)) (s .zones) (startsAt n e) (nodesAt n e) marks r w₁ w₂ → (mark : ℕ) → mark ≡ bit r
+        pub comes-played : (r : Bool) → Tells b (s .zones) (startsAt n e) (nodesAt n e) marks r w₁ w₂ → (mark : ℕ) → mark ≡ bit r
             → Comes b (played b (l₀ .gas) q turns (fillAll b (l₀ .gas) q)) (record { cancelled = 0; processed = s .nodes; tests = s .tests + 2; zones = s .zones; apart = mark; used = used }) l₀ (record { gas = g₃; area = a₃; words = w₃; floats = f₃ })
         unfolding played
         comes-played r o mark m = record {
@@ -281,7 +283,7 @@ module _ (b : Board) (q : Ask) (l₀ l : Lent) (s : Filling) (d : Fills b q s l�
           floats = floats-rest;
         }
 
--- ---- the same as the code has it: where the nodes and the starts stand is answered by functions
+-- ---- the same as the code has it
 
 module _ {b : Board} {s : Filling} {l : Lent} (x : Filled b s l) where
   abbrev N : ℕ
@@ -290,32 +292,22 @@ module _ {b : Board} {s : Filling} {l : Lent} (x : Filled b s l) where
   abbrev E : ℕ
   E = linkCount b
 
-  pub plan-fits : (Gassed N (b .mixtures) (b .gases) (l .gas) × (Linked N (b .starts) (b .neighbours) × (linkCount b ≡ E)))
-      × Zoned N E (s .zones) (l .words) (l .floats)
+  pub plan-fits : Plannable b (l .gas) × Zoned N E (s .zones) (l .words) (l .floats)
   plan-fits = plan-asks b (x .asked) (x .lent) l s (x .fills) (x .board) (x .links) (x .area) (x .words) (x .floats)
 
-  module _ (nodes : ℕ) (en : nodes ≡ nodesAt N E) (first : ℕ) (ef : first ≡ startsAt N E) (w₁ : List ℕ) (f₁ : List Float)
-      (p : PlansAll N E (s .zones) (tablesOf b) (l .gas) (l .words) w₁ (l .floats) f₁) where
-    pub apart-fits : (Laid (length (b .mixtures)) (s .zones) first nodes (nodes + N + E) w₁ × ((nodes + N + E + mixtureCount b ≤ length w₁) × (mixtureCount b ≤ 4096)))
-        × ((r : ℕ) → r < length (b .mixtures) → getD (b .mixtures) r 0 < mixtureCount b)
-    apart-fits =
-        let a = apart-asks b (x .asked) (x .lent) l s (x .fills) (x .board) (x .links) (x .area) (x .words) (x .floats) w₁ f₁ p in
-        (rw (en, ef, x .board .mixes) (a .0), a .1)
+  module _ (w₁ : List ℕ) (f₁ : List Float) (p : PlansAll N E (s .zones) b (l .gas) (l .words) w₁ (l .floats) f₁) where
+    pub apart-fits : ApartFits (bare b) (s .zones) w₁
+    apart-fits = apart-asks b (x .asked) (x .lent) l s (x .fills) (x .board) (x .links) (x .area) (x .words) (x .floats) w₁ f₁ p
 
-    module _ (r : Bool) (w₂ : List ℕ) (t : Tells (mixed (b .mixtures) (b .immutable)) (s .zones) first nodes (nodes + N + E) r w₁ w₂) where
-      told : Tells (mixed (b .mixtures) (b .immutable)) (s .zones) (startsAt N E) (nodesAt N E) (nodesAt N E + N + E) r w₁ w₂
-      told =
-          subst (λ (y : ℕ). Tells (mixed (b .mixtures) (b .immutable)) (s .zones) (startsAt N E) y (y + N + E) r w₁ w₂) en
-          (subst (λ (y : ℕ). Tells (mixed (b .mixtures) (b .immutable)) (s .zones) y nodes (nodes + N + E) r w₁ w₂) ef t)
-
+    module _ (r : Bool) (w₂ : List ℕ) (t : Tells b (s .zones) (startsAt N E) (nodesAt N E) (marksAt N E) r w₁ w₂) where
       pub finish-fits : Planned b (s .zones) w₂ (areas (l .gas) f₁ (l .area) (s .used))
-      finish-fits = finish-asks b (x .asked) (x .lent) l s (x .fills) (x .board) (x .links) (x .area) (x .words) (x .floats) w₁ f₁ p w₂ (told .words)
+      finish-fits = finish-asks b (x .asked) (x .lent) l s (x .fills) (x .board) (x .links) (x .area) (x .words) (x .floats) w₁ f₁ p w₂ (t .words)
 
       pub played-comes : (turns w₃ : List ℕ) (g₃ f₃ : List Float) (a₃ : List ℕ) (used : ℕ) → FinishesAll b (s .zones) turns w₂ w₃ (areas (l .gas) f₁ (l .area) (s .used)) (areas g₃ f₃ a₃ used)
           → (mark : ℕ) → mark ≡ bit r → (q : Ask) (l₀ : Lent) → Fills b q s l₀ l
           → Comes b (played b (l₀ .gas) q turns (fillAll b (l₀ .gas) q)) (record { cancelled = 0; processed = s .nodes; tests = s .tests + 2; zones = s .zones; apart = mark; used = used }) l₀ (record { gas = g₃; area = a₃; words = w₃; floats = f₃ })
       played-comes turns w₃ g₃ f₃ a₃ used u mark m q l₀ d =
-          comes-played b q l₀ l s d (x .board) (x .links) (x .area) (x .words) (x .floats) w₁ f₁ p w₂ (told .words) turns w₃ g₃ f₃ a₃ used u r told mark m
+          comes-played b q l₀ l s d (x .board) (x .links) (x .area) (x .words) (x .floats) w₁ f₁ p w₂ (t .words) turns w₃ g₃ f₃ a₃ used u r t mark m
 
 -- the counts are small
 pub tests-small : {b : Board} {s : Filling} {l : Lent} → Filled b s l → s .tests ≤ 4096

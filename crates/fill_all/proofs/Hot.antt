@@ -4,11 +4,12 @@ use Prim.Native.Nat.{ℕ, _+_, _<_}
 use native.Mathlib.Omega.{arith}
 use mathlib.Core.Path.{_≡_, refl, ap, _∙_, sym, subst}
 use mathlib.Core.List.{List}
-use mathlib.Core.Bool.{Bool, true, false, _||_, cond}
+use mathlib.Core.Bool.{Bool, true, false, not, _||_, cond}
 use lib.Dec.{eqb}
 use lib.Ieee.{Float, lt}
 use lib.ListN.{length, getD}
-use borrow.Author.Tests.{eq-eqb, ne-eqb}
+use borrow.Author.Tests.{eq-eqb, ne-eqb, eqb-true}
+use Rattle.basics.proofs.Tests.{differ}
 use Rattle.basics.specs.Loops.{every}
 use Rattle.basics.specs.Regions.{region}
 use Rattle.basics.specs.declared.Spot.{Spot}
@@ -25,7 +26,8 @@ use Rattle.flood_fill.proofs.Stores.{found-at}
 use Rattle.fill_zone.specs.Held.{Begins}
 use Rattle.fill_zone.specs.declared.Flood.{Flood}
 use Rattle.equalize.specs.Equalize.{Ask, Filled, 10f, near, passedOver, hotRow, hotId}
-use Rattle.fill_all.specs.Held.{view, onFilled, Stored, Open, Fills, After}
+use Rattle.fill_all.specs.Held.{view, onFilled, foundIn, Stored, Open, Fills, After}
+use Rattle.fill_all.specs.Asked.{FoundFits}
 use Rattle.fill_all.specs.declared.Filling.{Filling}
 use Rattle.fill_all.proofs.After.{fills-none, kept-fills, dropped-fills}
 
@@ -66,27 +68,35 @@ module _ (b : Board) (gas : List Float) (q : Ask) (i : ℕ) where
 
 -- ---- the turf at `row`
 
-module _ {b : Board} (q : Ask) {s : Filling} {w : List ℕ} {f : List Float} {area : List ℕ} (st : Stored (turfCount b) (linkCount b) s w f) (op : Open b (q .allowance) s w area) (row : ℕ) (hr : row < turfCount b)
-    (at : ℕ) (ea : at ≡ foundAt (turfCount b) (linkCount b)) where
-  pub mark-is : getD w (at + row) 0 ≡ getD (region (sizes (turfCount b) (linkCount b)) 8 w) row 0
-  mark-is = found-at (turfCount b) (linkCount b) w (st .words) row (at + row) (omega arith) hr
+pub mark-is : {n e row : ℕ} {w : List ℕ} → FoundFits n e row w → (at : ℕ) → at ≡ foundAt n e → getD w (at + row) 0 ≡ getD (foundIn n e w) row 0
+mark-is {n} {e} {row} {w} h at ea = found-at n e w (h .words) row (at + row) (omega arith) (h .row)
 
-  pub row-none : (gas : List Float) → passedOver b gas q row (region (sizes (turfCount b) (linkCount b)) 8 w) ≡ true
-      → Fills (turfCount b) (linkCount b) (hotRow b gas q (At row)) s s w w f f area area
-  unfolding view
-  row-none gas t = fills-none (hotRow b gas q (At row)) st (omega (arith, op .bytes)) (λ es. row-passed b gas q row (view (turfCount b) (linkCount b) s w f es .filled) t)
+pub row-none : {b : Board} (q : Ask) {s : Filling} {w : List ℕ} {f : List Float} {area : List ℕ} → Stored (turfCount b) (linkCount b) s w f → Open b (q .allowance) s w area → (row : ℕ) (gas : List Float)
+    → {t : Bool} → passedOver b gas q row (foundIn (turfCount b) (linkCount b) w) ≡ t → t ≡ true → Fills (turfCount b) (linkCount b) (hotRow b gas q (At row)) s s w w f f area area
+unfolding view
+row-none {b} q {s} {w} {f} st op row gas p t =
+    fills-none (hotRow b gas q (At row)) st (omega (arith, op .bytes)) (λ es. row-passed b gas q row (view (turfCount b) (linkCount b) s w f es .filled) (p ∙ t))
+
+-- a turf that isn't passed over isn't found
+pub is-new : (b : Board) (gas : List Float) (q : Ask) (row : ℕ) (found : List ℕ) {t : Bool} → passedOver b gas q row found ≡ t → t ≡ false → getD found row 0 ≡ 0
+unfolding passedOver
+is-new b gas q row found p f = go (eqb (getD found row 0) 0) refl
+  where
+    go : (t : Bool) → eqb (getD found row 0) 0 ≡ t → getD found row 0 ≡ 0
+    go true e = eqb-true (getD found row 0) 0 e
+    go false e = absurd (differ (sym (ap (λ (x : Bool). not x || (not (enabled b row) || rest b gas q row)) e) ∙ p ∙ f))
 
 pub after-fills : {b : Board} {m : ℕ} (h : Accepted b m) (gas : List Float) (q : Ask) (row : ℕ) {s : Filling} {w : List ℕ} {f : List Float} {area : List ℕ} (st : Stored (turfCount b) (linkCount b) s w f)
     (op : Open b (q .allowance) s w area) (hr : row < turfCount b) (new : getD (region (sizes (turfCount b) (linkCount b)) 8 w) row 0 ≡ 0)
-    → passedOver b gas q row (region (sizes (turfCount b) (linkCount b)) 8 w) ≡ false → {t : Flood} {w₁ area₁ : List ℕ}
+    → {x : Bool} → passedOver b gas q row (foundIn (turfCount b) (linkCount b) w) ≡ x → x ≡ false → {t : Flood} {w₁ area₁ : List ℕ}
     → Begins (turfCount b) (linkCount b) (s .zones) (s .nodes) (s .used) (λ found owner es. fill b gas (q .limit) (q .allowance) (s .zones) row found owner es (s .tests)) t w w₁ area area₁
     → {r : Filling} {w′ : List ℕ} {f′ : List Float} → After (turfCount b) (linkCount b) (b .starts) s t r w₁ w′ f f′
     → Fills (turfCount b) (linkCount b) (hotRow b gas q (At row)) s r w w′ f f′ area area₁
-after-fills {b} h gas q row {s} {w} {f} {area} st op hr new pass {t} {w₁} {area₁} B {r} {w′} {f′} a = go (t .reach .ignored) refl
+after-fills {b} h gas q row {s} {w} {f} {area} st op hr new pass off {t} {w₁} {area₁} B {r} {w′} {f′} a = go (t .reach .ignored) refl
   where
     go : (x : Bool) → t .reach .ignored ≡ x → Fills (turfCount b) (linkCount b) (hotRow b gas q (At row)) s r w w′ f f′ area area₁
-    go true i = dropped-fills h gas q row st op hr new B (λ es. pass) i (a .drops i)
-    go false i = kept-fills h gas q row st op hr new B (λ es. pass) i (a .keeps i)
+    go true i = dropped-fills h gas q row st op hr new B (λ es. pass ∙ off) i (a .drops i)
+    go false i = kept-fills h gas q row st op hr new B (λ es. pass ∙ off) i (a .keeps i)
 
 -- ---- the hot id i
 

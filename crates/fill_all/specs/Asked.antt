@@ -11,6 +11,12 @@ use Rattle.fill_zone.specs.declared.Flood.{Flood}
 use Rattle.fill_all.specs.Held.{molesAt, pushed, Stored, Open}
 use Rattle.fill_all.specs.declared.Filling.{Filling}
 
+-- the words hold whether the turf at the row r is found
+pub record FoundFits (n e r : ℕ) (w : List ℕ) : Type 0 where
+  pub sizes : Sizes n e
+  pub words : nodesAt n e + n + e + n ≤ length w
+  pub row : r < n
+
 -- the starts of n turfs over e links
 pub record Spans (n e : ℕ) (starts : List ℕ) : Type 0 where
   pub count : length starts ≡ n + 1

@@ -24,6 +24,7 @@ use Rattle.fill_all.specs.declared.Filling.{Filling}
 abbrev pub ask : List ℕ → Float → ℕ → ℕ → Ask
 ask hot threshold limit allowance = record { hot = hot; threshold = threshold; limit = limit; allowance = allowance }
 
+-- the same by the settings
 abbrev pub asked : List ℕ → Settings → Ask
 asked hot settings = ask hot (settings .threshold) (settings .limit) (settings .allowance)
 
@@ -63,6 +64,7 @@ pub record View : Type 0 where
   pub filled : Filled
   pub around : Around
 
+-- those arrays
 abbrev pub aroundIn : List (List ℕ) → List (List Float) → Around
 aroundIn ws rs = record {
   reverse = getD ws 1 [];
@@ -80,6 +82,7 @@ aroundIn ws rs = record {
   restR = getD rs 5 [];
 }
 
+-- the arrays, where filling has come to s and the events es were written
 abbrev pub viewIn : Filling → List Event → List (List ℕ) → List (List Float) → View
 viewIn s es ws rs = record {
   filled = record {
@@ -93,6 +96,7 @@ viewIn s es ws rs = record {
   around = aroundIn ws rs;
 }
 
+-- the areas, cut into them
 unfoldable pub view : ℕ → ℕ → Filling → List ℕ → List Float → List Event → View
 view n e s w f es = viewIn s es (cut (sizes n e) w) (cut (floatSizes n e) f)
 
@@ -105,6 +109,10 @@ onFilled g v = record { filled = g (v .filled); around = v .around }
 -- where the zones' nodes start
 abbrev pub startsIn : ℕ → ℕ → List ℕ → List ℕ
 startsIn n e w = region (sizes n e) 11 w
+
+-- which turfs are found
+abbrev pub foundIn : ℕ → ℕ → List ℕ → List ℕ
+foundIn n e w = region (sizes n e) 8 w
 
 -- the areas are long enough, the zones' nodes stand one after the other, and there are at most as many nodes as zones and owned links
 pub record Stored (n e : ℕ) (s : Filling) (w : List ℕ) (f : List Float) : Type 0 where
@@ -170,6 +178,7 @@ pub record After (n e : ℕ) (starts : List ℕ) (s : Filling) (t : Flood) (r : 
 abbrev pub start : Filling
 start = record { zones = 0; nodes = 0; tests = 0; used = 0; cancelled = false }
 
+-- the owners, the marks of what is found and the first start are cleared, and all else is as it was
 abbrev pub Cleared : ℕ → ℕ → List ℕ → List ℕ → Type 0
 Cleared n e w w′ = cut (sizes n e) w′ ≡ set (set (set (cut (sizes n e) w) 0 (replicate e 0)) 8 (replicate n 0)) 11 (set (startsIn n e w) 0 0)
 

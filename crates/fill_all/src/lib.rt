@@ -28,9 +28,9 @@ ghost use Rattle.turfs.specs.Tables.{boardAt, Accepted};
 ghost use Rattle.mixture_rules.specs.Mixture.{total};
 ghost use Rattle.fill_rules.specs.Fill.{isOver};
 ghost use Rattle.flood_fill.specs.Held.{nodesAt, Sizes};
-ghost use Rattle.equalize.specs.Equalize.{Ask, 10f, near, hotRow, hotId, fillAll};
-ghost use Rattle.fill_all.specs.Held.{asked, molesAt, Stored, Fills, giveBack, GaveBack, Keeps, After, start, Begun, Cleared, FillsAll};
-ghost use Rattle.fill_all.specs.Asked.{Spans, PushedFits, KeepFits, HotFits, FillFits};
+ghost use Rattle.equalize.specs.Equalize.{Ask, 10f, near, passedOver, hotRow, hotId, fillAll};
+ghost use Rattle.fill_all.specs.Held.{asked, molesAt, foundIn, Stored, Fills, giveBack, GaveBack, Keeps, After, start, Begun, Cleared, FillsAll};
+ghost use Rattle.fill_all.specs.Asked.{FoundFits, Spans, PushedFits, KeepFits, HotFits, FillFits};
 
 // What filling has come to: zones kept, the nodes that they have in all, clock tests, bytes of events, whether the clock ran out.
 pub struct Filling {
@@ -115,6 +115,34 @@ fn unshareable(
         return true;
     }
     all_near(links, mine, threshold, rows, marks, gases, gas)
+}
+
+// Whether a hot turf is passed over: found already, disabled, without links, or unshareable.
+fn passed_over(
+    row: usize,
+    threshold: f32,
+    rows: &Rows,
+    marks: &Marks,
+    gases: usize,
+    gas: &[f32],
+    words: &[u32],
+) -> bool
+    requires { ⌜ Accepted (boardAt rows marks gases) (length (now gas)) ⌝ }
+    requires { ⌜ finiteSignClear threshold ≡ true ⌝ }
+    requires { let b = boardAt rows marks gases in ⌜ FoundFits (turfCount b) (linkCount b) row (now words) ⌝ }
+    ensures { λ r. let b = boardAt (rows .entry) (marks .entry) gases in
+        ⌜ ((q : Ask) → q .threshold ≡ threshold → passedOver b (now (gas .entry)) q row (foundIn (turfCount b) (linkCount b) (now (words .entry))) ≡ r) ⌝ }
+{
+    let ids = rows[IDS];
+    let neighbours = rows[NEIGHBOURS];
+    let flags = marks[FLAGS];
+    if words[flood_fill::found_at(ids.len(), neighbours.len()) + row] != 0 {
+        return true;
+    }
+    if !SimulationFlags(flags[row]).enabled() {
+        return true;
+    }
+    unshareable(row, threshold, rows, marks, gases, gas)
 }
 
 // The links of the turf at `row` lose their owners.
@@ -235,20 +263,11 @@ fn hot_row(
         (hotRow b (now (gas .entry)) (asked hot settings) (At row)) s r
         (now (words .entry)) (now (words .exit)) (now (floats .entry)) (now (floats .exit)) (now (events .entry)) (now (events .exit))) ⌝ }
 {
+    if passed_over(row, settings.threshold, rows, marks, gases, gas, words) {
+        return s;
+    }
     let ids = rows[IDS];
     let neighbours = rows[NEIGHBOURS];
-    let flags = marks[FLAGS];
-    let n = ids.len();
-    let e = neighbours.len();
-    if words[flood_fill::found_at(n, e) + row] != 0 {
-        return s;
-    }
-    if !SimulationFlags(flags[row]).enabled() {
-        return s;
-    }
-    if unshareable(row, settings.threshold, rows, marks, gases, gas) {
-        return s;
-    }
     let seed = Seed {
         row: row as u32,
         z: s.zones as u32,
@@ -257,7 +276,15 @@ fn hot_row(
         tests: s.tests,
     };
     let t = fill_zone::flood_fill(seed, settings, rows, marks, gases, gas, words, events);
-    after_fill(s, t, n, e, rows[STARTS], words, floats)
+    after_fill(
+        s,
+        t,
+        ids.len(),
+        neighbours.len(),
+        rows[STARTS],
+        words,
+        floats,
+    )
 }
 
 // A hot id; one that no turf has is passed over.

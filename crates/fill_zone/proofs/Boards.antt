@@ -15,7 +15,7 @@ use Rattle.turfs.proofs.Tables.{accepted-parts}
 use Rattle.mixture.specs.Moves.{Holds}
 use Rattle.mixture.proofs.Parts.{holds-of}
 use Rattle.flood_fill.specs.Held.{Sizes}
-use Rattle.flood_fill.specs.Asked.{Linked}
+use Rattle.flood_fill.specs.Asked.{WalkFits}
 
 module _ {b : Board} {m : ℕ} (h : Accepted b m) where
   pub sizes-of : Sizes (turfCount b) (linkCount b)
@@ -38,7 +38,7 @@ module _ {b : Board} {m : ℕ} (h : Accepted b m) where
         ap (source (b .starts)) (sym (upFrom-at from deg (k - from) (omega arith) ∙ omega arith)) ∙ s
 
 -- what a walk over links reads is there, whatever the number of gases
-pub linked-of : (rows marks : Slices) (gases : ℕ) {m : ℕ} → Accepted (boardOf rows marks gases) m → Linked (boardOf rows marks 0)
+pub linked-of : (rows marks : Slices) (gases : ℕ) {m : ℕ} → Accepted (boardOf rows marks gases) m → WalkFits (boardOf rows marks 0)
 linked-of rows marks gases h = record {
   parts = parts h;
   links = h .links;

@@ -20,15 +20,18 @@ pub record FillView : Type 0 where
   pub fill : Fill
   pub still : Still
 
+-- a fill that has come to t, over a view of its walk
 abbrev pub fillIn : Flood → View → FillView
 fillIn t v = record {
   fill = record { reach = v .reach; popped = t .popped; moles = t .moles; planet = t .planet; tests = t .tests; state = t .state };
   still = v .still;
 }
 
+-- the same of the words
 abbrev pub fillView : ℕ → ℕ → ℕ → Flood → List ℕ → List Event → FillView
 fillView n e kept t w es = fillIn t (view n e kept (t .reach) w es)
 
+-- a step of the fill; all else stays
 abbrev pub onFill : (Fill → Fill) → FillView → FillView
 onFill f v = record { fill = f (v .fill); still = v .still }
 

@@ -11,6 +11,7 @@ use Rattle.board_rules.specs.Board.{Board, end}
 use Rattle.mixture_rules.specs.Mixture.{total}
 use Rattle.process_zone.specs.Edges.{edgesOf}
 use Rattle.finalize_eq.specs.Finish.{Done, zeroLifted, send}
+use Rattle.finalize_eq.specs.Worked as worked  -- checked before what builds on it
 
 -- above 0
 abbrev pub above : Float → Bool

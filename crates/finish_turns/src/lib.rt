@@ -120,7 +120,8 @@ fn turn(
 ) -> Left
     requires { ⌜ Fit (boardAt rows marks (at .gases)) (at .cursor) (now words) (areasAt gas floats events (left .used)) ⌝ }
     requires { ⌜ Live (turfCount (boardAt rows marks (at .gases))) (at .cursor) (left .live) (now words) ⌝ }
-    ensures { λ r. let b = boardAt (rows .entry) (marks .entry) (at .gases) in ⌜ TurnOf b (at .cursor) c (left .live) (r .live) (now (words .entry)) (now (words .exit)) (areasAt (gas .entry) (floats .entry) (events .entry) (left .used)) (areasAt (gas .exit) (floats .exit) (events .exit) (r .used)) ⌝ }
+    ensures { λ r. let b = boardAt (rows .entry) (marks .entry) (at .gases) in ⌜ TurnOf b (at .cursor) c (left .live) (r .live)
+        (now (words .entry)) (now (words .exit)) (areasAt (gas .entry) (floats .entry) (events .entry) (left .used)) (areasAt (gas .exit) (floats .exit) (events .exit) (r .used)) ⌝ }
 {
     let cursor = at.cursor;
     let count = left.live;

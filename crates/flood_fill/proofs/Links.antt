@@ -20,7 +20,7 @@ use Rattle.events.proofs.Areas.{wrote-length}
 use Rattle.fill_rules.specs.Fill.{Reach, insert, reachLink}
 use Rattle.flood_fill.specs.Steps.{metAt, edgeTo, mark, push, askSpace, askPlanet, discover, reachMet}
 use Rattle.flood_fill.specs.Held.{sizes, foundAt, View, view, onReach, Fit, Bounded, Does, Moves, Discovers, Reaches}
-use Rattle.flood_fill.specs.Asked.{Linked, Walking, EdgeFits, PushFits, LinkFits}
+use Rattle.flood_fill.specs.Asked.{WalkFits, Walking, EdgeFits, PushFits, LinkFits}
 use Rattle.flood_fill.specs.declared.Reached.{Reached}
 use Rattle.flood_fill.specs.declared.Slot.{Slot}
 use Rattle.flood_fill.specs.declared.Met.{Met}
@@ -151,7 +151,7 @@ module _ (m : Met) (k id : ℕ) {n e : ℕ} {slot : Slot} {s : Reached} {w area 
 
 -- ---- the neighbour that is met
 
-pub met-row : {b : Board} → Linked b → (k : ℕ) → k < linkCount b → (m : Met) → m ≡ metAt b k → m .row < turfCount b
+pub met-row : {b : Board} → WalkFits b → (k : ℕ) → k < linkCount b → (m : Met) → m ≡ metAt b k → m .row < turfCount b
 unfolding metAt
 met-row {b} t k l m e = subst (λ (x : Met). x .row < turfCount b) (sym e) (t .ends k l)
 

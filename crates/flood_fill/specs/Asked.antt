@@ -11,7 +11,7 @@ use Rattle.flood_fill.specs.declared.Slot.{Slot}
 use Rattle.flood_fill.specs.declared.Met.{Met}
 
 -- what a walk over links reads of the board is there
-pub record Linked (b : Board) : Type 0 where
+pub record WalkFits (b : Board) : Type 0 where
   pub parts : Parts (turfCount b) (b .starts) (b .neighbours)
   pub links : linkCount b ≤ 24576
   pub flags : length (b .flags) ≡ turfCount b

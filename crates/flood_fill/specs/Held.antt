@@ -21,19 +21,23 @@ use Rattle.flood_fill.specs.declared.Reached.{Reached}
 abbrev pub sizes : ℕ → ℕ → List ℕ
 sizes n e = e ∷ e ∷ n ∷ n ∷ n ∷ n ∷ n ∷ n ∷ n ∷ n ∷ n ∷ (n + 1) ∷ (n + e) ∷ []
 
--- where those start that filling works with
+-- where the queue starts
 abbrev pub queueAt : ℕ → ℕ → ℕ
 queueAt n e = e + e + n + n + n
 
+-- the nodes' places
 abbrev pub placesAt : ℕ → ℕ → ℕ
 placesAt n e = e + e + n + n + n + n
 
+-- the marks of what is found
 abbrev pub foundAt : ℕ → ℕ → ℕ
 foundAt n e = e + e + n + n + n + n + n + n
 
+-- where the zones' nodes start
 abbrev pub startsAt : ℕ → ℕ → ℕ
 startsAt n e = e + e + n + n + n + n + n + n + n + n + n
 
+-- the nodes of all zones
 abbrev pub nodesAt : ℕ → ℕ → ℕ
 nodesAt n e = e + e + n + n + n + n + n + n + n + n + n + n + 1
 
@@ -85,6 +89,7 @@ viewIn kept s es ws = record {
   };
 }
 
+-- the words, cut into them
 unfoldable pub view : ℕ → ℕ → ℕ → Reached → List ℕ → List Event → View
 view n e kept s w es = viewIn kept s es (cut (sizes n e) w)
 
@@ -127,6 +132,7 @@ pub record Bounds (n e z kept : ℕ) (fs qs ns os : List ℕ) (used : ℕ) (area
   pub nodes : kept + length ns + zeros os ≤ z + 1 + e
   pub bytes : used + 16 * zeros fs ≤ length area
 
+-- the same of a walk
 abbrev pub Bounded : ℕ → ℕ → ℕ → ℕ → Reach → ℕ → List ℕ → Type 0
 Bounded n e z kept r used area = Bounds n e z kept (r .found) (r .queue) (r .nodes) (r .owner) used area
 

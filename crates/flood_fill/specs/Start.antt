@@ -12,6 +12,7 @@ use Rattle.fill_rules.specs.declared.Going.the-variants.{On}
 abbrev pub startReach : ℕ → List ℕ → List ℕ → List Event → Reach
 startReach r found owner events = record { found = set found r 1; queue = r ∷ []; nodes = r ∷ []; owner = owner; ignored = false; events = events }
 
+-- with so many clock tests made
 abbrev pub startFill : ℕ → List ℕ → List ℕ → List Event → ℕ → Fill
 startFill r found owner events tests =
     record { reach = startReach r found owner events; popped = 0; moles = 0f; planet = false; tests = tests; state = On }

@@ -23,7 +23,7 @@ ghost use Rattle.turfs.specs.Tables.{boardAt};
 ghost use Rattle.fill_rules.specs.Fill.{reachLink};
 ghost use Rattle.flood_fill.specs.Steps.{metAt, edgeTo, push, askSpace, askPlanet, discover, reachMet};
 ghost use Rattle.flood_fill.specs.Held.{foundAt, startsAt, nodesAt, Sizes, Moves, Asks, Discovers, Reaches};
-ghost use Rattle.flood_fill.specs.Asked.{Linked, Walking, EdgeFits, PushFits, LinkFits, TurfFits};
+ghost use Rattle.flood_fill.specs.Asked.{WalkFits, Walking, EdgeFits, PushFits, LinkFits, TurfFits};
 
 // How far a walk over links has come: rows pushed, nodes of the zone, `ignore_zone`, bytes of events.
 pub struct Reached {
@@ -47,7 +47,7 @@ pub struct Met {
     pub planet: bool,
 }
 
-// Where the arrays start that a fill works with, of n turfs and e links.
+// Where the marks of what is found start, of n turfs and e links.
 pub fn found_at(n: usize, e: usize) -> usize
     requires { ⌜ Sizes n e ⌝ }
     ensures { λ r. ⌜ r ≡ foundAt n e ⌝ }
@@ -55,6 +55,7 @@ pub fn found_at(n: usize, e: usize) -> usize
     e + e + n + n + n + n + n + n
 }
 
+// Where the words start that say where each zone's nodes start.
 pub fn starts_at(n: usize, e: usize) -> usize
     requires { ⌜ Sizes n e ⌝ }
     ensures { λ r. ⌜ r ≡ startsAt n e ⌝ }
@@ -62,6 +63,7 @@ pub fn starts_at(n: usize, e: usize) -> usize
     e + e + n + n + n + n + n + n + n + n + n
 }
 
+// Where the nodes of all zones start.
 pub fn nodes_at(n: usize, e: usize) -> usize
     requires { ⌜ Sizes n e ⌝ }
     ensures { λ r. ⌜ r ≡ nodesAt n e ⌝ }
@@ -83,7 +85,7 @@ fn across_firelock(row: usize, k: usize, planetary: &[u8], link_flags: &[u8]) ->
 
 // The neighbour at the end of the link k.
 fn meet(k: usize, rows: &Rows, marks: &Marks) -> Met
-    requires { ⌜ Linked (boardAt rows marks 0) ⌝ }
+    requires { ⌜ WalkFits (boardAt rows marks 0) ⌝ }
     requires { ⌜ k < linkCount (boardAt rows marks 0) ⌝ }
     ensures { λ r. ⌜ r ≡ metAt (boardAt (rows .entry) (marks .entry) 0) k ⌝ }
 {
@@ -242,7 +244,7 @@ pub fn reach_links(
     words: &mut [u32],
     events: &mut [u8],
 ) -> Reached
-    requires { ⌜ Linked (boardAt rows marks 0) ⌝ }
+    requires { ⌜ WalkFits (boardAt rows marks 0) ⌝ }
     requires { ⌜ TurfFits (boardAt rows marks 0) row (now words) ⌝ }
     requires { let b = boardAt rows marks 0 in ⌜ Walking (turfCount b) (linkCount b) slot start (now words) (now events) ⌝ }
     ensures { λ r. ⌜ ((gases : ℕ) → let b = boardAt (rows .entry) (marks .entry) gases in

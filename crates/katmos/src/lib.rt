@@ -9,7 +9,7 @@ ghost use Rattle.fill_all.specs.Held.{ask};
 ghost use Rattle.equalize.specs.Result.{equalizeResult};
 ghost use Rattle.planet_rules.specs.Planet.{planetResult};
 ghost use Rattle.depressurize_rules.specs.Depressurize.{depressurizeResult};
-ghost use Rattle.katmos.specs.Answers.{Answers, equalizeNumbers, planetNumbers, depressurizeNumbers};
+ghost use Rattle.answers.specs.Answers.{Answers, equalizeNumbers, planetNumbers, depressurizeNumbers};
 
 // Evens out the gas of the rooms around the hot ones: number, cancelled, processed, tests, zones, apart, bytes.
 #[no_mangle]
@@ -56,15 +56,7 @@ pub extern "C" fn katmos_equalize<'a>(
         floats,
         events,
     );
-    *answer = [
-        a.number,
-        a.cancelled,
-        a.processed,
-        a.tests,
-        a.zones,
-        a.apart,
-        a.bytes,
-    ];
+    *answer = answers::equalize_numbers(a);
     a.number
 }
 
@@ -104,7 +96,7 @@ pub extern "C" fn katmos_planet_walk<'a>(
         floats,
         events,
     );
-    *answer = [a.number, a.bytes];
+    *answer = answers::planet_numbers(a);
     a.number
 }
 
@@ -144,7 +136,7 @@ pub extern "C" fn katmos_depressurize<'a>(
         floats,
         events,
     );
-    *answer = [a.number, a.outcome, a.bytes];
+    *answer = answers::depressurize_numbers(a);
     a.number
 }
 

@@ -16,10 +16,9 @@ use Rattle.equalize.proofs.Zones.{zone-has}
 use Rattle.fill_all.specs.Held.{FillsAll}
 use Rattle.fill_all.specs.declared.Filling.{Filling}
 use Rattle.fill_all.proofs.Words.{nodes-few, zones-are}
-use Rattle.reverse_links.specs.Reverse.{Linked}
 use Rattle.reverse_links.proofs.Accepted.{linked}
 use Rattle.plan_zone.specs.Zone.{Gassed}
-use Rattle.plan_all.specs.Zones.{Room, Zoned}
+use Rattle.plan_all.specs.Zones.{Plannable, Room, Zoned}
 use Rattle.plan_all.proofs.Calls.{zoned-of}
 
 module _ (b : Board) (q : Ask) (gas : List Float) (s : Filling) {w₀ w : List ℕ} {f₀ f : List Float} {a₀ a : List ℕ} (d : FillsAll (turfCount b) (linkCount b) (fillAll b gas q) s w₀ w f₀ f a₀ a)
@@ -35,11 +34,11 @@ module _ (b : Board) (q : Ask) (gas : List Float) (s : Filling) {w₀ w : List �
 
   room : Room n e w f
   unfolding wordsRoom floatsRoom
-  room = record { sizes = d .stored .sizes; words = omega (arith, words-room); reals = omega (arith, floats-room) }
+  room = record { sizes = d .stored .sizes; words = omega (arith, words-room); floats = omega (arith, floats-room) }
 
   zoned : Zoned n e (s .zones) w f
   zoned = zoned-of b (fillAll b gas q .zones) room (d .stored .zones) (zones-are d)
       (λ z p. (d .stored .rise z p, omega (arith, d .stored .below (z + 1) (omega arith), nodes-few d))) (zone-has b h gas q)
 
-  pub plan-asks : (Gassed n (b .mixtures) (b .gases) gas × (Linked n (b .starts) (b .neighbours) × (linkCount b ≡ e))) × Zoned n e (s .zones) w f
-  plan-asks = ((gassed, (linked b (h .starts) links-fit, refl)), zoned)
+  pub plan-asks : Plannable b gas × Zoned n e (s .zones) w f
+  plan-asks = (record { linked = linked b (h .starts) links-fit; gassed = gassed }, zoned)

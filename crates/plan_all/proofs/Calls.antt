@@ -19,9 +19,8 @@ use Rattle.process_zone.specs.Plan.{planZone}
 use Rattle.finalize_eq.specs.Turns.{Zone, zoneAt}
 use Rattle.equalize.specs.Equalize.{Filled, planAll}
 use Rattle.plan_state.specs.Held.{area, view}
-use Rattle.plan_zone.proofs.Whole.{tablesOf}
-use Rattle.plan_all.specs.Zones.{zoneOf, startOf, filledOf, Room, Zoned, blank, PlansAll}
-use Rattle.plan_all.proofs.Plans.{zone-is, plan-all-board}
+use Rattle.plan_all.specs.Zones.{zoneOf, startOf, Room, Zoned, blank, PlansAll}
+use Rattle.plan_all.proofs.Plans.{zone-is}
 
 -- ---- before
 
@@ -58,9 +57,9 @@ zoned-of b {e} {zones} {w} {f} zs r few same rise has =
 
 -- the plan of the whole board, of what filling came to
 pub planned-filled : (b : Board) (s : Filled) {zones : ℕ} {gas : List Float} {w w′ : List ℕ} {f f′ : List Float}
-    → PlansAll (turfCount b) (linkCount b) zones (tablesOf b) gas w w′ f f′ → s .owner ≡ region (sizes (turfCount b) (linkCount b)) 0 w
+    → PlansAll (turfCount b) (linkCount b) zones b gas w w′ f f′ → s .owner ≡ region (sizes (turfCount b) (linkCount b)) 0 w
     → s .zones ≡ map (zoneOf (turfCount b) (linkCount b) w f) (upFrom 0 zones) → view (turfCount b) (linkCount b) (area w′ f′) .plan ≡ planAll b gas s
 unfolding planAll
 planned-filled b s {zones} {gas = gas} {w = w} {f = f} p eo ez =
-    p .plan ∙ plan-all-board b gas (filledOf (turfCount b) (linkCount b) zones w f)
+    p .plan
     ∙ ap₂ (λ (o : List ℕ) (zs : List Zone). run (λ z q. planZone b o z gas (zoneAt zs z .nodes) (zoneAt zs z .moles) q) (upFrom 0 (length zs)) (blank (turfCount b) (linkCount b))) (sym eo) (sym ez)

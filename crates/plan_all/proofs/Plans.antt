@@ -1,4 +1,4 @@
--- Zone after zone is the run of the definition, over zones that stay what they are; and the plan looks at the tables alone. Assumes nothing.
+-- Zone after zone is the run of the definition, over zones that stay what they are. Assumes nothing.
 use Prim.Native.Nat.{ℕ, _+_, _-_, _≤_, _<_}
 use native.Mathlib.Omega.{arith}
 use native.Mathlib.Nat.{zero-add}
@@ -21,13 +21,12 @@ use Rattle.finalize_eq.specs.Turns.{Zone, zoneAt}
 use Rattle.equalize.specs.Equalize.{Filled, planAll}
 use Rattle.reverse_links.specs.Reverse.{Reverses}
 use Rattle.reverse_links.specs.Words.{Outside, But}
-use Rattle.plan_state.specs.Held.{Area, area, wsizes, rsizes, viewIn, View, view, Fit, Frame, top, nodesOf}
+use Rattle.plan_state.specs.Held.{Area, area, wsizes, fsizes, viewIn, View, view, Fit, Frame, top, nodesOf}
 use Rattle.plan_state.specs.Pairs.{firsts, seconds}
 use Rattle.plan_state.proofs.Pairs.{firsts-all, seconds-all}
 use Rattle.plan_state.proofs.Stores.{frame-none, frame-then, owner-at}
 use Rattle.plan_state.proofs.Nodes.{rest-is}
 use Rattle.plan_zone.specs.Zone.{Plans}
-use Rattle.plan_zone.proofs.Whole.{tablesOf, run-like, plan-board}
 use Rattle.fill_all.specs.Held.{molesAt}
 use Rattle.plan_all.specs.Zones.{zoneOf, filledOf, Ready, Zoned, blank, Blanks, planZones, PlansAll}
 use Rattle.plan_all.proofs.Zones.{Alike, zone-alike, zoned-alike, alike-then, frame-alike, region-same, moles-at, nodes-handed}
@@ -35,11 +34,11 @@ use Rattle.plan_all.proofs.Zones.{Alike, zone-alike, zoned-alike, alike
 -- ---- a blank plan
 
 -- the floats past the plan's
-pub reals-rest : (n e : ℕ) (a : Area) → view n e a .restR ≡ drop (e + n + n) (a .reals)
+pub floats-rest : (n e : ℕ) (a : Area) → view n e a .restF ≡ drop (e + n + n) (a .floats)
 unfolding view
-reals-rest n e a =
+floats-rest n e a =
     let k : e + (n + n + 0) ≡ e + n + n = omega arith in
-    cut-rest (rsizes n e) (a .reals) ∙ ap (λ (m : ℕ). drop m (a .reals)) k
+    cut-rest (fsizes n e) (a .floats) ∙ ap (λ (m : ℕ). drop m (a .floats)) k
 
 pub blanked : {n e : ℕ} {w : List ℕ} {f : List Float} (w₁ w₂ : List ℕ) (f′ : List Float) → Fit n e (area w f)
     → w₁ ≡ take (e + e) w ++ (replicate (n + n) 0 ++ drop (n + n) (drop (e + e) w))
@@ -55,19 +54,19 @@ blanked {n} {e} {w} {f} w₁ w₂ f′ h q₁ q₂ q l₂ l₁ l =
     ap (cut (wsizes n e)) q₂
     ∙ cut-part (wsizes n e) w₁ 3 (replicate n 0) (e + e + n + n) n (omega arith) (omega (arith, h .words, l₁)) (omega arith) refl (length-replicate {A = ℕ} n 0)
     ∙ ap (λ (x : List (List ℕ)). set x 3 (replicate n 0)) c₁ in
-    let k : e + n + n ≡ base (rsizes n e) (length (rsizes n e)) = omega arith in
-    let t : drop (e + n + n) f ≡ drop (n + n) (drop e f) = sym (reals-rest n e (area w f)) in
-    let c : cut (rsizes n e) f′ ≡ replicate e 0f ∷ replicate (n + n) 0f ∷ drop (n + n) (drop e f) ∷ [] =
-    ap (cut (rsizes n e)) (q ∙ ap₂ (λ (m : ℕ) (x : List Float). replicate m 0f ++ x) k t) ∙ cut-clear 0f (rsizes n e) (drop (n + n) (drop e f)) in
+    let k : e + n + n ≡ base (fsizes n e) (length (fsizes n e)) = omega arith in
+    let t : drop (e + n + n) f ≡ drop (n + n) (drop e f) = sym (floats-rest n e (area w f)) in
+    let c : cut (fsizes n e) f′ ≡ replicate e 0f ∷ replicate (n + n) 0f ∷ drop (n + n) (drop e f) ∷ [] =
+    ap (cut (fsizes n e)) (q ∙ ap₂ (λ (m : ℕ) (x : List Float). replicate m 0f ++ x) k t) ∙ cut-clear 0f (fsizes n e) (drop (n + n) (drop e f)) in
     let v : view n e (area w₂ f′) ≡ viewIn (set (set (cut (wsizes n e) w) 2 (replicate (n + n) 0)) 3 (replicate n 0)) (replicate e 0f ∷ replicate (n + n) 0f ∷ drop (n + n) (drop e f) ∷ []) =
     ap₂ viewIn c₂ c in
     record {
-      fit = record { words = omega (arith, h .words, l₂); reals = omega (arith, h .reals, l); turfs = h .turfs; links = h .links };
+      fit = record { words = omega (arith, h .words, l₂); floats = omega (arith, h .floats, l); turfs = h .turfs; links = h .links };
       frame = record {
         owner = ap (λ (x : View). x .owner) v;
         reverse = ap (λ (x : View). x .reverse) v;
         restW = ap (λ (x : View). x .restW) v;
-        restR = ap (λ (x : View). x .restR) v;
+        restF = ap (λ (x : View). x .restF) v;
       };
       plan = ap (λ (x : View). x .plan) v ∙ halves n e;
     }
@@ -78,14 +77,14 @@ blanked {n} {e} {w} {f} w₁ w₂ f′ h q₁ q₂ q l₂ l₁ l =
 
 -- ---- one zone
 
-pub zone-planned : {n e z s q : ℕ} {w : List ℕ} {f : List Float} {a′ : Area} (b : Board) (gas : List Float) → s ≡ startsAt n e → z < n → Ready n e z w f → q ≡ nodesAt n e
-    → Plans n e (λ o p. planZone b o z gas (nodesOf n e (view n e (area w f)) (q + getD w (s + z) 0) (getD w (s + z + 1) 0 - getD w (s + z) 0)) (getD f (molesAt n e + z) nan) p) (area w f) a′
+pub zone-planned : {n e z s q m : ℕ} {w : List ℕ} {f : List Float} {a′ : Area} (b : Board) (gas : List Float) → s ≡ startsAt n e → z < n → Ready n e z w f → q ≡ nodesAt n e → m ≡ molesAt n e + z
+    → Plans n e (λ o p. planZone b o z gas (nodesOf n e (view n e (area w f)) (q + getD w (s + z) 0) (getD w (s + z + 1) 0 - getD w (s + z) 0)) (getD f m nan) p) (area w f) a′
     → Plans n e (λ o p. planZone b o z gas (zoneOf n e w f z .nodes) (zoneOf n e w f z .moles) p) (area w f) a′
-zone-planned {n} {e} {z} {w = w} {f} b gas es h t eq d = record {
+zone-planned {n} {e} {z} {w = w} {f} b gas es h t eq em d = record {
   fit = d .fit;
   frame = d .frame;
   plan = d .plan
-      ∙ ap₂ (λ (xs : List ℕ) (m : Float). planZone b (view n e (area w f) .owner) z gas xs m (view n e (area w f) .plan)) (nodes-handed es h t eq) (moles-at n e z w f h);
+      ∙ ap₂ (λ (xs : List ℕ) (m : Float). planZone b (view n e (area w f) .owner) z gas xs m (view n e (area w f) .plan)) (nodes-handed es h t eq) (ap (λ (k : ℕ). getD f k nan) em ∙ moles-at n e z w f h);
 }
 
 -- ---- zone after zone
@@ -94,8 +93,8 @@ zone-planned {n} {e} {z} {w = w} {f} b gas es h t eq d = record {
 pub record Going (n e zones : ℕ) (b : Board) (gas : List Float) (a a′ : Area) (z : ℕ) : Type 0 where
   pub fit : Fit n e a′
   pub frame : Frame n e a a′
-  pub on : planZones b gas (zoneOf n e (a .words) (a .reals)) (upFrom z (zones - z)) (view n e a .owner) (view n e a′ .plan)
-      ≡ planZones b gas (zoneOf n e (a .words) (a .reals)) (upFrom 0 zones) (view n e a .owner) (view n e a .plan)
+  pub on : planZones b gas (zoneOf n e (a .words) (a .floats)) (upFrom z (zones - z)) (view n e a .owner) (view n e a′ .plan)
+      ≡ planZones b gas (zoneOf n e (a .words) (a .floats)) (upFrom 0 zones) (view n e a .owner) (view n e a .plan)
 
 pub going-start : {n e zones : ℕ} (b : Board) (gas : List Float) {a : Area} → Fit n e a → Going n e zones b gas a a 0
 going-start {n} {e} {zones} b gas {a} h =
@@ -103,17 +102,17 @@ going-start {n} {e} {zones} b gas {a} h =
     record {
       fit = h;
       frame = frame-none;
-      on = ap (λ (m : ℕ). planZones b gas (zoneOf n e (a .words) (a .reals)) (upFrom 0 m) (view n e a .owner) (view n e a .plan)) k;
+      on = ap (λ (m : ℕ). planZones b gas (zoneOf n e (a .words) (a .floats)) (upFrom 0 m) (view n e a .owner) (view n e a .plan)) k;
     }
 
 pub going-next : {n e zones z : ℕ} {b : Board} {gas : List Float} {a a′ a″ : Area} → Going n e zones b gas a a′ z → z < zones
-    → Plans n e (λ o p. planZone b o z gas (zoneOf n e (a′ .words) (a′ .reals) z .nodes) (zoneOf n e (a′ .words) (a′ .reals) z .moles) p) a′ a″
+    → Plans n e (λ o p. planZone b o z gas (zoneOf n e (a′ .words) (a′ .floats) z .nodes) (zoneOf n e (a′ .words) (a′ .floats) z .moles) p) a′ a″
     → Going n e zones b gas a a″ (z + 1)
 going-next {n} {e} {zones} {z} {b} {gas} {a} {a′} {a″} g l d =
-    let f : ℕ → Plan → Plan = λ y q. planZone b (view n e a .owner) y gas (zoneOf n e (a .words) (a .reals) y .nodes) (zoneOf n e (a .words) (a .reals) y .moles) q in
+    let f : ℕ → Plan → Plan = λ y q. planZone b (view n e a .owner) y gas (zoneOf n e (a .words) (a .floats) y .nodes) (zoneOf n e (a .words) (a .floats) y .moles) q in
     let s : view n e a″ .plan ≡ f z (view n e a′ .plan) =
     d .plan
-    ∙ ap (λ (o : List ℕ). planZone b o z gas (zoneOf n e (a′ .words) (a′ .reals) z .nodes) (zoneOf n e (a′ .words) (a′ .reals) z .moles) (view n e a′ .plan)) (g .frame .owner)
+    ∙ ap (λ (o : List ℕ). planZone b o z gas (zoneOf n e (a′ .words) (a′ .floats) z .nodes) (zoneOf n e (a′ .words) (a′ .floats) z .moles) (view n e a′ .plan)) (g .frame .owner)
     ∙ ap (λ (y : ℕ → Zone). planZone b (view n e a .owner) z gas (y z .nodes) (y z .moles) (view n e a′ .plan)) (zone-alike (frame-alike (g .frame))) in
     record {
       fit = d .fit;
@@ -122,11 +121,11 @@ going-next {n} {e} {zones} {z} {b} {gas} {a} {a′} {a″} g l d =
     }
 
 pub going-end : {n e zones z : ℕ} {b : Board} {gas : List Float} {a a′ : Area} → Going n e zones b gas a a′ z → zones ≤ z
-    → Plans n e (planZones b gas (zoneOf n e (a .words) (a .reals)) (upFrom 0 zones)) a a′
+    → Plans n e (planZones b gas (zoneOf n e (a .words) (a .floats)) (upFrom 0 zones)) a a′
 going-end {n} {e} {zones} {z} {b} {gas} {a} {a′} g l = record {
   fit = g .fit;
   frame = g .frame;
-  plan = sym (run-up-end (λ y q. planZone b (view n e a .owner) y gas (zoneOf n e (a .words) (a .reals) y .nodes) (zoneOf n e (a .words) (a .reals) y .moles) q) z zones (view n e a′ .plan) l) ∙ g .on;
+  plan = sym (run-up-end (λ y q. planZone b (view n e a .owner) y gas (zoneOf n e (a .words) (a .floats) y .nodes) (zoneOf n e (a .words) (a .floats) y .moles) q) z zones (view n e a′ .plan) l) ∙ g .on;
 }
 
 -- ---- what the definition says of the zones as they stand in the areas
@@ -149,16 +148,6 @@ all-planned n e zones b gas w f en ee =
     (upFrom 0 zones) (blank n e) (blank n e) (upFrom-below 0 zones) refl
     ∙ ap (λ (m : ℕ). run h (upFrom 0 m) (blank n e)) (sym k)
     ∙ ap₂ (λ (m j : ℕ). run h (upFrom 0 (length zs)) (blank m j)) (sym en) (sym ee)
-
--- the plan of all zones looks at the tables alone
-pub plan-all-board : (b : Board) (gas : List Float) (s : Filled) → planAll (tablesOf b) gas s ≡ planAll b gas s
-unfolding planAll
-plan-all-board b gas s =
-    ap (λ (m : ℕ). run (λ z p. planZone (tablesOf b) (s .owner) z gas (zoneAt (s .zones) z .nodes) (zoneAt (s .zones) z .moles) p) (upFrom 0 (length (s .zones))) (blank m (linkCount b)))
-    (length-replicate {A = ℕ} (turfCount b) 0)
-    ∙ run-like (λ z p. planZone (tablesOf b) (s .owner) z gas (zoneAt (s .zones) z .nodes) (zoneAt (s .zones) z .moles) p)
-    (λ z p. planZone b (s .owner) z gas (zoneAt (s .zones) z .nodes) (zoneAt (s .zones) z .moles) p)
-    (λ z p. plan-board b (s .owner) z gas (zoneAt (s .zones) z .nodes) (zoneAt (s .zones) z .moles) p) (upFrom 0 (length (s .zones))) (blank (turfCount b) (linkCount b))
 
 -- ---- all of it
 
@@ -198,7 +187,7 @@ module _ {n e zones : ℕ} {w w₁ w₂ : List ℕ} {f f₂ : List Float} (z : Z
 
   pub planned-all : {w₃ : List ℕ} {f₃ : List Float} {b : Board} {gas : List Float} → Plans n e (planZones b gas (zoneOf n e w₂ f₂) (upFrom 0 zones)) (area w₂ f₂) (area w₃ f₃)
       → length w₃ ≡ length w₁ → length f₃ ≡ length f → turfCount b ≡ n → linkCount b ≡ e
-      → ((c : Board) → c .starts ≡ b .starts → c .neighbours ≡ b .neighbours → Reverses c n (take e (drop e w₁)))
+      → Reverses b n (take e (drop e w₁))
       → PlansAll n e zones b gas w w₃ f f₃
   unfolding view
   planned-all {w₃} {f₃} {b} {gas} d l m en ee v = record {
@@ -206,8 +195,8 @@ module _ {n e zones : ℕ} {w w₁ w₂ : List ℕ} {f f₂ : List Float} (z : Z
       len = l ∙ b₁ .len;
       same = λ i o. word-stays (d .frame) i o ∙ b₁ .same i (⊎-elim (λ q. inl q) (λ q. inr (omega (arith, q))) o);
     };
-    reals = (m, sym (reals-rest n e (area w₃ f₃)) ∙ since (d .frame) .restR ∙ reals-rest n e (area w₁ f));
-    reverses = λ c es et. subst (Reverses c n) (sym (since (d .frame) .reverse)) (v c es et);
+    floats = (m, sym (floats-rest n e (area w₃ f₃)) ∙ since (d .frame) .restF ∙ floats-rest n e (area w₁ f));
+    reverses = subst (Reverses b n) (sym (since (d .frame) .reverse)) v;
     plan = d .plan
         ∙ ap (λ (y : ℕ → Zone). planZones b gas y (upFrom 0 zones) (view n e (area w₂ f₂) .owner) (view n e (area w₂ f₂) .plan)) (zone-alike all-alike)
         ∙ ap₂ (planZones b gas (zoneOf n e w f) (upFrom 0 zones)) (k .frame .owner ∙ owners-stay) (k .plan)

@@ -13,7 +13,7 @@ use Rattle.index_set.specs.Line.{Below}
 use Rattle.flood_fill.specs.Held.{sizes, startsAt, nodesAt}
 use Rattle.finalize_eq.specs.Turns.{Zone}
 use Rattle.reverse_links.specs.Words.{Outside, But}
-use Rattle.plan_state.specs.Held.{Area, area, wsizes, rsizes, view, Fit, Frame, top, Nodes, nodesOf}
+use Rattle.plan_state.specs.Held.{Area, area, wsizes, fsizes, view, Fit, Frame, top, Nodes, nodesOf}
 use Rattle.plan_state.proofs.Nodes.{rest-is}
 use Rattle.fill_all.specs.Held.{floatSizes, molesAt, zoneIn}
 use Rattle.plan_all.specs.Zones.{zoneOf, startOf, Room, Ready, Zoned}
@@ -42,7 +42,7 @@ module _ {n e : ℕ} {w w′ : List ℕ} {f f′ : List Float} (h : Alike n e w 
 
   pub zoned-alike : {zones : ℕ} → length w′ ≡ length w → length f′ ≡ length f → Zoned n e zones w f → Zoned n e zones w′ f′
   zoned-alike l m z = record {
-    room = record { sizes = z .room .sizes; words = omega (arith, z .room .words, l); reals = omega (arith, z .room .reals, m) };
+    room = record { sizes = z .room .sizes; words = omega (arith, z .room .words, l); floats = omega (arith, z .room .floats, m) };
     few = z .few;
     each = λ k i. ready-alike k (z .each k i);
   }
@@ -57,12 +57,12 @@ region-later own all k w w′ h l e =
     region-part all w′ k h ∙ ap (take (getD all k 0)) (later-same own (base all k) w w′ l e) ∙ sym (region-part all w k h)
 
 -- planning leaves the zones
-pub frame-alike : {n e : ℕ} {a a′ : Area} → Frame n e a a′ → Alike n e (a .words) (a′ .words) (a .reals) (a′ .reals)
+pub frame-alike : {n e : ℕ} {a a′ : Area} → Frame n e a a′ → Alike n e (a .words) (a′ .words) (a .floats) (a′ .floats)
 unfolding view
 frame-alike {n} {e} {a} {a′} fr = record {
   starts = region-later (wsizes n e) (sizes n e) 11 (a .words) (a′ .words) (omega arith) (omega arith) (fr .restW);
   nodes = region-later (wsizes n e) (sizes n e) 12 (a .words) (a′ .words) (omega arith) (omega arith) (fr .restW);
-  moles = region-later (rsizes n e) (floatSizes n e) 4 (a .reals) (a′ .reals) (omega arith) (omega arith) (fr .restR);
+  moles = region-later (fsizes n e) (floatSizes n e) 4 (a .floats) (a′ .floats) (omega arith) (omega arith) (fr .restF);
 }
 
 -- ---- a part beside the changed one
@@ -112,7 +112,7 @@ module _ (n e z : ℕ) (w : List ℕ) (f : List Float) (h : z < n) where
           ∙ ap (λ (x : List ℕ). take c (drop s x)) (sym (region-part (sizes n e) w 12 (omega arith)))
 
 pub room-fit : {n e : ℕ} {w : List ℕ} {f : List Float} → Room n e w f → Fit n e (area w f)
-room-fit r = record { words = omega (arith, r .words); reals = omega (arith, r .reals); turfs = r .sizes .turfs; links = r .sizes .links }
+room-fit r = record { words = omega (arith, r .words); floats = omega (arith, r .floats); turfs = r .sizes .turfs; links = r .sizes .links }
 
 -- zone z as the code hands it on, with `s` where the starts are and `q` where the nodes are
 module _ {n e z s : ℕ} {w : List ℕ} {f : List Float} (es : s ≡ startsAt n e) (h : z < n) (t : Ready n e z w f) where
@@ -134,6 +134,8 @@ module _ {n e z s : ℕ} {w : List ℕ} {f : List Float} (es : s ≡ startsAt n 
 
     pub handed : Room n e w f → Nodes n e (q + getD w (s + z) 0) (getD w (s + z + 1) 0 - getD w (s + z) 0) (area w f)
     handed r = record {
+      some = omega (arith, from-to .0);
+      few = omega (arith, from-to .0, from-to .1 .1);
       past = omega (arith, eq);
       room = omega (arith, eq, from-to .0, from-to .1 .0, r .words);
       rows = subst (Below n) (sym nodes-handed) (t .rows);

@@ -8,22 +8,27 @@ use lib.Ieee.{Float}
 use Rattle.basics.specs.Floats.{0f}
 use Rattle.basics.specs.Loops.{run, upFrom}
 use Rattle.basics.specs.Regions.{region}
-use Rattle.board_rules.specs.Board.{Board}
+use Rattle.board_rules.specs.Board.{Board, turfCount, linkCount}
 use Rattle.index_set.specs.Line.{Below}
 use Rattle.flood_fill.specs.Held.{sizes, nodesAt, Sizes}
 use Rattle.process_zone.specs.Plan.{Plan, planZone}
 use Rattle.finalize_eq.specs.Turns.{Zone}
 use Rattle.equalize.specs.Equalize.{Filled, planAll}
 use Rattle.fill_all.specs.Held.{floatSizes, molesAt, zoneIn}
-use Rattle.reverse_links.specs.Reverse.{Reverses}
+use Rattle.reverse_links.specs.Reverse.{Linked, Reverses}
 use Rattle.reverse_links.specs.Words.{But}
 use Rattle.plan_state.specs.Held.{Area, area, view, Fit, Frame, top}
+use Rattle.plan_zone.specs.Zone.{Gassed}
 
 -- ---- the zones
 
 -- zone z: the starts say where its nodes and those of the next one start
 abbrev pub zoneOf : ℕ → ℕ → List ℕ → List Float → ℕ → Zone
 zoneOf n e w f = zoneIn (region (sizes n e) 11 w) (region (sizes n e) 12 w) (region (floatSizes n e) 4 f)
+
+-- the same of a board's areas
+abbrev pub zoneHeld : Board → Area → ℕ → Zone
+zoneHeld b a = zoneOf (turfCount b) (linkCount b) (a .words) (a .floats)
 
 -- where the nodes of zone z start
 abbrev pub startOf : ℕ → ℕ → List ℕ → ℕ → ℕ
@@ -40,11 +45,16 @@ filledOf n e zones w f = record {
   cancelled = false;
 }
 
+-- what planning relies on of the tables: links as refusal 4 leaves them, and every turf's mixture in the gas
+pub record Plannable (b : Board) (gas : List Float) : Type 0 where
+  pub linked : Linked (turfCount b) (b .starts) (b .neighbours)
+  pub gassed : Gassed (turfCount b) (b .mixtures) (b .gases) gas
+
 -- the areas are long enough, and the sizes within their limits
 pub record Room (n e : ℕ) (w : List ℕ) (f : List Float) : Type 0 where
   pub sizes : Sizes n e
   pub words : nodesAt n e + n + e ≤ length w
-  pub reals : molesAt n e + n ≤ length f
+  pub floats : molesAt n e + n ≤ length f
 
 -- zone z has nodes, at most n, which are rows
 pub record Ready (n e z : ℕ) (w : List ℕ) (f : List Float) : Type 0 where
@@ -78,6 +88,6 @@ planZones b gas zone zs o p = run (λ z q. planZone b o z gas (zone z .nodes) (z
 -- All zones are planned, as `planAll` says. Every word but the reverses and those that planning works with is as it was, and every float past the plan's.
 pub record PlansAll (n e zones : ℕ) (b : Board) (gas : List Float) (w w′ : List ℕ) (f f′ : List Float) : Type 0 where
   pub words : But e (top n e) w w′
-  pub reals : (length f′ ≡ length f) × (drop (e + n + n) f′ ≡ drop (e + n + n) f)
-  pub reverses : (c : Board) → c .starts ≡ b .starts → c .neighbours ≡ b .neighbours → Reverses c n (take e (drop e w′))
+  pub floats : (length f′ ≡ length f) × (drop (e + n + n) f′ ≡ drop (e + n + n) f)
+  pub reverses : Reverses b n (take e (drop e w′))
   pub plan : view n e (area w′ f′) .plan ≡ planAll b gas (filledOf n e zones w f)

@@ -1,129 +1,109 @@
 // Planning of all zones, as filling left them: the reverses once, then zone after zone.
-ghost use mathlib.Core.Path.{_≡_};
-ghost use mathlib.Core.List.{_++_};
-ghost use Prim.Native.Nat.{_+_, _<_};
-ghost use lib.ListN.{length, take, drop, replicate};
+ghost use Prim.Native.Nat.{_<_};
 ghost use Rattle.basics.specs.Loops.{upFrom};
+ghost use Rattle.board_rules.specs.Board.{turfCount, linkCount};
+ghost use Rattle.turfs.specs.Tables.{boardAt};
 ghost use Rattle.process_zone.specs.Plan.{planZone};
-ghost use Rattle.reverse_links.specs.Reverse.{Linked, Reverses};
-ghost use Rattle.plan_state.specs.Held.{grid, ground, area, view, Fit};
-ghost use Rattle.plan_zone.specs.Zone.{Gassed, Plans};
-ghost use Rattle.plan_all.specs.Zones.{zoneOf, Room, Ready, Zoned, Blanks, planZones, PlansAll};
+ghost use Rattle.reverse_links.specs.Reverse.{Reverses};
+ghost use Rattle.plan_state.specs.Held.{areaAt, view, Fit};
+ghost use Rattle.plan_zone.specs.Zone.{Plans};
+ghost use Rattle.plan_all.specs.Zones.{zoneHeld, Plannable, Room, Ready, Zoned, Blanks, planZones, PlansAll};
+use plan_state::ZoneAt;
+use turfs::IDS;
+use turfs::Marks;
+use turfs::NEIGHBOURS;
+use turfs::Rows;
+use turfs::STARTS;
 
 // Nothing is planned yet: no weights, no planning state.
-fn clear_plan(n: usize, e: usize, words: &mut [u32], reals: &mut [f32])
-    requires { ⌜ Fit n e (area (now words) (now reals)) ⌝ }
-    ensures { λ _. ⌜ Blanks n e (area (now (words .entry)) (now (reals .entry))) (area (now (words .exit)) (now (reals .exit))) ⌝ }
+fn clear_plan(n: usize, e: usize, words: &mut [u32], floats: &mut [f32])
+    requires { ⌜ Fit n e (areaAt words floats) ⌝ }
+    ensures { λ _. ⌜ Blanks n e (areaAt (words .entry) (floats .entry)) (areaAt (words .exit) (floats .exit)) ⌝ }
 {
     let pairs = e + e;
     basics::clear_part(words, pairs, n + n);
     basics::clear_part(words, pairs + n + n, n);
-    basics::clear_floats(reals, e + n + n);
+    basics::clear_floats(floats, e + n + n);
 }
 
 // The zone z.
 fn plan_zone_at(
     z: usize,
-    mixtures: &[u32],
+    rows: &Rows,
+    marks: &Marks,
     gases: usize,
     gas: &[f32],
-    starts: &[u32],
-    neighbours: &[u32],
-    n: usize,
-    e: usize,
     words: &mut [u32],
-    reals: &mut [f32],
+    floats: &mut [f32],
 )
-    requires { ⌜ Gassed n (now mixtures) gases (now gas) × (Linked n (now starts) (now neighbours) × ((length (now neighbours) ≡ e) × (Room n e (now words) (now reals) × (z < n)))) ⌝ }
-    requires { ⌜ Reverses (grid n (now starts) (now neighbours)) n (view n e (area (now words) (now reals)) .reverse) × Ready n e z (now words) (now reals) ⌝ }
-    ensures { λ _. ⌜ Plans n e (λ o p. planZone (ground n (now (starts .entry)) (now (neighbours .entry)) (now (mixtures .entry)) gases) o z (now (gas .entry)) (zoneOf n e (now (words .entry)) (now (reals .entry)) z .nodes) (zoneOf n e (now (words .entry)) (now (reals .entry)) z .moles) p) (area (now (words .entry)) (now (reals .entry))) (area (now (words .exit)) (now (reals .exit))) ⌝ }
+    requires { ⌜ Plannable (boardAt rows marks gases) (now gas) ⌝ }
+    requires { let b = boardAt rows marks gases in ⌜ Room (turfCount b) (linkCount b) (now words) (now floats) ⌝ }
+    requires { ⌜ z < turfCount (boardAt rows marks gases) ⌝ }
+    requires { let b = boardAt rows marks gases in ⌜ Reverses b (turfCount b) (view (turfCount b) (linkCount b) (areaAt words floats) .reverse) ⌝ }
+    requires { let b = boardAt rows marks gases in ⌜ Ready (turfCount b) (linkCount b) z (now words) (now floats) ⌝ }
+    ensures { λ _. let b = boardAt (rows .entry) (marks .entry) gases in let a = areaAt (words .entry) (floats .entry) in ⌜ Plans (turfCount b) (linkCount b) (λ o p. planZone b o z (now (gas .entry)) (zoneHeld b a z .nodes) (zoneHeld b a z .moles) p) a (areaAt (words .exit) (floats .exit)) ⌝ }
 {
+    let ids = rows[IDS];
+    let neighbours = rows[NEIGHBOURS];
+    let n = ids.len();
+    let e = neighbours.len();
     let at = flood_fill::starts_at(n, e) + z;
     let from = words[at] as usize;
     let to = words[at + 1] as usize;
-    let first = flood_fill::nodes_at(n, e) + from;
-    let moles = reals[e + n + n + e + z];
-    plan_zone::process_zone(
-        first,
-        to - from,
-        moles,
-        mixtures,
-        gases,
-        gas,
-        starts,
-        neighbours,
-        z as u32,
+    let total = plan_state::moles_at(z, n, e);
+    let zone = ZoneAt {
+        z: z as u32,
+        first: flood_fill::nodes_at(n, e) + from,
+        count: to - from,
+        moles: floats[total],
         n,
         e,
-        words,
-        reals,
-    );
+    };
+    plan_zone::process_zone(zone, rows, marks, gases, gas, words, floats);
 }
 
 // The zones one after the other.
 fn plan_zones(
     zones: usize,
-    mixtures: &[u32],
+    rows: &Rows,
+    marks: &Marks,
     gases: usize,
     gas: &[f32],
-    starts: &[u32],
-    neighbours: &[u32],
-    n: usize,
-    e: usize,
     words: &mut [u32],
-    reals: &mut [f32],
+    floats: &mut [f32],
 )
-    requires { ⌜ Gassed n (now mixtures) gases (now gas) × (Linked n (now starts) (now neighbours) × ((length (now neighbours) ≡ e) × Zoned n e zones (now words) (now reals))) ⌝ }
-    requires { ⌜ Reverses (grid n (now starts) (now neighbours)) n (view n e (area (now words) (now reals)) .reverse) ⌝ }
-    ensures { λ _. ⌜ Plans n e (planZones (ground n (now (starts .entry)) (now (neighbours .entry)) (now (mixtures .entry)) gases) (now (gas .entry)) (zoneOf n e (now (words .entry)) (now (reals .entry))) (upFrom 0 zones)) (area (now (words .entry)) (now (reals .entry))) (area (now (words .exit)) (now (reals .exit))) ⌝ }
+    requires { ⌜ Plannable (boardAt rows marks gases) (now gas) ⌝ }
+    requires { let b = boardAt rows marks gases in ⌜ Zoned (turfCount b) (linkCount b) zones (now words) (now floats) ⌝ }
+    requires { let b = boardAt rows marks gases in ⌜ Reverses b (turfCount b) (view (turfCount b) (linkCount b) (areaAt words floats) .reverse) ⌝ }
+    ensures { λ _. let b = boardAt (rows .entry) (marks .entry) gases in let a = areaAt (words .entry) (floats .entry) in ⌜ Plans (turfCount b) (linkCount b) (planZones b (now (gas .entry)) (zoneHeld b a) (upFrom 0 zones)) a (areaAt (words .exit) (floats .exit)) ⌝ }
 {
     let mut z = 0;
     while z < zones {
-        plan_zone_at(
-            z,
-            mixtures,
-            gases,
-            gas,
-            starts,
-            neighbours,
-            n,
-            e,
-            words,
-            reals,
-        );
+        plan_zone_at(z, rows, marks, gases, gas, words, floats);
         z += 1;
     }
 }
 
-// All zones of a board of n turfs and e links.
+// All zones.
 pub fn plan_all(
     zones: usize,
-    mixtures: &[u32],
+    rows: &Rows,
+    marks: &Marks,
     gases: usize,
     gas: &[f32],
-    starts: &[u32],
-    neighbours: &[u32],
-    n: usize,
-    e: usize,
     words: &mut [u32],
-    reals: &mut [f32],
+    floats: &mut [f32],
 )
-    requires { ⌜ Gassed n (now mixtures) gases (now gas) × (Linked n (now starts) (now neighbours) × (length (now neighbours) ≡ e)) ⌝ }
-    requires { ⌜ Zoned n e zones (now words) (now reals) ⌝ }
-    ensures { λ _. ⌜ PlansAll n e zones (ground n (now (starts .entry)) (now (neighbours .entry)) (now (mixtures .entry)) gases) (now (gas .entry)) (now (words .entry)) (now (words .exit)) (now (reals .entry)) (now (reals .exit)) ⌝ }
+    requires { ⌜ Plannable (boardAt rows marks gases) (now gas) ⌝ }
+    requires { let b = boardAt rows marks gases in ⌜ Zoned (turfCount b) (linkCount b) zones (now words) (now floats) ⌝ }
+    ensures { λ _. let b = boardAt (rows .entry) (marks .entry) gases in ⌜ PlansAll (turfCount b) (linkCount b) zones b (now (gas .entry)) (now (words .entry)) (now (words .exit)) (now (floats .entry)) (now (floats .exit)) ⌝ }
 {
+    let ids = rows[IDS];
+    let starts = rows[STARTS];
+    let neighbours = rows[NEIGHBOURS];
+    let n = ids.len();
+    let e = neighbours.len();
     reverse_links::find_reverses(starts, neighbours, n, e, words);
-    clear_plan(n, e, words, reals);
-    plan_zones(
-        zones,
-        mixtures,
-        gases,
-        gas,
-        starts,
-        neighbours,
-        n,
-        e,
-        words,
-        reals,
-    );
+    clear_plan(n, e, words, floats);
+    plan_zones(zones, rows, marks, gases, gas, words, floats);
 }

@@ -17,17 +17,16 @@ use Rattle.basics.specs.declared.Spot.the-variants.{At}
 use Rattle.basics.specs.Lists.{All}
 use Rattle.basics.proofs.Loops.{All-any, run-both, run-keep}
 use Rattle.basics.proofs.Regions.{region-part}
-use Rattle.basics.proofs.Parts.{part}
 use Rattle.board_rules.specs.Board.{Board, end, linksOf}
 use Rattle.process_zone.specs.Edges.{edgesOf, edge, adjust}
 use Rattle.process_zone.specs.Plan.{Plan, load, store, reweigh, withDelta, countOf, eligible, fastMove, fastTurf}
 use Rattle.process_zone.specs.declared.MonstermosInfo.{MonstermosInfo}
 use Rattle.reverse_links.specs.Reverse.{InRow, Linked, Reverses}
-use Rattle.plan_state.specs.Held.{grid, Area, area, wsizes, View, view, Fit, onPlan, Does}
+use Rattle.plan_state.specs.Held.{Area, area, wsizes, View, view, Fit, onPlan, Does}
 use Rattle.plan_state.specs.Steps.{backLink, adjustAt}
 use Rattle.plan_state.proofs.Stores.{setDelta, does-as, does-then, does-frame, store-delta}
 use Rattle.plan_state.proofs.Links.{edge-there, edge-back, reverse-within}
-use Rattle.plan_state.proofs.Parts.{part-length, part-run}
+use Rattle.plan_tests.specs.Sides.{marked}
 use Rattle.plan_fast.specs.Steps.{tallyStep, moveAt, fastVia}
 
 -- ---- one move
@@ -107,9 +106,6 @@ module _ (b : Board) (o : List ℕ) (z r : ℕ) where
 
 -- ---- one turf
 
-abbrev marked : MonstermosInfo → MonstermosInfo
-marked i = record { delta = i .delta; amount = i .amount; direction = i .direction; fast = 1 }
-
 -- what the turf comes to, from its state i
 abbrev shared : Board → List ℕ → ℕ → ℕ → Plan → MonstermosInfo → List ℕ → Plan
 shared b o z r s i ks =
@@ -125,40 +121,34 @@ owner-is : (n e : ℕ) (w : List ℕ) (f : List Float) → take e w ≡ view n e
 unfolding view
 owner-is n e w f = refl
 
-module _ (starts neighbours : List ℕ) (n e z r : ℕ) (i : MonstermosInfo) (A : Area) (ei : i ≡ load (view n e A .plan) r) where
-  whole : (s : Plan) (o : List ℕ) → i ≡ load s r
-      → shared (grid n starts neighbours) o z r s i (cond (lt 0f (i .delta)) (eligible (grid n starts neighbours) o z (store s r (marked i)) r) []) ≡ fastTurf (grid n starts neighbours) o z r s
+module _ (b : Board) (n e z r : ℕ) (i : MonstermosInfo) (A : Area) (ei : i ≡ load (view n e A .plan) r) where
+  whole : (s : Plan) (o : List ℕ) → i ≡ load s r → shared b o z r s i (cond (lt 0f (i .delta)) (eligible b o z (store s r (marked i)) r) []) ≡ fastTurf b o z r s
   unfolding fastTurf
-  whole s o q = ap (λ (j : MonstermosInfo). shared (grid n starts neighbours) o z r s j (cond (lt 0f (j .delta)) (eligible (grid n starts neighbours) o z (store s r (marked j)) r) [])) q
+  whole s o q = ap (λ (j : MonstermosInfo). shared b o z r s j (cond (lt 0f (j .delta)) (eligible b o z (store s r (marked j)) r) [])) q
 
-  pub fast-none : {B : Area} → lt 0f (i .delta) ≡ false → Does n e (λ o p. store p r (marked i)) A B
-      → Does n e (λ o p. fastTurf (grid n starts neighbours) o z r p) A B
+  pub fast-none : {B : Area} → lt 0f (i .delta) ≡ false → Does n e (λ o p. store p r (marked i)) A B → Does n e (λ o p. fastTurf b o z r p) A B
   unfolding run
   fast-none t d =
       does-as d
-      (sym (ap (λ (c : Bool). shared (grid n starts neighbours) (view n e A .owner) z r (view n e A .plan) i (cond c (eligible (grid n starts neighbours) (view n e A .owner) z (store (view n e A .plan) r (marked i)) r) [])) t)
+      (sym (ap (λ (c : Bool). shared b (view n e A .owner) z r (view n e A .plan) i (cond c (eligible b (view n e A .owner) z (store (view n e A .plan) r (marked i)) r) [])) t)
       ∙ whole (view n e A .plan) (view n e A .owner) ei)
 
-  module _ (t : Linked n starts neighbours) (h : r < n) (v : Reverses (grid n starts neighbours) n (view n e A .reverse)) (w : List ℕ) (f : List Float)
+  module _ (t : Linked n (b .starts) (b .neighbours)) (h : r < n) (v : Reverses b n (view n e A .reverse)) (w : List ℕ) (f : List Float)
       (d : Does n e (λ o p. store p r (marked i)) A (area w f)) where
     rev-is : view n e (area w f) .reverse ≡ view n e A .reverse
     rev-is = does-frame d .reverse
 
     -- the reverses of its links are among the links
-    pub fast-within : length neighbours ≡ e → (j : ℕ) → j < length (part neighbours (getD starts r 0) (getD starts (r + 1) 0)) → getD (view n e (area w f) .reverse) (getD starts r 0 + j) 0 ≤ e
-    fast-within len j l =
-        let m : j < getD starts (r + 1) 0 - getD starts r 0 = rw (part-length n starts neighbours r t h) at l in
-        let i₁ : InRow starts r (getD starts r 0 + j) = record { from = omega arith; to = omega (arith, t .rise r h) } in
-        rw rev-is (omega (arith, len, reverse-within (grid n starts neighbours) n t (view n e A .owner) z (view n e A .reverse) v r (getD starts r 0 + j) h i₁))
+    pub fast-within : length (b .neighbours) ≡ e → (k : ℕ) → getD (b .starts) r 0 ≤ k → k < getD (b .starts) (r + 1) 0 → getD (view n e (area w f) .reverse) k 0 ≤ e
+    fast-within len k l m = rw rev-is (omega (arith, len, reverse-within b n t (view n e A .owner) z (view n e A .reverse) v r k h (record { from = l; to = m })))
 
     pub fast-some : (count : ℕ) {C : Area} → lt 0f (i .delta) ≡ true
-        → count ≡ run (λ j c. tallyStep (take e w) (take n (drop (e + e + n + n) w)) z (getD starts r 0 + j) (getD (part neighbours (getD starts r 0) (getD starts (r + 1) 0)) j 0) c)
-        (upFrom 0 (length (part neighbours (getD starts r 0) (getD starts (r + 1) 0)))) 0
-        → Does n e (λ o p. run (λ j s. fastVia (view n e (area w f) .reverse) z r (i .delta /f ofInt binary32 (pos count)) o (getD starts r 0 + j) (getD (part neighbours (getD starts r 0) (getD starts (r + 1) 0)) j 0) s)
-        (upFrom 0 (length (part neighbours (getD starts r 0) (getD starts (r + 1) 0)))) p) (area w f) C
-        → Does n e (λ o p. fastTurf (grid n starts neighbours) o z r p) A C
+        → count ≡ run (λ k c. tallyStep (take e w) (take n (drop (e + e + n + n) w)) z k (end b k) c) (upFrom (getD (b .starts) r 0) (getD (b .starts) (r + 1) 0 - getD (b .starts) r 0)) 0
+        → Does n e (λ o p. run (λ k s. fastVia (view n e (area w f) .reverse) z r (i .delta /f ofInt binary32 (pos count)) o k (end b k) s)
+        (upFrom (getD (b .starts) r 0) (getD (b .starts) (r + 1) 0 - getD (b .starts) r 0)) p) (area w f) C
+        → Does n e (λ o p. fastTurf b o z r p) A C
+    unfolding linksOf
     fast-some count c ec d′ =
-        let b : Board = grid n starts neighbours in
         let o : List ℕ = view n e A .owner in
         let s : Plan = view n e A .plan in
         let p : Plan = store s r (marked i) in
@@ -167,13 +157,15 @@ module _ (starts neighbours : List ℕ) (n e z r : ℕ) (i : MonstermosInfo) (A 
         let eo : take e w ≡ o = owner-is n e w f ∙ ap (λ (u : View). u .owner) (d .same) in
         let ef : take n (drop (e + e + n + n) w) ≡ p .fast = fast-is n e w f ∙ ap (λ (u : View). u .plan .fast) (d .same) in
         let c₁ : count ≡ length ks =
-        ec ∙ part-run n starts neighbours r t h (λ k a c. tallyStep (take e w) (take n (drop (e + e + n + n) w)) z k a c) 0
-        ∙ ap₂ (λ (x y : List ℕ). run (λ k c. tallyStep x y z k (getD neighbours k 0) c) (linksOf b r) 0) eo ef
+        ec ∙ ap₂ (λ (x y : List ℕ). run (λ k c. tallyStep x y z k (end b k) c) (linksOf b r) 0) eo ef
         ∙ counted b o z r p in
         does-as (does-then _ d d′)
-        (part-run n starts neighbours r t h (λ k a u. fastVia (view n e (area w f) .reverse) z r (i .delta /f ofInt binary32 (pos count)) o k a u) p
-        ∙ ap (λ (l : List ℕ). run (λ k u. fastVia l z r (i .delta /f ofInt binary32 (pos count)) o k (getD neighbours k 0) u) (linksOf b r) p) rev-is
+        (ap (λ (l : List ℕ). run (λ k u. fastVia l z r (i .delta /f ofInt binary32 (pos count)) o k (end b k) u) (linksOf b r) p) rev-is
         ∙ moves b o z r n t rev v h (i .delta /f ofInt binary32 (pos count)) p
-        ∙ ap (λ (m : ℕ). run (λ k u. fastMove b o z r (i .delta /f ofInt binary32 (pos m)) (getD neighbours k 0) u) ks p) c₁
+        ∙ ap (λ (m : ℕ). run (λ k u. fastMove b o z r (i .delta /f ofInt binary32 (pos m)) (end b k) u) ks p) c₁
         ∙ sym (ap (λ (x : Bool). shared b o z r s i (cond x ks [])) c)
         ∙ whole s o ei)
+
+-- a marked state that was stored
+pub stored : {n e r : ℕ} {m : MonstermosInfo} {A B : Area} (i : MonstermosInfo) → m ≡ marked i → Does n e (λ o p. store p r m) A B → Does n e (λ o p. store p r (marked i)) A B
+stored {n} {e} {r} {A = A} {B = B} i q d = subst (λ (j : MonstermosInfo). Does n e (λ o p. store p r j) A B) q d

@@ -11,6 +11,7 @@ use Rattle.basics.specs.declared.Spot.{Spot}
 use Rattle.basics.specs.declared.Spot.the-variants.{At}
 use Rattle.process_zone.specs.Plan.{Plan}
 use Rattle.plan_state.specs.Steps.{backLink, adjustAt}
+use Rattle.plan_fast.specs.declared.Share.{Share}
 
 -- one more, if the zone owns the link k and the row a, where it ends, has no fast mark
 unfoldable pub tallyStep : List ℕ → List ℕ → ℕ → ℕ → ℕ → ℕ → ℕ
@@ -32,3 +33,7 @@ moveAt there back r x a s =
 unfoldable pub fastVia : List ℕ → ℕ → ℕ → Float → List ℕ → ℕ → ℕ → Plan → Plan
 fastVia reverse z r x o k a s =
     if eqb (getD o k 0) (z + 1) then (if eqb (getD (s .fast) a 0) 0 then moveAt (At k) (backLink reverse o z k) r x a s else s) else s
+
+-- the link k of a giver that shares
+abbrev pub shareOver : Share → List ℕ → List ℕ → List ℕ → ℕ → Plan → Plan
+shareOver share neighbours reverse o k s = fastVia reverse (share .z) (share .r) (share .x) o k (getD neighbours k 0) s

@@ -1,25 +1,32 @@
 // `monstermos_fast_process`: the fast pass over the nodes of a zone.
 ghost use mathlib.Core.Path.{_≡_};
-ghost use Prim.Native.Nat.{ℕ, _+_, _≤_, _<_};
+ghost use Prim.Native.Nat.{ℕ, _+_, _-_, _≤_, _<_};
 ghost use lib.ListN.{length, getD, take, drop};
 ghost use Rattle.basics.specs.Lists.{Found};
 ghost use Rattle.basics.specs.Loops.{run, upFrom};
-ghost use Rattle.basics.specs.declared.Spot.the-variants.{At};
+ghost use Rattle.turfs.specs.Tables.{boardAt};
 ghost use Rattle.process_zone.specs.Plan.{fastTurf};
-ghost use Rattle.index_set.specs.Line.{Below};
-ghost use Rattle.reverse_links.specs.Reverse.{Linked, Reverses};
-ghost use Rattle.plan_state.specs.Held.{grid, area, view, Fit, Does, Nodes, nodesOf};
-ghost use Rattle.plan_fast.specs.Steps.{tallyStep, moveAt, fastVia};
+ghost use Rattle.plan_state.specs.Held.{areaAt, view, Fit, Ends, Planning, Does, Nodes, zoneNodes};
+ghost use Rattle.plan_fast.specs.Steps.{tallyStep, moveAt, shareOver};
 use basics::Spot;
+use plan_state::ZoneAt;
 use plan_state::adjust_eq_movement;
 use plan_state::back_link;
 use plan_state::load;
 use plan_state::store;
-use process_zone::MonstermosInfo;
+use plan_tests::marked;
+use turfs::Marks;
+use turfs::NEIGHBOURS;
+use turfs::Rows;
+use turfs::STARTS;
 
 // Counts the link k, which ends at the row a, if it is the zone's and that turf has no fast mark.
 fn tally(k: usize, a: u32, z: u32, n: usize, e: usize, c: u16, words: &[u32]) -> u16
-    requires { ⌜ (e + e + n + n + n ≤ length (now words)) × ((k < e) × ((a < n) × ((z < 4096) × (c < 24576)))) ⌝ }
+    requires { ⌜ e + e + n + n + n ≤ length (now words) ⌝ }
+    requires { ⌜ k < e ⌝ }
+    requires { ⌜ a < n ⌝ }
+    requires { ⌜ z < 4096 ⌝ }
+    requires { ⌜ c < 24576 ⌝ }
     ensures { λ r. ⌜ r ≡ tallyStep (take e (now (words .entry))) (take n (drop (e + e + n + n) (now (words .entry)))) z k a c ⌝ }
 {
     if words[k] != z + 1 {
@@ -31,146 +38,163 @@ fn tally(k: usize, a: u32, z: u32, n: usize, e: usize, c: u16, words: &[u32]) ->
     c + 1
 }
 
-// How many of a turf's links, from `from` on, are the zone's and lead to a turf with no fast mark.
-fn count_eligible(part: &[u32], from: usize, z: u32, n: usize, e: usize, words: &[u32]) -> u16
-    requires { ⌜ (e + e + n + n + n ≤ length (now words)) × (Below n (now part) × ((from + length (now part) ≤ e) × ((z < 4096) × (e ≤ 24576)))) ⌝ }
-    ensures { λ r. ⌜ r ≡ run (λ i c. tallyStep (take e (now (words .entry))) (take n (drop (e + e + n + n) (now (words .entry)))) z (from + i) (getD (now (part .entry)) i 0) c) (upFrom 0 (length (now (part .entry)))) 0 ⌝ }
+// How many of the links from `from` up to `to` are the zone's and lead to a turf with no fast mark.
+fn count_eligible(
+    from: usize,
+    to: usize,
+    z: u32,
+    n: usize,
+    e: usize,
+    neighbours: &[u32],
+    words: &[u32],
+) -> u16
+    requires { ⌜ e + e + n + n + n ≤ length (now words) ⌝ }
+    requires { ⌜ z < 4096 ⌝ }
+    requires { ⌜ e ≤ 24576 ⌝ }
+    requires { ⌜ from ≤ to ⌝ }
+    requires { ⌜ to ≤ e ⌝ }
+    requires { ⌜ length (now neighbours) ≡ e ⌝ }
+    requires { ⌜ ((k : ℕ) → k < e → getD (now neighbours) k 0 < n) ⌝ }
+    ensures { λ r. let w = now (words .entry) in ⌜ r ≡ run (λ k c. tallyStep (take e w) (take n (drop (e + e + n + n) w)) z k (getD (now (neighbours .entry)) k 0) c) (upFrom from (to - from)) 0 ⌝ }
 {
     let mut c = 0;
-    let mut i = 0;
-    while i < part.len() {
-        c = tally(from + i, part[i], z, n, e, c, words);
-        i += 1;
+    let mut k = from;
+    while k < to {
+        c = tally(k, neighbours[k], z, n, e, c, words);
+        k += 1;
     }
     c
 }
 
-// x moves from the turf r to its neighbour a, over the edges at hand.
-fn fast_move(
-    there: Spot,
-    back: Spot,
-    r: usize,
-    a: usize,
-    x: f32,
-    n: usize,
-    e: usize,
-    words: &[u32],
-    reals: &mut [f32],
-)
-    requires { ⌜ Fit n e (area (now words) (now reals)) × ((r < n) × (a < n)) ⌝ }
-    requires { ⌜ Found (λ k. k < e) there × Found (λ k. k < e) back ⌝ }
-    ensures { λ _. ⌜ Does n e (λ o p. moveAt there back r x a p) (area (now (words .entry)) (now (reals .entry))) (area (now (words .exit)) (now (reals .exit))) ⌝ }
-{
-    adjust_eq_movement(there, back, x, reals);
-    let from = e + r + r;
-    let to = e + a + a;
-    reals[from] = reals[from] - x;
-    reals[to] = reals[to] + x;
+// A giver of zone z and what it hands to each of its neighbours, on a board of n turfs and e links.
+pub struct Share {
+    pub r: usize,
+    pub x: f32,
+    pub z: u32,
+    pub n: usize,
+    pub e: usize,
 }
 
-// The link k of the turf r, which ends at the row a: x moves if the turf there has no fast mark.
-fn fast_link(
-    r: usize,
-    x: f32,
-    k: usize,
-    a: u32,
-    z: u32,
-    n: usize,
-    e: usize,
-    words: &[u32],
-    reals: &mut [f32],
-)
-    requires { ⌜ Fit n e (area (now words) (now reals)) × ((z < 4096) × ((r < n) × ((a < n) × (k < e)))) ⌝ }
-    requires { ⌜ getD (view n e (area (now words) (now reals)) .reverse) k 0 ≤ e ⌝ }
-    ensures { λ _. ⌜ Does n e (λ o p. fastVia (view n e (area (now (words .entry)) (now (reals .entry))) .reverse) z r x o k a p) (area (now (words .entry)) (now (reals .entry))) (area (now (words .exit)) (now (reals .exit))) ⌝ }
+// The share moves to the neighbour a, over the edges at hand.
+fn fast_move(share: Share, there: Spot, back: Spot, a: usize, words: &[u32], floats: &mut [f32])
+    requires { ⌜ Fit (share .n) (share .e) (areaAt words floats) ⌝ }
+    requires { ⌜ share .r < share .n ⌝ }
+    requires { ⌜ a < share .n ⌝ }
+    requires { ⌜ Found (λ k. k < share .e) there ⌝ }
+    requires { ⌜ Found (λ k. k < share .e) back ⌝ }
+    ensures { λ _. ⌜ Does (share .n) (share .e) (λ o p. moveAt there back (share .r) (share .x) a p) (areaAt (words .entry) (floats .entry)) (areaAt (words .exit) (floats .exit)) ⌝ }
 {
+    let r = share.r;
+    let x = share.x;
+    let e = share.e;
+    adjust_eq_movement(there, back, x, floats);
+    let from = e + r + r;
+    let to = e + a + a;
+    floats[from] = floats[from] - x;
+    floats[to] = floats[to] + x;
+}
+
+// The link k of the giver: its share moves if the turf at the end has no fast mark.
+fn fast_link(share: Share, k: usize, neighbours: &[u32], words: &[u32], floats: &mut [f32])
+    requires { ⌜ Fit (share .n) (share .e) (areaAt words floats) ⌝ }
+    requires { ⌜ share .z < 4096 ⌝ }
+    requires { ⌜ Ends (share .n) (share .e) (share .r) (k + 1) (now neighbours) ⌝ }
+    requires { ⌜ getD (view (share .n) (share .e) (areaAt words floats) .reverse) k 0 ≤ share .e ⌝ }
+    ensures { λ _. let a = areaAt (words .entry) (floats .entry) in let rev = view (share .n) (share .e) a .reverse in ⌜ Does (share .n) (share .e) (λ o p. shareOver share (now (neighbours .entry)) rev o k p) a (areaAt (words .exit) (floats .exit)) ⌝ }
+{
+    let z = share.z;
+    let n = share.n;
+    let e = share.e;
     if words[k] != z + 1 {
         return;
     }
-    let to = a as usize;
-    if words[e + e + n + n + to] != 0 {
+    let a = neighbours[k] as usize;
+    if words[e + e + n + n + a] != 0 {
         return;
     }
     let back = back_link(k, z, e, words);
-    fast_move(Spot::At(k), back, r, to, x, n, e, words, reals);
+    fast_move(share, Spot::At(k), back, a, words, floats);
 }
 
-// The links of the turf r, which are handed on as a part of the link list that starts at `from`.
+// The links of the giver, from `from` up to `to`.
 fn fast_row(
-    r: usize,
-    x: f32,
-    part: &[u32],
+    share: Share,
     from: usize,
-    z: u32,
-    n: usize,
-    e: usize,
+    to: usize,
+    neighbours: &[u32],
     words: &[u32],
-    reals: &mut [f32],
+    floats: &mut [f32],
 )
-    requires { ⌜ Fit n e (area (now words) (now reals)) × ((z < 4096) × ((r < n) × (Below n (now part) × (from + length (now part) ≤ e)))) ⌝ }
-    requires { ⌜ ((i : ℕ) → i < length (now part) → getD (view n e (area (now words) (now reals)) .reverse) (from + i) 0 ≤ e) ⌝ }
-    ensures { λ _. ⌜ Does n e (λ o p. run (λ i t. fastVia (view n e (area (now (words .entry)) (now (reals .entry))) .reverse) z r x o (from + i) (getD (now (part .entry)) i 0) t) (upFrom 0 (length (now (part .entry)))) p) (area (now (words .entry)) (now (reals .entry))) (area (now (words .exit)) (now (reals .exit))) ⌝ }
+    requires { ⌜ Fit (share .n) (share .e) (areaAt words floats) ⌝ }
+    requires { ⌜ share .z < 4096 ⌝ }
+    requires { ⌜ Ends (share .n) (share .e) (share .r) to (now neighbours) ⌝ }
+    requires { ⌜ from ≤ to ⌝ }
+    requires { ⌜ ((k : ℕ) → from ≤ k → k < to → getD (view (share .n) (share .e) (areaAt words floats) .reverse) k 0 ≤ share .e) ⌝ }
+    ensures { λ _. let a = areaAt (words .entry) (floats .entry) in let rev = view (share .n) (share .e) a .reverse in ⌜ Does (share .n) (share .e) (λ o p. run (shareOver share (now (neighbours .entry)) rev o) (upFrom from (to - from)) p) a (areaAt (words .exit) (floats .exit)) ⌝ }
 {
-    let mut i = 0;
-    while i < part.len() {
-        fast_link(r, x, from + i, part[i], z, n, e, words, reals);
-        i += 1;
+    let mut k = from;
+    while k < to {
+        fast_link(share, k, neighbours, words, floats);
+        k += 1;
     }
 }
 
-// A giver shares what it has over among the neighbours that the fast pass has not been at.
+// The turf r of the zone: a giver shares what it has over among the neighbours that the fast pass has not been at.
 fn fast_turf(
     r: u32,
-    starts: &[u32],
-    neighbours: &[u32],
-    z: u32,
-    n: usize,
-    e: usize,
+    zone: ZoneAt,
+    rows: &Rows,
+    marks: &Marks,
+    gases: usize,
     words: &mut [u32],
-    reals: &mut [f32],
+    floats: &mut [f32],
 )
-    requires { ⌜ Linked n (now starts) (now neighbours) × ((length (now neighbours) ≡ e) × (Fit n e (area (now words) (now reals)) × ((z < 4096) × (r < n)))) ⌝ }
-    requires { ⌜ Reverses (grid n (now starts) (now neighbours)) n (view n e (area (now words) (now reals)) .reverse) ⌝ }
-    ensures { λ _. ⌜ Does n e (λ o p. fastTurf (grid n (now (starts .entry)) (now (neighbours .entry))) o z r p) (area (now (words .entry)) (now (reals .entry))) (area (now (words .exit)) (now (reals .exit))) ⌝ }
+    requires { ⌜ Planning (boardAt rows marks gases) (zone .n) (zone .e) (zone .z) (areaAt words floats) ⌝ }
+    requires { ⌜ r < zone .n ⌝ }
+    ensures { λ _. let b = boardAt (rows .entry) (marks .entry) gases in ⌜ Does (zone .n) (zone .e) (λ o p. fastTurf b o (zone .z) r p) (areaAt (words .entry) (floats .entry)) (areaAt (words .exit) (floats .exit)) ⌝ }
 {
+    let z = zone.z;
+    let n = zone.n;
+    let e = zone.e;
     let row = r as usize;
-    let i = load(row, n, e, words, reals);
+    let i = load(row, n, e, words, floats);
     let delta = i.delta;
-    let done = MonstermosInfo {
-        delta,
-        amount: i.amount,
-        direction: i.direction,
-        fast: 1,
-    };
-    store(row, done, n, e, words, reals);
+    store(row, marked(i), n, e, words, floats);
     if delta > 0.0 {
+        let starts = rows[STARTS];
+        let neighbours = rows[NEIGHBOURS];
         let from = starts[row] as usize;
         let to = starts[row + 1] as usize;
-        let count = count_eligible(&neighbours[from..to], from, z, n, e, words);
-        let x = delta / (count as f32);
-        fast_row(row, x, &neighbours[from..to], from, z, n, e, words, reals);
+        let count = count_eligible(from, to, z, n, e, neighbours, words);
+        let share = Share {
+            r: row,
+            x: delta / (count as f32),
+            z,
+            n,
+            e,
+        };
+        fast_row(share, from, to, neighbours, words, floats);
     }
 }
 
-// The fast pass over the nodes of the zone, the `count` words from `first` on.
+// The fast pass over the nodes of the zone.
 pub fn fast_all(
-    first: usize,
-    count: usize,
-    starts: &[u32],
-    neighbours: &[u32],
-    z: u32,
-    n: usize,
-    e: usize,
+    zone: ZoneAt,
+    rows: &Rows,
+    marks: &Marks,
+    gases: usize,
     words: &mut [u32],
-    reals: &mut [f32],
+    floats: &mut [f32],
 )
-    requires { ⌜ Linked n (now starts) (now neighbours) × ((length (now neighbours) ≡ e) × (Fit n e (area (now words) (now reals)) × (z < 4096))) ⌝ }
-    requires { ⌜ Reverses (grid n (now starts) (now neighbours)) n (view n e (area (now words) (now reals)) .reverse) × Nodes n e first count (area (now words) (now reals)) ⌝ }
-    ensures { λ _. ⌜ Does n e (λ o p. run (fastTurf (grid n (now (starts .entry)) (now (neighbours .entry))) o z) (nodesOf n e (view n e (area (now (words .entry)) (now (reals .entry)))) first count) p) (area (now (words .entry)) (now (reals .entry))) (area (now (words .exit)) (now (reals .exit))) ⌝ }
+    requires { ⌜ Planning (boardAt rows marks gases) (zone .n) (zone .e) (zone .z) (areaAt words floats) ⌝ }
+    requires { ⌜ Nodes (zone .n) (zone .e) (zone .first) (zone .count) (areaAt words floats) ⌝ }
+    ensures { λ _. let b = boardAt (rows .entry) (marks .entry) gases in let a = areaAt (words .entry) (floats .entry) in ⌜ Does (zone .n) (zone .e) (λ o p. run (fastTurf b o (zone .z)) (zoneNodes zone a) p) a (areaAt (words .exit) (floats .exit)) ⌝ }
 {
+    let first = zone.first;
+    let count = zone.count;
     let mut i = 0;
     while i < count {
-        fast_turf(words[first + i], starts, neighbours, z, n, e, words, reals);
+        fast_turf(words[first + i], zone, rows, marks, gases, words, floats);
         i += 1;
     }
 }

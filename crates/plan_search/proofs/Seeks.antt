@@ -1,7 +1,6 @@
 -- One link of a search: a new row joins the queue with its place and its link, and is met. Assumes nothing.
 use Prim.Native.Nat.{ℕ, zero, suc, _+_, _-_, _≤_, _<_}
 use native.Mathlib.Omega.{arith}
-use native.Mathlib.Nat.{add-zero}
 use native.Mathlib.Decide.{ℕ-discrete}
 use mathlib.Core.Path.{_≡_, refl, ap, ap₂, _∙_, sym, subst}
 use mathlib.Core.Logic.{_≢_}
@@ -20,7 +19,7 @@ use Rattle.process_zone.specs.Plan.{Plan, Seek, settled, wants, meet, seekTo}
 use Rattle.process_zone.specs.declared.Side.{Side}
 use Rattle.index_set.specs.Line.{Line, array, Holds}
 use Rattle.index_set.proofs.Queue.{not-member, count-below, take-more, line-more}
-use Rattle.plan_state.specs.Held.{Area, area, wsizes, rsizes, View, viewIn, view, Fit, onPlan, Does}
+use Rattle.plan_state.specs.Held.{Area, area, wsizes, fsizes, View, viewIn, view, Fit, onPlan, Does}
 use Rattle.plan_state.proofs.Stores.{frame-none, owner-at, delta-at, direction-length, via-length, amount-length, paired, via-view}
 use Rattle.plan_trade.specs.Search.{Seeking, seekOf, Leaves, Sought, Leads, Met, AllMet, KeepsMet, Idle, KeepsIdle}
 use Rattle.plan_trade.specs.Steps.{lesser, point}
@@ -34,8 +33,8 @@ pub sought-none : {n e count : ℕ} (f : List ℕ → Seek → Seek) {a : Area} 
     → ((looked : ℕ) → seekOf (view n e a) count looked ≡ f (view n e a .owner) (seekOf (view n e a) count looked)) → Sought n e f count count a a
 sought-none f h s = record { seeking = h; rest = leaves-none; same = s }
 
-pub keeps-none : {n e z r from : ℕ} {part : List ℕ} {count : ℕ} {a : Area} → KeepsMet n e z r from part count count a a
-keeps-none = record { keeps = λ starts neighbours l m. m }
+pub keeps-none : {n e z r from to : ℕ} {neighbours : List ℕ} {count : ℕ} {a : Area} → KeepsMet n e z r from to neighbours count count a a
+keeps-none = record { keeps = λ starts l m. m }
 
 pub idle-none : {n e count first : ℕ} {a : Area} → KeepsIdle n e count first count first a a
 idle-none = record { keeps = λ m. m }
@@ -148,7 +147,7 @@ module _ (side : Side) (g r k a z n e count : ℕ) (w : List ℕ) (f : List Floa
           places = set (view n e (area w f) .places) a count;
           list = view n e (area w f) .list;
           restW = view n e (area w f) .restW;
-          restR = view n e (area w f) .restR;
+          restF = view n e (area w f) .restF;
         }
 
         module _ (w′ : List ℕ) (s : w′ ≡ set (set w (queue + count) a) (places + a) count) where
@@ -162,13 +161,13 @@ module _ (side : Side) (g r k a z n e count : ℕ) (w : List ℕ) (f : List Floa
             places = set (view n e (area w f) .places) a count;
             list = view n e (area w f) .list;
             restW = view n e (area w f) .restW;
-            restR = view n e (area w f) .restR;
+            restF = view n e (area w f) .restF;
           }
 
           line-view : view n e (area w′ f) ≡ lined
           unfolding view
           line-view =
-              rw s (ap (λ rs. viewIn rs (cut (rsizes n e) f))
+              rw s (ap (λ rs. viewIn rs (cut (fsizes n e) f))
               (cut-set (wsizes n e) (set w (queue + count) a) 5 a count (places + a) (omega arith) ha (omega arith)
               ∙ ap (λ rs. set rs 5 (set (getD rs 5 []) a count)) (cut-set (wsizes n e) w 4 count a (queue + count) (omega arith) link-room (omega arith))))
 
@@ -179,7 +178,7 @@ module _ (side : Side) (g r k a z n e count : ℕ) (w : List ℕ) (f : List Floa
           pub push-fit : Fit n e (area (set w′ (e + e + a + a + 1) k) f)
           push-fit = record {
             words = rw s (simp length-set (h .fit .words));
-            reals = h .fit .reals;
+            floats = h .fit .floats;
             turfs = h .fit .turfs;
             links = h .fit .links;
           }
@@ -201,7 +200,7 @@ module _ (side : Side) (g r k a z n e count : ℕ) (w : List ℕ) (f : List Floa
                   owner = ap (λ (v : View). v .owner) after;
                   reverse = ap (λ (v : View). v .reverse) after;
                   restW = ap (λ (v : View). v .restW) after;
-                  restR = ap (λ (v : View). v .restR) after;
+                  restF = ap (λ (v : View). v .restF) after;
                 };
                 list = ap (λ (v : View). v .list) after;
               };
@@ -221,20 +220,18 @@ module _ (side : Side) (g r k a z n e count : ℕ) (w : List ℕ) (f : List Floa
               direction = ap (λ (v : View). v .plan .direction) after ∙ meet-direction side g r a (view n e (area w f) .plan);
             }
 
-            pub link-keeps : KeepsMet n e z r k (a ∷ []) count (count + 1) (area w f) A
-            link-keeps = record {
-              keeps = λ starts neighbours l m i hi. pick starts neighbours l m i hi (ℕ-discrete i count);
+            pub link-keeps : (neighbours : List ℕ) → getD neighbours k 0 ≡ a → KeepsMet n e z r k (k + 1) neighbours count (count + 1) (area w f) A
+            link-keeps neighbours ea = record {
+              keeps = λ starts l m i hi. pick starts (subst (Leads n starts neighbours r k) ea (l k (omega arith) (omega arith))) m i hi (ℕ-discrete i count);
             }
               where
-                pick : (starts neighbours : List ℕ) → ((i : ℕ) → i < 1 → Leads n starts neighbours r (k + i) (getD (a ∷ []) i 0))
-                    → AllMet n z starts neighbours (view n e (area w f)) count → (i : ℕ) → i < count + 1 → Dec (i ≡ count)
+                pick : (starts : List ℕ) → Leads n starts neighbours r k a → AllMet n z starts neighbours (view n e (area w f)) count → (i : ℕ) → i < count + 1 → Dec (i ≡ count)
                     → Met n z starts neighbours (view n e A) (getD (view n e A .queue) i 0)
-                pick starts neighbours l m i hi (yes q) =
-                    let t₀ : Leads n starts neighbours r k a = subst (λ (x : ℕ). Leads n starts neighbours r x a) (add-zero k) (l 0 (omega arith)) in
+                pick starts l m i hi (yes q) =
                     subst (λ (x : ℕ). Met n z starts neighbours (view n e A) (getD (view n e A .queue) x 0)) (sym q)
                     (met-here n z count r k a starts neighbours (view n e (area w f)) (view n e A) joins (h .line) new (omega (arith, direction-length n e (area w f) (h .fit))) (omega (arith, via-length n e (area w f) (h .fit)))
-                    (omega (arith, h .line .queue-n, link-room)) t₀ (sym (owner-at n e k w f hk) ∙ o))
-                pick starts neighbours l m i hi (no q) =
+                    (omega (arith, h .line .queue-n, link-room)) l (sym (owner-at n e k w f hk) ∙ o))
+                pick starts l m i hi (no q) =
                     met-before n z count r k a starts neighbours (view n e (area w f)) (view n e A) joins (h .line) new i (omega (arith, q)) (m i (omega (arith, q)))
 
             pub link-idle : (traded : Bool) (first first′ : ℕ) → traded ≡ wants side (getD (view n e (area (set w′ (e + e + a + a + 1) k) f) .plan .delta) a nan)

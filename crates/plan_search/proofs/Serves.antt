@@ -8,7 +8,7 @@ use mathlib.Core.Logic.{_≢_}
 use mathlib.Core.List.{List, [], _∷_, _++_, reverse, reverseAux}
 use mathlib.Core.Bool.{Bool, true, false, not, _&&_, cond}
 use lib.Dec.{eqb}
-use lib.ListN.{length, getD, set, take, length-replicate}
+use lib.ListN.{length, getD, set, take}
 use lib.Seq.{getD-take, length-take-le, set-getD, getD-set-same}
 use lib.Ieee.{Float, nan, ne}
 use borrow.Author.Tests.{eq-eqb, ne-eqb}
@@ -20,7 +20,7 @@ use Rattle.basics.specs.declared.Spot.the-variants.{At}
 use Rattle.basics.specs.Lists.{All}
 use Rattle.basics.proofs.Loops.{run-both}
 use Rattle.basics.proofs.Regions.{cut-set, cut-length}
-use Rattle.board_rules.specs.Board.{Board, end}
+use Rattle.board_rules.specs.Board.{Board, end, turfCount}
 use Rattle.process_zone.specs.Edges.{edge, adjust}
 use Rattle.process_zone.specs.Plan.{Plan, Seek, load, store, reweigh, withAmount, drainTo, drain, serve, seekNext}
 use Rattle.process_zone.specs.declared.MonstermosInfo.{MonstermosInfo}
@@ -28,7 +28,7 @@ use Rattle.process_zone.specs.declared.Side.{Side}
 use Rattle.index_set.specs.Line.{Below, Apart, Line}
 use Rattle.index_set.proofs.Queue.{take-more, line-more}
 use Rattle.reverse_links.specs.Reverse.{InRow, Linked, Reverses}
-use Rattle.plan_state.specs.Held.{grid, Area, area, wsizes, rsizes, View, viewIn, view, Fit, Does, Frame, Serves}
+use Rattle.plan_state.specs.Held.{Area, area, wsizes, fsizes, View, viewIn, view, Fit, Does, Frame, Serves}
 use Rattle.plan_state.specs.Steps.{backLink, adjustAt}
 use Rattle.plan_state.proofs.Stores.{frame-then, does-frame, store-amount, setAmount, direction-length, amount-length}
 use Rattle.plan_state.proofs.Links.{link-below, edge-there, edge-back, reverse-within}
@@ -135,17 +135,17 @@ module _ (n e g : ℕ) (w w′ : List ℕ) (f : List Float) (h : Fit n e (area w
     places = set (view n e (area w f) .places) g 0;
     list = view n e (area w f) .list;
     restW = view n e (area w f) .restW;
-    restR = view n e (area w f) .restR;
+    restF = view n e (area w f) .restF;
   }
   unfolding view
   begun-view =
-      rw s (ap (λ rs. viewIn rs (cut (rsizes n e) f))
+      rw s (ap (λ rs. viewIn rs (cut (fsizes n e) f))
       (cut-set (wsizes n e) (set w (queue + 0) g) 5 g 0 (places + g) (omega arith) hg (omega arith)
       ∙ ap (λ rs. set rs 5 (set (getD rs 5 []) g 0)) (cut-set (wsizes n e) w 4 0 g (queue + 0) (omega arith) (omega arith) (omega arith))))
 
   pub begun : Seeking n e 1 (area w′ f)
   begun = record {
-    fit = record { words = rw s (simp lib.ListN.length-set (h .words)); reals = h .reals; turfs = h .turfs; links = h .links };
+    fit = record { words = rw s (simp lib.ListN.length-set (h .words)); floats = h .floats; turfs = h .turfs; links = h .links };
     line = subst (λ (v : View). Line n 1 (v .queue) (v .places)) (sym begun-view) (line-more (seeking-none n e (area w f) h .line) g hg empty);
   }
 
@@ -173,15 +173,15 @@ module _ (n e g : ℕ) (w w′ : List ℕ) (f : List Float) (h : Fit n e (area w
       rw row (ap (λ (x : View). ne (getD (x .plan .amount) g nan) 0f) begun-view ∙ q)
 
   -- the search leaves rows that point at rows it looked at
-  pub searched-near : (starts neighbours : List ℕ) (z count seen : ℕ) (side : Side) {C : Area} → getD (view n e (area w f) .plan .direction) g 0 ≡ 0
-      → Searched n e (λ o t. times (seekNext (grid n starts neighbours) o z side g) n t) 1 count seen (area w′ f) C → Near seen (seekOf (view n e C) count seen)
-  searched-near starts neighbours z count seen side {C} still q =
+  pub searched-near : (b : Board) (z count seen : ℕ) (side : Side) {C : Area} → getD (view n e (area w f) .plan .direction) g 0 ≡ 0
+      → Searched n e (λ o t. times (seekNext b o z side g) n t) 1 count seen (area w′ f) C → Near seen (seekOf (view n e C) count seen)
+  searched-near b z count seen side {C} still q =
       let o : List ℕ = view n e (area w′ f) .owner in
       let s₀ : Seek = seekOf (view n e (area w′ f)) 1 0 in
       let start : Near 0 s₀ = subst (Near 0) (sym begun-seek) (record { within = omega arith; at = λ i l d x. absurd (points i l d x) }) in
-      let t : Seek = times (seekNext (grid n starts neighbours) o z side g) n s₀ in
+      let t : Seek = times (seekNext b o z side g) n s₀ in
       let same : seekOf (view n e C) count seen ≡ t = λ i. record { queue = q .queue i; looked = q .looked i; plan = q .plan i } in
-      subst (λ (u : Seek). Near (u .looked) u) (sym same) (near-times (grid n starts neighbours) o z side g n s₀ start)
+      subst (λ (u : Seek). Near (u .looked) u) (sym same) (near-times b o z side g n s₀ start)
     where
       points : (i : ℕ) → i < 1 → (d : ℕ) → getD (view n e (area w f) .plan .direction) (getD (g ∷ []) i 0) 0 ≡ d + 1 → ⊥
       points i l d x =
@@ -194,7 +194,7 @@ module _ (n e g : ℕ) (w w′ : List ℕ) (f : List Float) (h : Fit n e (area w
       owner = ap (λ (v : View). v .owner) begun-view;
       reverse = ap (λ (v : View). v .reverse) begun-view;
       restW = ap (λ (v : View). v .restW) begun-view;
-      restR = ap (λ (v : View). v .restR) begun-view;
+      restF = ap (λ (v : View). v .restF) begun-view;
     };
     list = ap (λ (v : View). v .list) begun-view;
   }
@@ -204,14 +204,13 @@ module _ (n e g : ℕ) (w w′ : List ℕ) (f : List Float) (h : Fit n e (area w
       → Searched n e F 1 count seen (area w′ f) C → Reverses b n (view n e C .reverse)
   reverses-after {b} v d q = subst (Reverses b n) (sym (q .rest .frame .reverse ∙ begun-leaves .frame .reverse ∙ does-frame d .reverse)) v
 
-  pub served : (starts neighbours : List ℕ) (z count seen : ℕ) (side : Side) (i : MonstermosInfo) {A C D : Area} → i ≡ load (view n e A .plan) g
+  pub served : (b : Board) → turfCount b ≡ n → (z count seen : ℕ) (side : Side) (i : MonstermosInfo) {A C D : Area} → i ≡ load (view n e A .plan) g
       → Does n e (λ o p. store p g (record { delta = i .delta; amount = 0f; direction = 0; fast = i .fast })) A (area w f)
-      → Searched n e (λ o t. times (seekNext (grid n starts neighbours) o z side g) n t) 1 count seen (area w′ f) C
-      → Does n e (λ o p. run (drain (grid n starts neighbours) o z) (reverse (take count (view n e C .queue))) p) C D
-      → Serves n e (λ o p. serve (grid n starts neighbours) o z side g p) A D
+      → Searched n e (λ o t. times (seekNext b o z side g) n t) 1 count seen (area w′ f) C
+      → Does n e (λ o p. run (drain b o z) (reverse (take count (view n e C .queue))) p) C D
+      → Serves n e (λ o p. serve b o z side g p) A D
   unfolding serve
-  served starts neighbours z count seen side i {A} {C} {D} ei d₁ q d₂ =
-      let b : Board = grid n starts neighbours in
+  served b many z count seen side i {A} {C} {D} ei d₁ q d₂ =
       let o : List ℕ = view n e A .owner in
       let fr : Leaves n e A (area w′ f) = leaves-then (record { frame = does-frame d₁; list = ap (λ (v : View). v .list) (d₁ .same) }) begun-leaves in
       let o₁ : view n e (area w′ f) .owner ≡ o = fr .frame .owner in
@@ -222,7 +221,7 @@ module _ (n e g : ℕ) (w w′ : List ℕ) (f : List Float) (h : Fit n e (area w
       ∙ ap (λ (j : MonstermosInfo). store (view n e A .plan) g (record { delta = j .delta; amount = 0f; direction = 0; fast = j .fast })) ei in
       let t₁ : seekOf (view n e (area w′ f)) 1 0 ≡ record { queue = g ∷ []; looked = 0; plan = start } = begun-seek ∙ ap (λ (p : Plan). record { queue = g ∷ []; looked = 0; plan = p }) p₁ in
       let t₂ = ap₂ (λ (x : List ℕ) (u : Seek). times (seekNext b x z side g) n u) o₁ t₁ in
-      let t₃ = t₂ ∙ ap (λ (m : ℕ). times (seekNext b o z side g) m (record { queue = g ∷ []; looked = 0; plan = start })) (sym (length-replicate {A = ℕ} n 0)) in
+      let t₃ = t₂ ∙ ap (λ (m : ℕ). times (seekNext b o z side g) m (record { queue = g ∷ []; looked = 0; plan = start })) (sym many) in
       let all : Leaves n e A D = leaves-then (leaves-then fr (q .rest)) (record { frame = does-frame d₂; list = ap (λ (v : View). v .list) (d₂ .same) }) in
       record {
         fit = d₂ .fit;
@@ -236,8 +235,8 @@ module _ (n e g : ℕ) (w w′ : List ℕ) (f : List Float) (h : Fit n e (area w
 
 -- ---- the way back after the search
 
-module _ (n e z count : ℕ) (starts neighbours : List ℕ) (t : Linked n starts neighbours) (len : length neighbours ≡ e) {C : Area} (h : Seeking n e count C) (m : AllMet n z starts neighbours (view n e C) count)
-    (v : Reverses (grid n starts neighbours) n (view n e C .reverse)) where
+module _ (n e z count : ℕ) (b : Board) (t : Linked n (b .starts) (b .neighbours)) (len : length (b .neighbours) ≡ e) {C : Area} (h : Seeking n e count C) (m : AllMet n z (b .starts) (b .neighbours) (view n e C) count)
+    (v : Reverses b n (view n e C .reverse)) where
   -- what it reads is within the areas
   met-within : (i : ℕ) → i < count → Within n e (view n e C) (getD (view n e C .queue) i 0)
   met-within i l = record {
@@ -245,8 +244,8 @@ module _ (n e z count : ℕ) (starts neighbours : List ℕ) (t : Linked n starts
         let u = m i l .over d q .0 in (
           u .row,
           (
-            omega (arith, len, link-below (grid n starts neighbours) n t (view n e C .owner) z d _ (u .row) (u .link)),
-            omega (arith, len, reverse-within (grid n starts neighbours) n t (view n e C .owner) z (view n e C .reverse) v d _ (u .row) (u .link)),
+            omega (arith, len, link-below b n t (view n e C .owner) z d _ (u .row) (u .link)),
+            omega (arith, len, reverse-within b n t (view n e C .owner) z (view n e C .reverse) v d _ (u .row) (u .link)),
           ),
         );
   }
@@ -255,11 +254,11 @@ module _ (n e z count : ℕ) (starts neighbours : List ℕ) (t : Linked n starts
   rows-within i l = (queue-below h i l, met-within i l)
 
   pub drained-by-edges : {D : Area} → Does n e (λ o p. run (drainVia (view n e C .reverse) (view n e C .via) z o) (reverse (take count (view n e C .queue))) p) C D
-      → Does n e (λ o p. run (drain (grid n starts neighbours) o z) (reverse (take count (view n e C .queue))) p) C D
+      → Does n e (λ o p. run (drain b o z) (reverse (take count (view n e C .queue))) p) C D
   drained-by-edges d =
       let long : length (take count (view n e C .queue)) ≡ count = length-take-le count (view n e C .queue) (omega (arith, h .line .few, h .line .queue-n)) in
       Rattle.plan_state.proofs.Stores.does-as d
-      (drain-by-via (grid n starts neighbours) n t (view n e C .reverse) (view n e C .via) (view n e C .owner) (view n e C .plan .direction) v z
+      (drain-by-via b n t (view n e C .reverse) (view n e C .via) (view n e C .owner) (view n e C .plan .direction) v z
       (reverse (take count (view n e C .queue))) (view n e C .plan) refl
       (all-back _ (take count (view n e C .queue))
       (all-of-rows _ (take count (view n e C .queue)) (λ i l. let k : i < count = omega (arith, long, l) in rw (getD-take count (view n e C .queue) i 0 k) (m i k .over)))))

@@ -117,7 +117,8 @@ module _ (rev via : List ℕ) (z : ℕ) (o : List ℕ) where
 
     passed : run D (reverse (take (first - low) (drop low q))) after ≡ after
     passed =
-        run-still D (reverse (take (first - low) (drop low q))) after (All-imp (λ r. ne (getD (after .amount) r nan) 0f ≡ false) (λ r. D r after ≡ after) (reverse (take (first - low) (drop low q))) (λ r t. idle-stays r after t) (all-back (λ r. ne (getD (after .amount) r nan) 0f ≡ false) (take (first - low) (drop low q)) (all-of-rows (λ r. ne (getD (after .amount) r nan) 0f ≡ false) (take (first - low) (drop low q)) (λ i l.
+        run-still D (reverse (take (first - low) (drop low q))) after
+        (All-imp (λ r. ne (getD (after .amount) r nan) 0f ≡ false) (λ r. D r after ≡ after) (reverse (take (first - low) (drop low q))) (λ r t. idle-stays r after t) (all-back (λ r. ne (getD (after .amount) r nan) 0f ≡ false) (take (first - low) (drop low q)) (all-of-rows (λ r. ne (getD (after .amount) r nan) 0f ≡ false) (take (first - low) (drop low q)) (λ i l.
         let k : i < first - low = span-long low (first - low) i l in
         let hi : low + i < first = omega (arith, k) in
         let keeps : getD (after .amount) (getD q (low + i) 0) nan ≡ getD (s .amount) (getD q (low + i) 0) nan =
@@ -134,7 +135,7 @@ module _ (rev via : List ℕ) (z : ℕ) (o : List ℕ) where
 
 -- ---- the way back by the code
 
--- what it reads, while only the reals change
+-- what it reads, while only the floats change
 pub rows-later : (n e count : ℕ) (w : List ℕ) (f f′ : List Float)
     → ((i : ℕ) → i < count → (getD (view n e (area w f) .queue) i 0 < n) × Within n e (view n e (area w f)) (getD (view n e (area w f) .queue) i 0))
     → (m : ℕ) → m ≤ count → (i : ℕ) → i < m → (getD (view n e (area w f′) .queue) i 0 < n) × Within n e (view n e (area w f′)) (getD (view n e (area w f′) .queue) i 0)

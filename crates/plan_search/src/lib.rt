@@ -1,36 +1,45 @@
 // `give_to_takers` and `take_from_givers` for one turf: a search from it through the zone, then the way back. One body serves both; what differs
 // is the tests.
 ghost use mathlib.Core.Path.{_≡_};
-ghost use mathlib.Core.Bool.{true, false, cond};
-ghost use mathlib.Core.List.{[], _∷_, reverse};
-ghost use Prim.Native.Nat.{ℕ, _+_, _-_, _≤_, _<_};
-ghost use lib.Dec.{eqb};
+ghost use mathlib.Core.Bool.{true, false};
+ghost use Prim.Native.Nat.{_+_, _-_, _≤_, _<_};
 ghost use lib.Ieee.{nan};
-ghost use lib.ListN.{length, getD, take, drop};
-ghost use Rattle.basics.specs.Lists.{Found};
+ghost use lib.ListN.{length, getD};
 ghost use Rattle.basics.specs.Loops.{run, times, upFrom};
-ghost use Rattle.process_zone.specs.Edges.{edgesOf};
-ghost use Rattle.process_zone.specs.Plan.{settled, wants, more, trade, meet, seekTo, seekLink, seekNext, serve};
-ghost use Rattle.index_set.specs.Line.{Below};
-ghost use Rattle.reverse_links.specs.Reverse.{Linked, Reverses};
-ghost use Rattle.plan_state.specs.Held.{grid, area, view, Fit, Does, Serves};
-ghost use Rattle.plan_trade.specs.Search.{Seeking, Sought, Searched, AllMet, KeepsMet, Idle, KeepsIdle, Passes, Within};
-ghost use Rattle.plan_trade.specs.Steps.{lesser, given, bargain, point, alongPart, handOn, drainVia};
+ghost use Rattle.turfs.specs.Tables.{boardAt};
+ghost use Rattle.process_zone.specs.Plan.{settled, seekNext, serve};
+ghost use Rattle.reverse_links.specs.Reverse.{Linked};
+ghost use Rattle.plan_state.specs.Held.{areaAt, view, Sized, Ends, Planning, Serves};
+ghost use Rattle.plan_trade.specs.Search.{Searched, AllMet, Idle};
+ghost use Rattle.plan_trade.specs.Steps.{along};
+ghost use Rattle.plan_search.specs.Hands.{Searching, Open, alongAll, Goes, GoesTurf, PassesBy};
 use index_set::contains;
 use index_set::insert;
 use plan_drain::drain;
 use plan_state::load;
 use plan_state::store;
+use plan_tests::settled;
+use plan_tests::wants;
 use plan_trade::first_traded;
 use plan_trade::least;
 use plan_trade::meet;
 use plan_trade::point;
-use plan_trade::settled;
 use plan_trade::settles;
-use plan_trade::trade;
-use plan_trade::wants;
 use process_zone::MonstermosInfo;
 use process_zone::Side;
+use turfs::Marks;
+use turfs::NEIGHBOURS;
+use turfs::Rows;
+use turfs::STARTS;
+
+// The turf in hand: its side, its row, its zone, and the turfs and links of the board.
+pub struct Hand {
+    pub side: Side,
+    pub g: usize,
+    pub z: u32,
+    pub n: usize,
+    pub e: usize,
+}
 
 // How many rows the queue has, and the first place whose row traded; n if none did.
 pub struct Reach {
@@ -45,28 +54,29 @@ pub struct Step {
     pub done: bool,
 }
 
-// A link of the turf r, which ends at the row a. The turf in hand is g, and isn't settled.
+// The link k of the turf r. The turf in hand isn't settled.
 fn seek_link(
-    side: Side,
-    g: usize,
+    hand: Hand,
     r: u32,
     k: usize,
-    a: u32,
-    z: u32,
-    n: usize,
-    e: usize,
-    count: usize,
-    first: usize,
+    reach: Reach,
+    neighbours: &[u32],
     words: &mut [u32],
-    reals: &mut [f32],
+    floats: &mut [f32],
 ) -> Step
-    requires { ⌜ Seeking n e count (area (now words) (now reals)) × ((z < 4096) × (settled side (getD (now reals) (e + g + g) nan) ≡ false)) ⌝ }
-    requires { ⌜ (g < n) × ((r < n) × ((a < n) × (k < e))) ⌝ }
-    ensures { λ c. ⌜ Sought n e (λ o s. cond (eqb (getD o k 0) (z + 1)) (seekTo side g r a s) s) count (c .count) (area (now (words .entry)) (now (reals .entry))) (area (now (words .exit)) (now (reals .exit))) ⌝ }
-    ensures { λ c. ⌜ KeepsMet n e z r k (a ∷ []) count (c .count) (area (now (words .entry)) (now (reals .entry))) (area (now (words .exit)) (now (reals .exit))) ⌝ }
-    ensures { λ c. ⌜ KeepsIdle n e count first (c .count) (c .first) (area (now (words .entry)) (now (reals .entry))) (area (now (words .exit)) (now (reals .exit))) ⌝ }
-    ensures { λ c. ⌜ c .done ≡ settled side (getD (now (reals .exit)) (e + g + g) nan) ⌝ }
+    requires { ⌜ Searching hand (reach .count) (areaAt words floats) ⌝ }
+    requires { ⌜ Open hand (areaAt words floats) ⌝ }
+    requires { ⌜ Ends (hand .n) (hand .e) r (k + 1) (now neighbours) ⌝ }
+    ensures { λ s. let ends = now (neighbours .entry) in ⌜ Goes hand r k (k + 1) ends (λ o t. along (hand .side) (hand .g) r ends (hand .z) o k t) (reach .count) (reach .first) (s .count) (s .first) (areaAt (words .entry) (floats .entry)) (areaAt (words .exit) (floats .exit)) ⌝ }
+    ensures { λ s. ⌜ s .done ≡ settled (hand .side) (getD (now (floats .exit)) (hand .e + hand .g + hand .g) nan) ⌝ }
 {
+    let side = hand.side;
+    let g = hand.g;
+    let z = hand.z;
+    let n = hand.n;
+    let e = hand.e;
+    let count = reach.count;
+    let first = reach.first;
     if words[k] != z + 1 {
         return Step {
             count,
@@ -76,6 +86,7 @@ fn seek_link(
     }
     let queue = index_set::queue_at(n, e);
     let places = index_set::places_at(n, e);
+    let a = neighbours[k];
     if contains(a, count, n, queue, places, words) {
         return Step {
             count,
@@ -86,11 +97,11 @@ fn seek_link(
     insert(a, count, queue, places, words);
     let row = a as usize;
     words[e + e + row + row + 1] = k as u32;
-    let traded = meet(side, g, r, row, n, e, words, reals);
+    let traded = meet(side, g, r, row, n, e, words, floats);
     Step {
         count: count + 1,
         first: first_traded(traded, first, count),
-        done: settles(traded, side, reals[e + g + g]),
+        done: settles(traded, side, floats[e + g + g]),
     }
 }
 
@@ -100,24 +111,25 @@ pub struct Passed {
     pub wants: bool,
 }
 
-// A link of the turf r, which ends at the row a, unless there is something to trade.
+// The link k of the turf r, unless there is something to trade.
 fn pass_link(
-    side: Side,
+    hand: Hand,
     r: u32,
     k: usize,
-    a: u32,
-    z: u32,
-    n: usize,
-    e: usize,
     count: usize,
+    neighbours: &[u32],
     words: &mut [u32],
-    reals: &mut [f32],
+    floats: &mut [f32],
 ) -> Passed
-    requires { ⌜ Seeking n e count (area (now words) (now reals)) × (z < 4096) ⌝ }
-    requires { ⌜ (r < n) × ((a < n) × (k < e)) ⌝ }
-    ensures { λ p. ⌜ (p .wants ≡ true → area (now (words .exit)) (now (reals .exit)) ≡ area (now (words .entry)) (now (reals .entry))) ⌝ }
-    ensures { λ p. ⌜ (p .wants ≡ false → Passes side n e (λ g o s. cond (eqb (getD o k 0) (z + 1)) (seekTo side g r a s) s) z r k (a ∷ []) count (p .count) (area (now (words .entry)) (now (reals .entry))) (area (now (words .exit)) (now (reals .exit)))) ⌝ }
+    requires { ⌜ Searching hand count (areaAt words floats) ⌝ }
+    requires { ⌜ Ends (hand .n) (hand .e) r (k + 1) (now neighbours) ⌝ }
+    ensures { λ p. ⌜ (p .wants ≡ true → areaAt (words .exit) (floats .exit) ≡ areaAt (words .entry) (floats .entry)) ⌝ }
+    ensures { λ p. let ends = now (neighbours .entry) in ⌜ (p .wants ≡ false → PassesBy hand (λ g o s. along (hand .side) g r ends (hand .z) o k s) r k (k + 1) ends count (p .count) (areaAt (words .entry) (floats .entry)) (areaAt (words .exit) (floats .exit))) ⌝ }
 {
+    let side = hand.side;
+    let z = hand.z;
+    let n = hand.n;
+    let e = hand.e;
     if words[k] != z + 1 {
         return Passed {
             count,
@@ -126,6 +138,7 @@ fn pass_link(
     }
     let queue = index_set::queue_at(n, e);
     let places = index_set::places_at(n, e);
+    let a = neighbours[k];
     if contains(a, count, n, queue, places, words) {
         return Passed {
             count,
@@ -133,12 +146,12 @@ fn pass_link(
         };
     }
     let row = a as usize;
-    if wants(side, reals[e + row + row]) {
+    if wants(side, floats[e + row + row]) {
         return Passed { count, wants: true };
     }
     insert(a, count, queue, places, words);
     words[e + e + row + row + 1] = k as u32;
-    point(row, r + 1, n, e, words, reals);
+    point(row, r + 1, n, e, words, floats);
     Passed {
         count: count + 1,
         wants: false,
@@ -151,71 +164,67 @@ pub struct Pass {
     pub at: usize,
 }
 
-// The links of a part from `at` on, up to the first that has something to trade.
+// The links of the turf r from `at` up to `to`, as far as the first that has something to trade.
 fn pass_links(
-    side: Side,
+    hand: Hand,
     r: u32,
-    part: &[u32],
     at: usize,
-    from: usize,
-    z: u32,
-    n: usize,
-    e: usize,
+    to: usize,
     count: usize,
+    neighbours: &[u32],
     words: &mut [u32],
-    reals: &mut [f32],
+    floats: &mut [f32],
 ) -> Pass
-    requires { ⌜ Seeking n e count (area (now words) (now reals)) × (z < 4096) ⌝ }
-    requires { ⌜ (r < n) × (Below n (now part) × ((from + length (now part) ≤ e) × (at ≤ length (now part)))) ⌝ }
-    ensures { λ p. ⌜ (at ≤ p .at) × (p .at ≤ length (now (part .entry))) ⌝ }
-    ensures { λ p. ⌜ Passes side n e (λ g o s. run (alongPart side g r (now (part .entry)) from z o) (upFrom at (p .at - at)) s) z r from (now (part .entry)) count (p .count) (area (now (words .entry)) (now (reals .entry))) (area (now (words .exit)) (now (reals .exit))) ⌝ }
+    requires { ⌜ Searching hand count (areaAt words floats) ⌝ }
+    requires { ⌜ Ends (hand .n) (hand .e) r to (now neighbours) ⌝ }
+    requires { ⌜ at ≤ to ⌝ }
+    ensures { λ p. ⌜ at ≤ p .at ⌝ }
+    ensures { λ p. ⌜ p .at ≤ to ⌝ }
+    ensures { λ p. let ends = now (neighbours .entry) in ⌜ PassesBy hand (λ g o s. run (along (hand .side) g r ends (hand .z) o) (upFrom at (p .at - at)) s) r at to ends count (p .count) (areaAt (words .entry) (floats .entry)) (areaAt (words .exit) (floats .exit)) ⌝ }
 {
     let mut c = count;
-    let mut i = at;
-    while i < part.len() {
-        let p = pass_link(side, r, from + i, part[i], z, n, e, c, words, reals);
+    let mut k = at;
+    while k < to {
+        let p = pass_link(hand, r, k, c, neighbours, words, floats);
         if p.wants {
-            return Pass { count: c, at: i };
+            return Pass { count: c, at: k };
         }
         c = p.count;
-        i += 1;
+        k += 1;
     }
-    Pass { count: c, at: i }
+    Pass { count: c, at: k }
 }
 
-// The links of the turf r, which are handed on as a part of the link list that starts at `from`.
+// The links of the turf r from `from` up to `to`.
 fn seek_row(
-    side: Side,
-    g: usize,
+    hand: Hand,
     r: u32,
-    part: &[u32],
     from: usize,
-    z: u32,
-    n: usize,
-    e: usize,
-    count: usize,
-    first: usize,
+    to: usize,
+    reach: Reach,
+    neighbours: &[u32],
     words: &mut [u32],
-    reals: &mut [f32],
+    floats: &mut [f32],
 ) -> Reach
-    requires { ⌜ Seeking n e count (area (now words) (now reals)) × ((z < 4096) × (settled side (getD (now reals) (e + g + g) nan) ≡ false)) ⌝ }
-    requires { ⌜ (g < n) × ((r < n) × (Below n (now part) × (from + length (now part) ≤ e))) ⌝ }
-    ensures { λ c. ⌜ Sought n e (λ o s. run (alongPart side g r (now (part .entry)) from z o) (upFrom 0 (length (now (part .entry)))) s) count (c .count) (area (now (words .entry)) (now (reals .entry))) (area (now (words .exit)) (now (reals .exit))) ⌝ }
-    ensures { λ c. ⌜ KeepsMet n e z r from (now (part .entry)) count (c .count) (area (now (words .entry)) (now (reals .entry))) (area (now (words .exit)) (now (reals .exit))) ⌝ }
-    ensures { λ c. ⌜ KeepsIdle n e count first (c .count) (c .first) (area (now (words .entry)) (now (reals .entry))) (area (now (words .exit)) (now (reals .exit))) ⌝ }
+    requires { ⌜ Searching hand (reach .count) (areaAt words floats) ⌝ }
+    requires { ⌜ Open hand (areaAt words floats) ⌝ }
+    requires { ⌜ Ends (hand .n) (hand .e) r to (now neighbours) ⌝ }
+    requires { ⌜ from ≤ to ⌝ }
+    ensures { λ c. let ends = now (neighbours .entry) in ⌜ Goes hand r from to ends (alongAll hand r ends from to) (reach .count) (reach .first) (c .count) (c .first) (areaAt (words .entry) (floats .entry)) (areaAt (words .exit) (floats .exit)) ⌝ }
 {
-    let mut c = count;
-    let mut f = first;
-    let mut i = 0;
-    while i < part.len() {
-        let pass = pass_links(side, r, part, i, from, z, n, e, c, words, reals);
+    let mut c = reach.count;
+    let mut f = reach.first;
+    let mut k = from;
+    while k < to {
+        let pass = pass_links(hand, r, k, to, c, neighbours, words, floats);
         c = pass.count;
-        i = pass.at;
-        if i < part.len() {
-            let step = seek_link(side, g, r, from + i, part[i], z, n, e, c, f, words, reals);
+        k = pass.at;
+        if k < to {
+            let here = Reach { count: c, first: f };
+            let step = seek_link(hand, r, k, here, neighbours, words, floats);
             c = step.count;
             f = step.first;
-            i += 1;
+            k += 1;
             if step.done {
                 return Reach { count: c, first: f };
             }
@@ -226,42 +235,25 @@ fn seek_row(
 
 // The turf r of the queue.
 fn seek_turf(
-    side: Side,
-    g: usize,
+    hand: Hand,
     r: u32,
+    reach: Reach,
     starts: &[u32],
     neighbours: &[u32],
-    z: u32,
-    n: usize,
-    e: usize,
-    count: usize,
-    first: usize,
     words: &mut [u32],
-    reals: &mut [f32],
+    floats: &mut [f32],
 ) -> Reach
-    requires { ⌜ Seeking n e count (area (now words) (now reals)) × ((z < 4096) × (settled side (getD (now reals) (e + g + g) nan) ≡ false)) ⌝ }
-    requires { ⌜ (g < n) × ((r < n) × (Linked n (now starts) (now neighbours) × (length (now neighbours) ≡ e))) ⌝ }
-    ensures { λ c. ⌜ Sought n e (λ o s. run (seekLink (grid n (now (starts .entry)) (now (neighbours .entry))) o z side g r) (edgesOf (grid n (now (starts .entry)) (now (neighbours .entry))) o z r) s) count (c .count) (area (now (words .entry)) (now (reals .entry))) (area (now (words .exit)) (now (reals .exit))) ⌝ }
-    ensures { λ c. ⌜ (AllMet n z (now (starts .entry)) (now (neighbours .entry)) (view n e (area (now (words .entry)) (now (reals .entry)))) count → AllMet n z (now (starts .entry)) (now (neighbours .entry)) (view n e (area (now (words .exit)) (now (reals .exit)))) (c .count)) ⌝ }
-    ensures { λ c. ⌜ KeepsIdle n e count first (c .count) (c .first) (area (now (words .entry)) (now (reals .entry))) (area (now (words .exit)) (now (reals .exit))) ⌝ }
+    requires { ⌜ Searching hand (reach .count) (areaAt words floats) ⌝ }
+    requires { ⌜ Open hand (areaAt words floats) ⌝ }
+    requires { ⌜ r < hand .n ⌝ }
+    requires { ⌜ Linked (hand .n) (now starts) (now neighbours) ⌝ }
+    requires { ⌜ length (now neighbours) ≡ hand .e ⌝ }
+    ensures { λ c. ⌜ GoesTurf hand r (now (starts .entry)) (now (neighbours .entry)) (reach .count) (reach .first) (c .count) (c .first) (areaAt (words .entry) (floats .entry)) (areaAt (words .exit) (floats .exit)) ⌝ }
 {
     let row = r as usize;
     let from = starts[row] as usize;
     let to = starts[row + 1] as usize;
-    seek_row(
-        side,
-        g,
-        r,
-        &neighbours[from..to],
-        from,
-        z,
-        n,
-        e,
-        count,
-        first,
-        words,
-        reals,
-    )
+    seek_row(hand, r, from, to, reach, neighbours, words, floats)
 }
 
 // The same after a search, and how many rows it looked at.
@@ -271,51 +263,44 @@ pub struct Sweep {
     pub looked: usize,
 }
 
-// The search from the turf g, which is at the queue's start.
+// The search from the turf in hand, which is at the queue's start.
 fn seek(
-    side: Side,
-    g: usize,
-    starts: &[u32],
-    neighbours: &[u32],
-    z: u32,
-    n: usize,
-    e: usize,
+    hand: Hand,
+    rows: &Rows,
+    marks: &Marks,
+    gases: usize,
     words: &mut [u32],
-    reals: &mut [f32],
+    floats: &mut [f32],
 ) -> Sweep
-    requires { ⌜ Seeking n e 1 (area (now words) (now reals)) × (z < 4096) ⌝ }
-    requires { ⌜ (g < n) × (Linked n (now starts) (now neighbours) × ((length (now neighbours) ≡ e) × AllMet n z (now starts) (now neighbours) (view n e (area (now words) (now reals))) 1)) ⌝ }
-    requires { ⌜ Idle (view n e (area (now words) (now reals))) 1 n ⌝ }
-    ensures { λ c. ⌜ Searched n e (λ o s. times (seekNext (grid n (now (starts .entry)) (now (neighbours .entry))) o z side g) n s) 1 (c .count) (c .looked) (area (now (words .entry)) (now (reals .entry))) (area (now (words .exit)) (now (reals .exit))) ⌝ }
-    ensures { λ c. ⌜ AllMet n z (now (starts .entry)) (now (neighbours .entry)) (view n e (area (now (words .exit)) (now (reals .exit)))) (c .count) ⌝ }
-    ensures { λ c. ⌜ Idle (view n e (area (now (words .exit)) (now (reals .exit)))) (c .count) (c .first) ⌝ }
+    requires { ⌜ Searching hand 1 (areaAt words floats) ⌝ }
+    requires { ⌜ Sized (boardAt rows marks gases) (hand .n) (hand .e) ⌝ }
+    requires { let b = boardAt rows marks gases in ⌜ AllMet (hand .n) (hand .z) (b .starts) (b .neighbours) (view (hand .n) (hand .e) (areaAt words floats)) 1 ⌝ }
+    requires { ⌜ Idle (view (hand .n) (hand .e) (areaAt words floats)) 1 (hand .n) ⌝ }
+    ensures { λ c. let b = boardAt (rows .entry) (marks .entry) gases in ⌜ Searched (hand .n) (hand .e) (λ o s. times (seekNext b o (hand .z) (hand .side) (hand .g)) (hand .n) s) 1 (c .count) (c .looked) (areaAt (words .entry) (floats .entry)) (areaAt (words .exit) (floats .exit)) ⌝ }
+    ensures { λ c. let b = boardAt (rows .entry) (marks .entry) gases in ⌜ AllMet (hand .n) (hand .z) (b .starts) (b .neighbours) (view (hand .n) (hand .e) (areaAt (words .exit) (floats .exit))) (c .count) ⌝ }
+    ensures { λ c. ⌜ Idle (view (hand .n) (hand .e) (areaAt (words .exit) (floats .exit))) (c .count) (c .first) ⌝ }
 {
+    let side = hand.side;
+    let g = hand.g;
+    let n = hand.n;
+    let e = hand.e;
+    let starts = rows[STARTS];
+    let neighbours = rows[NEIGHBOURS];
     let queue = index_set::queue_at(n, e);
     let mut count = 1;
     let mut first = n;
     let mut looked = 0;
     while looked < count {
-        if settled(side, reals[e + g + g]) {
+        if settled(side, floats[e + g + g]) {
             return Sweep {
                 count,
                 first,
                 looked,
             };
         }
-        let reach = seek_turf(
-            side,
-            g,
-            words[queue + looked],
-            starts,
-            neighbours,
-            z,
-            n,
-            e,
-            count,
-            first,
-            words,
-            reals,
-        );
+        let here = Reach { count, first };
+        let r = words[queue + looked];
+        let reach = seek_turf(hand, r, here, starts, neighbours, words, floats);
         count = reach.count;
         first = reach.first;
         looked += 1;
@@ -329,34 +314,34 @@ fn seek(
 
 // One giver gives, or one taker takes.
 pub fn serve(
-    side: Side,
-    g: u32,
-    starts: &[u32],
-    neighbours: &[u32],
-    z: u32,
-    n: usize,
-    e: usize,
+    hand: Hand,
+    rows: &Rows,
+    marks: &Marks,
+    gases: usize,
     words: &mut [u32],
-    reals: &mut [f32],
+    floats: &mut [f32],
 )
-    requires { ⌜ Linked n (now starts) (now neighbours) × ((length (now neighbours) ≡ e) × (Fit n e (area (now words) (now reals)) × ((z < 4096) × (g < n)))) ⌝ }
-    requires { ⌜ Reverses (grid n (now starts) (now neighbours)) n (view n e (area (now words) (now reals)) .reverse) ⌝ }
-    ensures { λ _. ⌜ Serves n e (λ o p. serve (grid n (now (starts .entry)) (now (neighbours .entry))) o z side g p) (area (now (words .entry)) (now (reals .entry))) (area (now (words .exit)) (now (reals .exit))) ⌝ }
+    requires { ⌜ Planning (boardAt rows marks gases) (hand .n) (hand .e) (hand .z) (areaAt words floats) ⌝ }
+    requires { ⌜ hand .g < hand .n ⌝ }
+    ensures { λ _. let b = boardAt (rows .entry) (marks .entry) gases in ⌜ Serves (hand .n) (hand .e) (λ o p. serve b o (hand .z) (hand .side) (hand .g) p) (areaAt (words .entry) (floats .entry)) (areaAt (words .exit) (floats .exit)) ⌝ }
 {
-    let row = g as usize;
-    let i = load(row, n, e, words, reals);
+    let g = hand.g;
+    let z = hand.z;
+    let n = hand.n;
+    let e = hand.e;
+    let i = load(g, n, e, words, floats);
     let start = MonstermosInfo {
         delta: i.delta,
         amount: 0.0,
         direction: 0,
         fast: i.fast,
     };
-    store(row, start, n, e, words, reals);
+    store(g, start, n, e, words, floats);
     let queue = index_set::queue_at(n, e);
     let places = index_set::places_at(n, e);
-    insert(g, 0, queue, places, words);
-    let sweep = seek(side, row, starts, neighbours, z, n, e, words, reals);
+    insert(g as u32, 0, queue, places, words);
+    let sweep = seek(hand, rows, marks, gases, words, floats);
     let first = least(sweep.first, sweep.count);
-    drain(first, sweep.count, z, n, e, words, reals);
-    drain(0, least(first, sweep.looked), z, n, e, words, reals);
+    drain(first, sweep.count, z, n, e, words, floats);
+    drain(0, least(first, sweep.looked), z, n, e, words, floats);
 }

@@ -2,5 +2,4 @@ pub mod Pairs
 pub mod Stores
 pub mod Weights
 pub mod Links
-pub mod Parts
 pub mod Nodes

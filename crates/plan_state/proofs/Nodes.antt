@@ -44,7 +44,7 @@ onto-frame b = record {
   owner = ap (λ (v : View). v .owner) (b .on);
   reverse = ap (λ (v : View). v .reverse) (b .on);
   restW = ap (λ (v : View). v .restW) (b .on);
-  restR = ap (λ (v : View). v .restR) (b .on);
+  restF = ap (λ (v : View). v .restF) (b .on);
 }
 
 -- the reverses stand as they stood
@@ -82,7 +82,7 @@ pub nodes-same : {n e : ℕ} (first count : ℕ) {a a′ : Area} → Frame n e a
 nodes-same {n} {e} first count f = ap (λ (r : List ℕ). take count (drop (first - top n e) r)) (f .restW)
 
 pub nodes-kept : {n e first count : ℕ} {a a′ : Area} → Nodes n e first count a → Frame n e a a′ → length (a′ .words) ≡ length (a .words) → Nodes n e first count a′
-nodes-kept {first = first} {count = count} h f l = record { past = h .past; room = omega (arith, h .room, l); rows = rw (nodes-same first count f) (h .rows) }
+nodes-kept {first = first} {count = count} h f l = record { some = h .some; few = h .few; past = h .past; room = omega (arith, h .room, l); rows = rw (nodes-same first count f) (h .rows) }
 
 module _ {n e first count : ℕ} {a a′ : Area} (h : Nodes n e first count a) (fr : Frame n e a a′) (len : length (a′ .words) ≡ length (a .words)) (i : ℕ) where
   pub node-now : i < count → getD (a′ .words) (first + i) 0 ≡ getD (nodesOf n e (view n e a) first count) i 0

@@ -11,7 +11,7 @@ use Rattle.basics.proofs.Regions.{cut-set, cut-get, cut-length}
 use Rattle.process_zone.specs.Plan.{Plan, store, load, withDelta, withAmount}
 use Rattle.process_zone.specs.declared.MonstermosInfo.{MonstermosInfo}
 use Rattle.plan_state.specs.Pairs.{firsts, seconds}
-use Rattle.plan_state.specs.Held.{Area, area, wsizes, rsizes, View, viewIn, view, Fit, onPlan, Does, Frame}
+use Rattle.plan_state.specs.Held.{Area, area, wsizes, fsizes, View, viewIn, view, Fit, onPlan, Does, Frame}
 use Rattle.plan_state.proofs.Pairs.{firsts-get, seconds-get, firsts-set, seconds-set, firsts-keep, seconds-keep, firsts-length, seconds-length}
 
 -- ---- a plan with one number set anew
@@ -48,17 +48,17 @@ pub does-then : {n e : ℕ} {h : List ℕ → Plan → Plan} (h′ : List ℕ �
 does-then h′ d d′ = record { fit = d′ .fit; same = d′ .same ∙ ap (onPlan h′) (d .same) }
 
 pub frame-none : {n e : ℕ} {a : Area} → Frame n e a a
-frame-none = record { owner = refl; reverse = refl; restW = refl; restR = refl }
+frame-none = record { owner = refl; reverse = refl; restW = refl; restF = refl }
 
 pub frame-then : {n e : ℕ} {a b c : Area} → Frame n e a b → Frame n e b c → Frame n e a c
-frame-then f g = record { owner = g .owner ∙ f .owner; reverse = g .reverse ∙ f .reverse; restW = g .restW ∙ f .restW; restR = g .restR ∙ f .restR }
+frame-then f g = record { owner = g .owner ∙ f .owner; reverse = g .reverse ∙ f .reverse; restW = g .restW ∙ f .restW; restF = g .restF ∙ f .restF }
 
 pub does-frame : {n e : ℕ} {h : List ℕ → Plan → Plan} {a b : Area} → Does n e h a b → Frame n e a b
 does-frame d = record {
   owner = ap (λ (v : View). v .owner) (d .same);
   reverse = ap (λ (v : View). v .reverse) (d .same);
   restW = ap (λ (v : View). v .restW) (d .same);
-  restR = ap (λ (v : View). v .restR) (d .same);
+  restF = ap (λ (v : View). v .restF) (d .same);
 }
 
 -- ---- what the code reads
@@ -66,13 +66,13 @@ does-frame d = record {
 module _ (n e row : ℕ) (w : List ℕ) (f : List Float) (r : row < n) where
   pub delta-at : getD f (e + row + row) nan ≡ getD (view n e (area w f) .plan .delta) row nan
   unfolding view
-  delta-at = cut-get (rsizes n e) f nan 1 (row + row) (e + row + row) (omega arith) (omega arith) (omega arith) ∙ firsts-get (region (rsizes n e) 1 f) nan row (row + row) refl
+  delta-at = cut-get (fsizes n e) f nan 1 (row + row) (e + row + row) (omega arith) (omega arith) (omega arith) ∙ firsts-get (region (fsizes n e) 1 f) nan row (row + row) refl
 
   pub amount-at : getD f (e + row + row + 1) nan ≡ getD (view n e (area w f) .plan .amount) row nan
   unfolding view
   amount-at =
-      cut-get (rsizes n e) f nan 1 (row + row + 1) (e + row + row + 1) (omega arith) (omega arith) (omega arith)
-      ∙ seconds-get (region (rsizes n e) 1 f) nan row (row + row + 1) refl
+      cut-get (fsizes n e) f nan 1 (row + row + 1) (e + row + row + 1) (omega arith) (omega arith) (omega arith)
+      ∙ seconds-get (region (fsizes n e) 1 f) nan row (row + row + 1) refl
 
   pub direction-at : getD w (e + e + row + row) 0 ≡ getD (view n e (area w f) .plan .direction) row 0
   unfolding view
@@ -122,7 +122,7 @@ module _ (n e : ℕ) (a : Area) (h : Fit n e a) where
 
   pub amount-length : length (view n e a .plan .amount) ≡ n
   unfolding view
-  amount-length = seconds-length n _ (cut-length (rsizes n e) (a .reals) 1 (omega arith) (omega (arith, h .reals)))
+  amount-length = seconds-length n _ (cut-length (fsizes n e) (a .floats) 1 (omega arith) (omega (arith, h .floats)))
 
 -- ---- what the code stores
 
@@ -137,7 +137,7 @@ paired v direction via delta amount = record {
   places = v .places;
   list = v .list;
   restW = v .restW;
-  restR = v .restR;
+  restF = v .restF;
 }
 
 module _ (n e row : ℕ) (w : List ℕ) (f : List Float) (r : row < n) where
@@ -147,53 +147,53 @@ module _ (n e row : ℕ) (w : List ℕ) (f : List Float) (r : row < n) where
   delta-view : (x : Float) → view n e (area w (set f (e + row + row) x)) ≡ paired v (v .plan .direction) (v .via) (set (v .plan .delta) row x) (v .plan .amount)
   unfolding view
   delta-view x =
-      ap (viewIn (cut (wsizes n e) w)) (cut-set (rsizes n e) f 1 (row + row) x (e + row + row) (omega arith) (omega arith) (omega arith))
-      ∙ ap₂ (paired v (v .plan .direction) (v .via)) (firsts-set (region (rsizes n e) 1 f) x row (row + row) refl) (seconds-keep (region (rsizes n e) 1 f) x row (row + row) refl)
+      ap (viewIn (cut (wsizes n e) w)) (cut-set (fsizes n e) f 1 (row + row) x (e + row + row) (omega arith) (omega arith) (omega arith))
+      ∙ ap₂ (paired v (v .plan .direction) (v .via)) (firsts-set (region (fsizes n e) 1 f) x row (row + row) refl) (seconds-keep (region (fsizes n e) 1 f) x row (row + row) refl)
 
   amount-view : (x : Float) → view n e (area w (set f (e + row + row + 1) x)) ≡ paired v (v .plan .direction) (v .via) (v .plan .delta) (set (v .plan .amount) row x)
   unfolding view
   amount-view x =
-      ap (viewIn (cut (wsizes n e) w)) (cut-set (rsizes n e) f 1 (row + row + 1) x (e + row + row + 1) (omega arith) (omega arith) (omega arith))
-      ∙ ap₂ (paired v (v .plan .direction) (v .via)) (firsts-keep (region (rsizes n e) 1 f) x row (row + row + 1) refl) (seconds-set (region (rsizes n e) 1 f) x row (row + row + 1) refl)
+      ap (viewIn (cut (wsizes n e) w)) (cut-set (fsizes n e) f 1 (row + row + 1) x (e + row + row + 1) (omega arith) (omega arith) (omega arith))
+      ∙ ap₂ (paired v (v .plan .direction) (v .via)) (firsts-keep (region (fsizes n e) 1 f) x row (row + row + 1) refl) (seconds-set (region (fsizes n e) 1 f) x row (row + row + 1) refl)
 
   direction-view : (x : ℕ) → view n e (area (set w (e + e + row + row) x) f) ≡ paired v (set (v .plan .direction) row x) (v .via) (v .plan .delta) (v .plan .amount)
   unfolding view
   direction-view x =
-      ap (λ ws. viewIn ws (cut (rsizes n e) f)) (cut-set (wsizes n e) w 2 (row + row) x (e + e + row + row) (omega arith) (omega arith) (omega arith))
+      ap (λ ws. viewIn ws (cut (fsizes n e) f)) (cut-set (wsizes n e) w 2 (row + row) x (e + e + row + row) (omega arith) (omega arith) (omega arith))
       ∙ ap₂ (λ (d u : List ℕ). paired v d u (v .plan .delta) (v .plan .amount)) (firsts-set (region (wsizes n e) 2 w) x row (row + row) refl) (seconds-keep (region (wsizes n e) 2 w) x row (row + row) refl)
 
   pub via-view : (x : ℕ) → view n e (area (set w (e + e + row + row + 1) x) f) ≡ paired v (v .plan .direction) (set (v .via) row x) (v .plan .delta) (v .plan .amount)
   unfolding view
   via-view x =
-      ap (λ ws. viewIn ws (cut (rsizes n e) f)) (cut-set (wsizes n e) w 2 (row + row + 1) x (e + e + row + row + 1) (omega arith) (omega arith) (omega arith))
+      ap (λ ws. viewIn ws (cut (fsizes n e) f)) (cut-set (wsizes n e) w 2 (row + row + 1) x (e + e + row + row + 1) (omega arith) (omega arith) (omega arith))
       ∙ ap₂ (λ (d u : List ℕ). paired v d u (v .plan .delta) (v .plan .amount)) (firsts-keep (region (wsizes n e) 2 w) x row (row + row + 1) refl) (seconds-set (region (wsizes n e) 2 w) x row (row + row + 1) refl)
 
   fast-view : (x : ℕ) → view n e (area (set w (e + e + n + n + row) x) f) ≡ onPlan (λ o p. setFast row x p) v
   unfolding view
-  fast-view x = ap (λ ws. viewIn ws (cut (rsizes n e) f)) (cut-set (wsizes n e) w 3 row x (e + e + n + n + row) (omega arith) r (omega arith))
+  fast-view x = ap (λ ws. viewIn ws (cut (fsizes n e) f)) (cut-set (wsizes n e) w 3 row x (e + e + n + n + row) (omega arith) r (omega arith))
 
 module _ (n e row : ℕ) (w : List ℕ) (f : List Float) (r : row < n) (h : Fit n e (area w f)) where
   pub amount-set : (x : Float) → Does n e (λ o p. setAmount row x p) (area w f) (area w (set f (e + row + row + 1) x))
   amount-set x = record {
-    fit = record { words = h .words; reals = simp length-set (h .reals); turfs = h .turfs; links = h .links };
+    fit = record { words = h .words; floats = simp length-set (h .floats); turfs = h .turfs; links = h .links };
     same = amount-view n e row w f r x;
   }
 
   pub delta-set : (x : Float) → Does n e (λ o p. setDelta row x p) (area w f) (area w (set f (e + row + row) x))
   delta-set x = record {
-    fit = record { words = h .words; reals = simp length-set (h .reals); turfs = h .turfs; links = h .links };
+    fit = record { words = h .words; floats = simp length-set (h .floats); turfs = h .turfs; links = h .links };
     same = delta-view n e row w f r x;
   }
 
   pub direction-set : (x : ℕ) → Does n e (λ o p. setDirection row x p) (area w f) (area (set w (e + e + row + row) x) f)
   direction-set x = record {
-    fit = record { words = simp length-set (h .words); reals = h .reals; turfs = h .turfs; links = h .links };
+    fit = record { words = simp length-set (h .words); floats = h .floats; turfs = h .turfs; links = h .links };
     same = direction-view n e row w f r x;
   }
 
   fast-set : (x : ℕ) → Does n e (λ o p. setFast row x p) (area w f) (area (set w (e + e + n + n + row) x) f)
   fast-set x = record {
-    fit = record { words = simp length-set (h .words); reals = h .reals; turfs = h .turfs; links = h .links };
+    fit = record { words = simp length-set (h .words); floats = h .floats; turfs = h .turfs; links = h .links };
     same = fast-view n e row w f r x;
   }
 

@@ -1,4 +1,4 @@
--- A weight that is altered: in the list of all reals, and in the plan. Assumes nothing.
+-- A weight that is altered: in the list of all floats, and in the plan. Assumes nothing.
 use Prim.Native.Nat.{ℕ, _+_, _-_, _≤_, _<_}
 use native.Mathlib.Omega.{arith}
 use mathlib.Core.Path.{_≡_, refl, ap, ap₂, _∙_, sym, subst}
@@ -20,7 +20,7 @@ use Rattle.basics.proofs.Regions.{cut-set, cut-get}
 use Rattle.process_zone.specs.Edges.{alter}
 use Rattle.process_zone.specs.Plan.{Plan, reweigh}
 use Rattle.process_zone.proofs.Sizes.{alter-size}
-use Rattle.plan_state.specs.Held.{Area, area, wsizes, rsizes, View, viewIn, view, Fit, onPlan, Does}
+use Rattle.plan_state.specs.Held.{Area, area, wsizes, fsizes, View, viewIn, view, Fit, onPlan, Does}
 use Rattle.plan_state.specs.Steps.{ownedBy, backLink, adjustAt}
 
 -- what a search found, by its case
@@ -37,12 +37,12 @@ adjust-length there back x w = alter-size back (λ y. y -f x) (alter there (λ y
 pub found-as : (m m′ : ℕ) (s : Spot) → m ≡ m′ → Found (λ k. k < m) s → Found (λ k. k < m′) s
 found-as m m′ s q f = subst (λ (j : ℕ). Found (λ k. k < j) s) q f
 
--- the weights stand first among the reals
+-- the weights stand first among the floats
 cut-alter : (n e : ℕ) (s : Spot) (f : Float → Float) (w : List Float) → Found (λ k. k < e) s
-    → cut (rsizes n e) (alter s f w) ≡ set (cut (rsizes n e) w) 0 (alter s f (region (rsizes n e) 0 w))
+    → cut (fsizes n e) (alter s f w) ≡ set (cut (fsizes n e) w) 0 (alter s f (region (fsizes n e) 0 w))
 cut-alter n e (At k) f w h =
-    cut-set (rsizes n e) w 0 k (f (getD w k nan)) k (omega arith) h (omega arith)
-    ∙ ap (λ (x : Float). set (cut (rsizes n e) w) 0 (set (region (rsizes n e) 0 w) k (f x))) (cut-get (rsizes n e) w nan 0 k k (omega arith) h (omega arith))
+    cut-set (fsizes n e) w 0 k (f (getD w k nan)) k (omega arith) h (omega arith)
+    ∙ ap (λ (x : Float). set (cut (fsizes n e) w) 0 (set (region (fsizes n e) 0 w) k (f x))) (cut-get (fsizes n e) w nan 0 k k (omega arith) h (omega arith))
 cut-alter n e Nowhere f w h = refl
 
 pub adjusted : (n e : ℕ) (there back : Spot) (x : Float) (w : List ℕ) (f f′ : List Float) → Found (λ k. k < e) there → Found (λ k. k < e) back
@@ -50,11 +50,11 @@ pub adjusted : (n e : ℕ) (there back : Spot) (x : Float) (w : List ℕ) (f f�
     → Does n e (λ o p. reweigh (adjustAt there back x) p) (area w f) (area w f′)
 unfolding view adjustAt
 adjusted n e there back x w f f′ ht hb s h =
-    let c : cut (rsizes n e) f′ ≡ set (cut (rsizes n e) f) 0 (adjustAt there back x (region (rsizes n e) 0 f)) =
-    ap (cut (rsizes n e)) s ∙ cut-alter n e back (λ y. y -f x) (alter there (λ y. y +f x) f) hb
+    let c : cut (fsizes n e) f′ ≡ set (cut (fsizes n e) f) 0 (adjustAt there back x (region (fsizes n e) 0 f)) =
+    ap (cut (fsizes n e)) s ∙ cut-alter n e back (λ y. y -f x) (alter there (λ y. y +f x) f) hb
     ∙ ap (λ rs. set rs 0 (alter back (λ y. y -f x) (getD rs 0 []))) (cut-alter n e there (λ y. y +f x) f ht) in
     record {
-      fit = record { words = h .words; reals = rw (ap length s ∙ adjust-length there back x f) (h .reals); turfs = h .turfs; links = h .links };
+      fit = record { words = h .words; floats = rw (ap length s ∙ adjust-length there back x f) (h .floats); turfs = h .turfs; links = h .links };
       same = ap (viewIn (cut (wsizes n e) w)) c;
     }
 

@@ -2,48 +2,37 @@
 use Prim.Native.Nat.{ℕ, _+_, _-_, _≤_, _<_}
 use mathlib.Core.Path.{_≡_}
 use mathlib.Core.List.{List, [], _∷_}
-use lib.ListN.{length, getD, take, drop, replicate}
-use lib.Ieee.{Float, nan}
+use lib.ListN.{length, getD, take, drop}
+use lib.Ieee.{Float}
+use denote.Ref.{RefT}
 use Rattle.basics.specs.Regions.{cut}
-use Rattle.board_rules.specs.Board.{Board}
+use Rattle.board_rules.specs.Board.{Board, turfCount, linkCount}
 use Rattle.process_zone.specs.Plan.{Plan}
 use Rattle.index_set.specs.Line.{Below}
+use Rattle.reverse_links.specs.Reverse.{Linked, Reverses}
 use Rattle.plan_state.specs.Pairs.{firsts, seconds}
-
--- the tables that planning looks at, of n turfs
-abbrev pub ground : ℕ → List ℕ → List ℕ → List ℕ → ℕ → Board
-ground n starts neighbours mixtures gases = record {
-  ids = replicate n 0;
-  flags = [];
-  planetary = [];
-  mixtures = mixtures;
-  starts = starts;
-  neighbours = neighbours;
-  linkFlags = [];
-  immutable = [];
-  gases = gases;
-}
-
--- the links alone
-abbrev pub grid : ℕ → List ℕ → List ℕ → Board
-grid n starts neighbours = ground n starts neighbours [] 0
+use Rattle.plan_state.specs.declared.ZoneAt.{ZoneAt}
 
 -- everything that a function of planning may change, before or after it
 pub record Area : Type 0 where
   pub words : List ℕ
-  pub reals : List Float
+  pub floats : List Float
 
 abbrev pub area : List ℕ → List Float → Area
-area w f = record { words = w; reals = f }
+area w f = record { words = w; floats = f }
+
+-- the same of references to them, as contracts have it
+abbrev pub areaAt : RefT (List ℕ) → RefT (List Float) → Area
+areaAt words floats = area (words .now) (floats .now)
 
 -- words: by link, the zone that owns it and its reverse; by row, the pair of the direction and the link over which the turf was met, the fast mark,
 -- the queue of a search, each row's place in it, the list of givers or takers
 abbrev pub wsizes : ℕ → ℕ → List ℕ
 wsizes n e = e ∷ e ∷ (n + n) ∷ n ∷ n ∷ n ∷ n ∷ []
 
--- reals: by link, the weight; by row, the pair of the delta and the amount
-abbrev pub rsizes : ℕ → ℕ → List ℕ
-rsizes n e = e ∷ (n + n) ∷ []
+-- floats: by link, the weight; by row, the pair of the delta and the amount
+abbrev pub fsizes : ℕ → ℕ → List ℕ
+fsizes n e = e ∷ (n + n) ∷ []
 
 -- all that the two areas hold
 pub record View : Type 0 where
@@ -55,7 +44,7 @@ pub record View : Type 0 where
   pub places : List ℕ
   pub list : List ℕ
   pub restW : List ℕ
-  pub restR : List Float
+  pub restF : List Float
 
 abbrev pub viewIn : List (List ℕ) → List (List Float) → View
 viewIn ws rs = record {
@@ -67,18 +56,38 @@ viewIn ws rs = record {
   places = getD ws 5 [];
   list = getD ws 6 [];
   restW = getD ws 7 [];
-  restR = getD rs 2 [];
+  restF = getD rs 2 [];
 }
 
 unfoldable pub view : ℕ → ℕ → Area → View
-view n e a = viewIn (cut (wsizes n e) (a .words)) (cut (rsizes n e) (a .reals))
+view n e a = viewIn (cut (wsizes n e) (a .words)) (cut (fsizes n e) (a .floats))
 
 -- the areas are long enough, and the sizes within their limits
 pub record Fit (n e : ℕ) (a : Area) : Type 0 where
   pub words : e + e + n + n + n + n + n + n ≤ length (a .words)
-  pub reals : e + n + n ≤ length (a .reals)
+  pub floats : e + n + n ≤ length (a .floats)
   pub turfs : n ≤ 4096
   pub links : e ≤ 24576
+
+-- n and e are the board's turfs and links, and its links are as refusal 4 leaves them
+pub record Sized (b : Board) (n e : ℕ) : Type 0 where
+  pub turfs : turfCount b ≡ n
+  pub links : linkCount b ≡ e
+  pub linked : Linked n (b .starts) (b .neighbours)
+
+-- the links up to `to` are the board's and end at turfs, and r is a turf
+pub record Ends (n e r to : ℕ) (neighbours : List ℕ) : Type 0 where
+  pub row : r < n
+  pub all : length neighbours ≡ e
+  pub within : to ≤ e
+  pub ends : (k : ℕ) → k < e → getD neighbours k 0 < n
+
+-- what every function of planning relies on, of a zone z: the sizes, areas that fit, the reverse of each link
+pub record Planning (b : Board) (n e z : ℕ) (a : Area) : Type 0 where
+  pub sized : Sized b n e
+  pub fit : Fit n e a
+  pub zone : z < 4096
+  pub reverses : Reverses b n (view n e a .reverse)
 
 -- a step of the plan that may look at the links' owners; all else stays
 abbrev pub onPlan : (List ℕ → Plan → Plan) → View → View
@@ -91,7 +100,7 @@ onPlan h v = record {
   places = v .places;
   list = v .list;
   restW = v .restW;
-  restR = v .restR;
+  restF = v .restF;
 }
 
 -- from a to a′ by the step h of the plan, and all else is as it was
@@ -104,7 +113,7 @@ pub record Frame (n e : ℕ) (a a′ : Area) : Type 0 where
   pub owner : view n e a′ .owner ≡ view n e a .owner
   pub reverse : view n e a′ .reverse ≡ view n e a .reverse
   pub restW : view n e a′ .restW ≡ view n e a .restW
-  pub restR : view n e a′ .restR ≡ view n e a .restR
+  pub restF : view n e a′ .restF ≡ view n e a .restF
 
 -- the same, but that what a search works with may be anything afterwards
 pub record Serves (n e : ℕ) (h : List ℕ → Plan → Plan) (a a′ : Area) : Type 0 where
@@ -122,7 +131,14 @@ top n e = e + e + n + n + n + n + n + n
 abbrev pub nodesOf : ℕ → ℕ → View → ℕ → ℕ → List ℕ
 nodesOf n e v first count = take count (drop (first - top n e) (v .restW))
 
+-- there are some, at most one for each turf
 pub record Nodes (n e first count : ℕ) (a : Area) : Type 0 where
+  pub some : 0 < count
+  pub few : count ≤ n
   pub past : top n e ≤ first
   pub room : first + count ≤ length (a .words)
   pub rows : Below n (nodesOf n e (view n e a) first count)
+
+-- the nodes of the zone in hand
+abbrev pub zoneNodes : ZoneAt → Area → List ℕ
+zoneNodes zone a = nodesOf (zone .n) (zone .e) (view (zone .n) (zone .e) a) (zone .first) (zone .count)

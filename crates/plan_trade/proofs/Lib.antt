@@ -1,4 +1,3 @@
 pub mod Trades
 pub mod Lessers
-pub mod Sides
 pub mod Nears

@@ -66,19 +66,23 @@ pub record Met (n z : ℕ) (starts neighbours : List ℕ) (v : View) (a : ℕ) :
 abbrev pub AllMet : ℕ → ℕ → List ℕ → List ℕ → View → ℕ → Type 0
 AllMet n z starts neighbours v count = (i : ℕ) → i < count → Met n z starts neighbours v (getD (v .queue) i 0)
 
--- a step over links of the turf r, those of `part` from `from` on, keeps that so
-pub record KeepsMet (n e z r from : ℕ) (part : List ℕ) (count count′ : ℕ) (a a′ : Area) : Type 0 where
-  pub keeps : (starts neighbours : List ℕ) → ((i : ℕ) → i < length part → Leads n starts neighbours r (from + i) (getD part i 0))
+-- a step over links of the turf r, some of those from `from` up to `to`, keeps that so
+pub record KeepsMet (n e z r from to : ℕ) (neighbours : List ℕ) (count count′ : ℕ) (a a′ : Area) : Type 0 where
+  pub keeps : (starts : List ℕ) → ((k : ℕ) → from ≤ k → k < to → Leads n starts neighbours r k (getD neighbours k 0))
       → AllMet n z starts neighbours (view n e a) count → AllMet n z starts neighbours (view n e a′) count′
 
 -- over such links without a trade: from a to a′ by the step f g, whichever turf g is in hand, as long as it isn't settled
-pub record Passes (side : Side) (n e : ℕ) (f : ℕ → List ℕ → Seek → Seek) (z r from : ℕ) (part : List ℕ) (count count′ : ℕ) (a a′ : Area) : Type 0 where
+pub record Passes (side : Side) (n e : ℕ) (f : ℕ → List ℕ → Seek → Seek) (z r from to : ℕ) (neighbours : List ℕ) (count count′ : ℕ) (a a′ : Area) : Type 0 where
   pub seeking : Seeking n e count′ a′
-  pub sought : (g : ℕ) → g < n → settled side (getD (a .reals) (e + g + g) nan) ≡ false → Sought n e (f g) count count′ a a′
-  pub met : KeepsMet n e z r from part count count′ a a′
+  pub sought : (g : ℕ) → g < n → settled side (getD (a .floats) (e + g + g) nan) ≡ false → Sought n e (f g) count count′ a a′
+  pub met : KeepsMet n e z r from to neighbours count count′ a a′
   pub idle : (first : ℕ) → KeepsIdle n e count first count′ first a a′
-  pub deltas : (g : ℕ) → g < n → getD (a′ .reals) (e + g + g) nan ≡ getD (a .reals) (e + g + g) nan
+  pub deltas : (g : ℕ) → g < n → getD (a′ .floats) (e + g + g) nan ≡ getD (a .floats) (e + g + g) nan
 
 -- what the way back reads is within the areas
 pub record Within (n e : ℕ) (v : View) (a : ℕ) : Type 0 where
   pub at : (d : ℕ) → getD (v .plan .direction) a 0 ≡ d + 1 → (d < n) × ((getD (v .via) a 0 < e) × (getD (v .reverse) (getD (v .via) a 0) 0 ≤ e))
+
+-- and so for the first `to` rows of the queue, which are turfs
+abbrev pub AllWithin : ℕ → ℕ → View → ℕ → Type 0
+AllWithin n e v to = (i : ℕ) → i < to → (getD (v .queue) i 0 < n) × Within n e v (getD (v .queue) i 0)

@@ -4,26 +4,20 @@ use mathlib.Core.List.{List}
 use mathlib.Core.Bool.{Bool, not, _&&_, cond}
 use lib.Dec.{eqb, ltb}
 use lib.ListN.{getD, set}
-use lib.Ieee.{Float, nan, ne, neg}
+use lib.Ieee.{Float, nan, ne}
 use Rattle.basics.specs.Loops.{if_then_else_}
 use Rattle.basics.specs.Floats.{0f, _+f_, _-f_}
 use Rattle.basics.specs.declared.Spot.{Spot}
-use Rattle.basics.specs.declared.Spot.the-variants.{At, Nowhere}
+use Rattle.basics.specs.declared.Spot.the-variants.{At}
 use Rattle.process_zone.specs.Plan.{Plan, Seek, load, withDelta, wants, more, seekTo}
 use Rattle.process_zone.specs.declared.MonstermosInfo.{MonstermosInfo}
 use Rattle.process_zone.specs.declared.Side.{Side}
-use Rattle.process_zone.specs.declared.Side.the-variants.{Giving, Taking}
 use Rattle.plan_state.specs.Steps.{backLink, adjustAt}
 use Rattle.plan_trade.specs.declared.Both.{Both}
 
 -- the lesser one
 unfoldable pub lesser : ℕ → ℕ → ℕ
 lesser a b = if ltb a b then a else b
-
--- a giver's number as it is, a taker's negated
-abbrev pub given : Side → Float → Float
-given Giving x = x
-given Taking x = neg x
 
 -- what `trade` comes to for the turf in hand and the turf that is met
 unfoldable pub bargain : Side → MonstermosInfo → MonstermosInfo → Both
@@ -46,9 +40,9 @@ bargain side hand met =
 unfoldable pub point : ℕ → ℕ → Plan → Plan
 point a d s = record { weight = s .weight; delta = s .delta; amount = set (s .amount) a 0f; direction = set (s .direction) a d; fast = s .fast }
 
--- link i of a part of the link list that starts at `from`: the zone's own links alone
-unfoldable pub alongPart : Side → ℕ → ℕ → List ℕ → ℕ → ℕ → List ℕ → ℕ → Seek → Seek
-alongPart side g r part from z o i s = if eqb (getD o (from + i) 0) (z + 1) then seekTo side g r (getD part i 0) s else s
+-- the link k of the turf r, if the zone owns it
+unfoldable pub along : Side → ℕ → ℕ → List ℕ → ℕ → List ℕ → ℕ → Seek → Seek
+along side g r neighbours z o k s = if eqb (getD o k 0) (z + 1) then seekTo side g r (getD neighbours k 0) s else s
 
 -- `drainTo` with both edges at hand
 unfoldable pub handOn : Spot → Spot → ℕ → ℕ → Plan → Plan

@@ -1,23 +1,17 @@
-// `give_to_takers` and `take_from_givers` for one turf: a search from it through the zone, then the way back. One body serves both; what differs
-// is the tests.
+// A turf that is met in a search, and the trade with the turf in hand. One body serves `give_to_takers` and `take_from_givers`; what differs is the tests.
 ghost use mathlib.Core.Path.{_≡_};
-ghost use mathlib.Core.Bool.{true, false, cond};
-ghost use mathlib.Core.List.{[], _∷_, reverse};
-ghost use Prim.Native.Nat.{ℕ, _+_, _-_, _≤_, _<_};
-ghost use lib.Dec.{eqb};
+ghost use mathlib.Core.Bool.{false, cond};
+ghost use Prim.Native.Nat.{_<_};
 ghost use lib.Ieee.{nan};
-ghost use lib.ListN.{length, getD, take, drop};
-ghost use Rattle.basics.specs.Lists.{Found};
-ghost use Rattle.basics.specs.Loops.{run, times, upFrom};
-ghost use Rattle.process_zone.specs.Edges.{edgesOf};
-ghost use Rattle.process_zone.specs.Plan.{settled, wants, more, trade, meet, seekTo, seekLink, seekNext, serve};
-ghost use Rattle.index_set.specs.Line.{Below};
-ghost use Rattle.reverse_links.specs.Reverse.{Linked, Reverses};
-ghost use Rattle.plan_state.specs.Held.{grid, area, view, Fit, Does, Serves};
-ghost use Rattle.plan_trade.specs.Search.{Seeking, Sought, Searched, AllMet, KeepsMet, Idle, KeepsIdle, Passes, Within};
-ghost use Rattle.plan_trade.specs.Steps.{lesser, given, bargain, point, alongPart, handOn, drainVia};
+ghost use lib.ListN.{getD};
+ghost use Rattle.process_zone.specs.Plan.{settled, wants, trade, meet};
+ghost use Rattle.plan_state.specs.Held.{areaAt, view, Fit, Does};
+ghost use Rattle.plan_trade.specs.Steps.{lesser, bargain, point};
 use plan_state::load;
 use plan_state::store;
+use plan_tests::more;
+use plan_tests::settled;
+use plan_tests::wants;
 use process_zone::MonstermosInfo;
 use process_zone::Side;
 
@@ -27,37 +21,7 @@ pub struct Both {
     pub met: MonstermosInfo,
 }
 
-// A giver's number as it is, a taker's negated, so that one comparison serves both.
-pub fn given(side: Side, x: f32) -> f32
-    ensures { λ r. ⌜ r ≡ given side x ⌝ }
-{
-    match side {
-        Side::Giving => x,
-        Side::Taking => -x,
-    }
-}
-
-// The turf in hand has nothing more to give, or to take.
-pub fn settled(side: Side, x: f32) -> bool
-    ensures { λ r. ⌜ r ≡ settled side x ⌝ }
-{
-    given(side, x) <= 0.0
-}
-
-// The turf that is met can take, or give.
-pub fn wants(side: Side, y: f32) -> bool
-    ensures { λ r. ⌜ r ≡ wants side y ⌝ }
-{
-    given(side, y) < 0.0
-}
-
-// The turf that is met has room for all that the turf in hand has left, and some over.
-pub fn more(side: Side, x: f32, y: f32) -> bool
-    ensures { λ r. ⌜ r ≡ more side x y ⌝ }
-{
-    -given(side, y) > given(side, x)
-}
-
+// What the two come to once they traded, if they can.
 pub fn barter(side: Side, hand: MonstermosInfo, met: MonstermosInfo) -> Both
     ensures { λ r. ⌜ r ≡ bargain side hand met ⌝ }
 {
@@ -104,25 +68,28 @@ pub fn trade(
     n: usize,
     e: usize,
     words: &mut [u32],
-    reals: &mut [f32],
+    floats: &mut [f32],
 )
-    requires { ⌜ Fit n e (area (now words) (now reals)) × ((g < n) × (a < n)) ⌝ }
-    ensures { λ _. ⌜ Does n e (λ o p. trade side g a p) (area (now (words .entry)) (now (reals .entry))) (area (now (words .exit)) (now (reals .exit))) ⌝ }
+    requires { ⌜ Fit n e (areaAt words floats) ⌝ }
+    requires { ⌜ g < n ⌝ }
+    requires { ⌜ a < n ⌝ }
+    ensures { λ _. ⌜ Does n e (λ o p. trade side g a p) (areaAt (words .entry) (floats .entry)) (areaAt (words .exit) (floats .exit)) ⌝ }
 {
-    let hand = load(g, n, e, words, reals);
-    let met = load(a, n, e, words, reals);
+    let hand = load(g, n, e, words, floats);
+    let met = load(a, n, e, words, floats);
     let both = barter(side, hand, met);
-    store(a, both.met, n, e, words, reals);
-    store(g, both.hand, n, e, words, reals);
+    store(a, both.met, n, e, words, floats);
+    store(g, both.hand, n, e, words, floats);
 }
 
 // The turf at row a points at d - 1, and has moved nothing yet.
-pub fn point(a: usize, d: u32, n: usize, e: usize, words: &mut [u32], reals: &mut [f32])
-    requires { ⌜ Fit n e (area (now words) (now reals)) × (a < n) ⌝ }
-    ensures { λ _. ⌜ Does n e (λ o p. point a d p) (area (now (words .entry)) (now (reals .entry))) (area (now (words .exit)) (now (reals .exit))) ⌝ }
+pub fn point(a: usize, d: u32, n: usize, e: usize, words: &mut [u32], floats: &mut [f32])
+    requires { ⌜ Fit n e (areaAt words floats) ⌝ }
+    requires { ⌜ a < n ⌝ }
+    ensures { λ _. ⌜ Does n e (λ o p. point a d p) (areaAt (words .entry) (floats .entry)) (areaAt (words .exit) (floats .exit)) ⌝ }
 {
     words[e + e + a + a] = d;
-    reals[e + a + a + 1] = 0.0;
+    floats[e + a + a + 1] = 0.0;
 }
 
 // A turf that is met for the first time, from r; whether it traded.
@@ -134,16 +101,19 @@ pub fn meet(
     n: usize,
     e: usize,
     words: &mut [u32],
-    reals: &mut [f32],
+    floats: &mut [f32],
 ) -> bool
-    requires { ⌜ Fit n e (area (now words) (now reals)) × ((g < n) × ((a < n) × (r < n))) ⌝ }
-    ensures { λ _. ⌜ Does n e (λ o p. meet side g r a p) (area (now (words .entry)) (now (reals .entry))) (area (now (words .exit)) (now (reals .exit))) ⌝ }
-    ensures { λ t. ⌜ t ≡ wants side (getD (view n e (area (now (words .entry)) (now (reals .entry))) .plan .delta) a nan) ⌝ }
+    requires { ⌜ Fit n e (areaAt words floats) ⌝ }
+    requires { ⌜ g < n ⌝ }
+    requires { ⌜ a < n ⌝ }
+    requires { ⌜ r < n ⌝ }
+    ensures { λ _. ⌜ Does n e (λ o p. meet side g r a p) (areaAt (words .entry) (floats .entry)) (areaAt (words .exit) (floats .exit)) ⌝ }
+    ensures { λ t. ⌜ t ≡ wants side (getD (view n e (areaAt (words .entry) (floats .entry)) .plan .delta) a nan) ⌝ }
 {
-    point(a, r + 1, n, e, words, reals);
-    let can = wants(side, reals[e + a + a]);
+    point(a, r + 1, n, e, words, floats);
+    let can = wants(side, floats[e + a + a]);
     if can {
-        trade(side, g, a, n, e, words, reals);
+        trade(side, g, a, n, e, words, floats);
     }
     can
 }

@@ -1,4 +1,3 @@
 pub mod Counts
 pub mod Lists
 pub mod Whole
-pub mod Logs

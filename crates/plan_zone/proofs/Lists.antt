@@ -20,10 +20,11 @@ use Rattle.process_zone.specs.declared.Side.{Side}
 use Rattle.process_zone.specs.declared.Side.the-variants.{Giving, Taking}
 use Rattle.index_set.specs.Line.{Below}
 use Rattle.index_set.proofs.Queue.{Below-at}
-use Rattle.plan_state.specs.Held.{Area, area, wsizes, rsizes, View, viewIn, view, Fit, Does, Frame, Serves, top, Nodes, nodesOf}
+use Rattle.plan_state.specs.Held.{Area, area, wsizes, fsizes, View, viewIn, view, Fit, Does, Frame, Serves, top, Nodes, nodesOf}
 use Rattle.plan_state.proofs.Stores.{frame-none, frame-then, does-none, does-as, does-frame, delta-at, list-at}
 use Rattle.plan_state.proofs.Nodes.{nodes-length, node-at, node-below, nodes-same, nodes-kept}
-use Rattle.plan_zone.specs.Zone.{sideOf, Picked, Plans}
+use Rattle.plan_zone.specs.Zone.{Picked, Plans}
+use Rattle.plan_tests.specs.Sides.{sideOf}
 use Rattle.plan_zone.proofs.Counts.{chosen-all}
 
 -- ---- the list grows
@@ -57,17 +58,17 @@ module _ {n e : ℕ} (p : ℕ → Bool) (xs : List ℕ) {k i : ℕ} {a : Area} {
     unfolding view
     picking-yes t r er =
         let v : View = view n e (area w f) in
-        let u = ap (λ ws. viewIn ws (cut (rsizes n e) f)) (cut-set (wsizes n e) w 6 k r (list + k) (omega arith) hk (omega (arith, el))) in
+        let u = ap (λ ws. viewIn ws (cut (fsizes n e) f)) (cut-set (wsizes n e) w 6 k r (list + k) (omega arith) hk (omega (arith, el))) in
         let long : length (v .list) ≡ n = cut-length (wsizes n e) w 6 (omega arith) (omega (arith, b .fit .words)) in
         let rest : List ℕ = keep p (drop (i + 1) xs) in
         record {
-          fit = record { words = simp length-set (b .fit .words); reals = b .fit .reals; turfs = b .fit .turfs; links = b .fit .links };
+          fit = record { words = simp length-set (b .fit .words); floats = b .fit .floats; turfs = b .fit .turfs; links = b .fit .links };
           few = omega (arith, b .few);
           frame = record {
             owner = ap (λ (x : View). x .owner) u ∙ b .frame .owner;
             reverse = ap (λ (x : View). x .reverse) u ∙ b .frame .reverse;
             restW = ap (λ (x : View). x .restW) u ∙ b .frame .restW;
-            restR = ap (λ (x : View). x .restR) u ∙ b .frame .restR;
+            restF = ap (λ (x : View). x .restF) u ∙ b .frame .restF;
           };
           plan = ap (λ (x : View). x .plan) u ∙ b .plan;
           on = ap (λ (x : View). take (k + 1) (x .list) ++ rest) u

@@ -2,19 +2,12 @@
 use Prim.Native.Nat.{ℕ, _+_, _*_, _≤_, _<_}
 use mathlib.Core.Path.{_≡_}
 use mathlib.Core.List.{List}
-use mathlib.Core.Bool.{Bool, cond}
-use lib.Dec.{ltb}
 use lib.ListN.{length, getD, take}
 use lib.Ieee.{Float}
-use Rattle.basics.specs.Loops.{if_then_else_}
+use Rattle.basics.specs.Floats.{_/f_, ofCount}
 use Rattle.process_zone.specs.Plan.{Plan}
-use Rattle.process_zone.specs.declared.Side.{Side}
-use Rattle.process_zone.specs.declared.Side.the-variants.{Giving, Taking}
-use Rattle.plan_state.specs.Held.{Area, View, view, Fit, Frame}
-
--- fewer givers than takers: givers give; else takers take
-abbrev pub sideOf : ℕ → ℕ → Side
-sideOf givers takers = if ltb givers takers then Giving else Taking
+use Rattle.plan_state.specs.Held.{Area, view, Fit, Frame}
+use Rattle.plan_state.specs.declared.ZoneAt.{ZoneAt}
 
 -- every turf's mixture lies in the gas
 pub record Gassed (n : ℕ) (mixtures : List ℕ) (gases : ℕ) (gas : List Float) : Type 0 where
@@ -34,3 +27,7 @@ pub record Plans (n e : ℕ) (h : List ℕ → Plan → Plan) (a a′ : Area) : 
   pub fit : Fit n e a′
   pub frame : Frame n e a a′
   pub plan : view n e a′ .plan ≡ h (view n e a .owner) (view n e a .plan)
+
+-- what each node of the zone in hand would have, if all had the same
+abbrev pub averageOf : ZoneAt → Float
+averageOf zone = zone .moles /f ofCount (zone .count)

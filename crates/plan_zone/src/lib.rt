@@ -1,43 +1,41 @@
 // `process_zone`: the weights of one zone's edges.
 ghost use mathlib.Core.Path.{_≡_};
 ghost use mathlib.Core.Bool.{cond};
-ghost use mathlib.Core.List.{[]};
-ghost use Prim.Native.Nat.{_+_, _-_, _≤_, _<_};
+ghost use Prim.Native.Nat.{_+_, _≤_, _<_};
 ghost use lib.Ieee.{nan};
 ghost use lib.ListN.{length, getD, take, set};
 ghost use Rattle.basics.specs.Loops.{run};
-ghost use Rattle.basics.specs.Floats.{0f, _-f_};
-ghost use Rattle.mixture_rules.specs.Mixture.{total};
-ghost use Rattle.process_zone.specs.Plan.{store, log2, picks, chosen, serve, fastPass, shareOut, deltas, planZone};
-ghost use Rattle.process_zone.specs.declared.Side.the-variants.{Giving, Taking};
+ghost use Rattle.basics.specs.Floats.{0f};
+ghost use Rattle.turfs.specs.Tables.{boardAt};
+ghost use Rattle.process_zone.specs.Plan.{store, picks, chosen, serve, fastPass, shareOut, deltas, planZone};
+ghost use Rattle.process_zone.specs.declared.Side.the-variants.{Giving};
 ghost use Rattle.index_set.specs.Line.{Below};
-ghost use Rattle.reverse_links.specs.Reverse.{Linked, Reverses};
-ghost use Rattle.plan_state.specs.Held.{grid, ground, area, view, Fit, Does, Serves, Nodes, nodesOf};
-ghost use Rattle.plan_zone.specs.Zone.{sideOf, Gassed, Picked, Plans};
+ghost use Rattle.plan_state.specs.Held.{areaAt, view, Fit, Planning, Does, Serves, Nodes, zoneNodes};
+ghost use Rattle.plan_zone.specs.Zone.{Gassed, Picked, Plans, averageOf};
 use plan_fast::fast_all;
+use plan_search::Hand;
 use plan_search::serve;
+use plan_state::ZoneAt;
 use plan_state::list_at;
 use plan_state::store;
+use plan_tests::log2;
+use plan_tests::picks;
+use plan_tests::side_of;
 use process_zone::MonstermosInfo;
 use process_zone::Side;
-
-// Whether a turf gives, or takes.
-fn picks(side: Side, x: f32) -> bool
-    ensures { λ r. ⌜ r ≡ picks side x ⌝ }
-{
-    match side {
-        Side::Giving => x > 0.0,
-        Side::Taking => !(x > 0.0),
-    }
-}
+use turfs::MIXTURES;
+use turfs::Marks;
+use turfs::Rows;
 
 // One more, if the turf r gives.
-fn count_one(r: u32, c: usize, e: usize, reals: &[f32]) -> usize
-    requires { ⌜ (e + r + r < length (now reals)) × (c < 4096) ⌝ }
-    ensures { λ k. ⌜ k ≡ cond (picks Giving (getD (now (reals .entry)) (e + r + r) nan)) (c + 1) c ⌝ }
+fn count_one(r: u32, c: usize, zone: ZoneAt, floats: &[f32]) -> usize
+    requires { ⌜ zone .e + r + r < length (now floats) ⌝ }
+    requires { ⌜ c < 4096 ⌝ }
+    ensures { λ k. ⌜ k ≡ cond (picks Giving (getD (now (floats .entry)) (zone .e + r + r) nan)) (c + 1) c ⌝ }
 {
+    let e = zone.e;
     let row = r as usize;
-    if picks(Side::Giving, reals[e + row + row]) {
+    if picks(Side::Giving, floats[e + row + row]) {
         c + 1
     } else {
         c
@@ -45,32 +43,20 @@ fn count_one(r: u32, c: usize, e: usize, reals: &[f32]) -> usize
 }
 
 // How many of the nodes give.
-fn count_givers(
-    first: usize,
-    count: usize,
-    n: usize,
-    e: usize,
-    words: &[u32],
-    reals: &[f32],
-) -> usize
-    requires { ⌜ Fit n e (area (now words) (now reals)) × (Nodes n e first count (area (now words) (now reals)) × (count ≤ 4096)) ⌝ }
-    ensures { λ k. ⌜ k ≡ length (chosen Giving (nodesOf n e (view n e (area (now (words .entry)) (now (reals .entry)))) first count) (view n e (area (now (words .entry)) (now (reals .entry))) .plan)) ⌝ }
+fn count_givers(zone: ZoneAt, words: &[u32], floats: &[f32]) -> usize
+    requires { ⌜ Fit (zone .n) (zone .e) (areaAt words floats) ⌝ }
+    requires { ⌜ Nodes (zone .n) (zone .e) (zone .first) (zone .count) (areaAt words floats) ⌝ }
+    ensures { λ k. let a = areaAt (words .entry) (floats .entry) in ⌜ k ≡ length (chosen Giving (zoneNodes zone a) (view (zone .n) (zone .e) a .plan)) ⌝ }
 {
+    let first = zone.first;
+    let count = zone.count;
     let mut c = 0;
     let mut i = 0;
     while i < count {
-        c = count_one(words[first + i], c, e, reals);
+        c = count_one(words[first + i], c, zone, floats);
         i += 1;
     }
     c
-}
-
-// floor(log2 n)
-fn log2(n: u32) -> u32
-    requires { ⌜ 0 < n ⌝ }
-    ensures { λ r. ⌜ r ≡ log2 n ⌝ }
-{
-    31 - u32::leading_zeros(n)
 }
 
 // The turf r joins the list of c turfs, which starts at `list`, if it gives, or takes.
@@ -79,15 +65,19 @@ fn choose(
     r: u32,
     c: usize,
     list: usize,
-    e: usize,
+    zone: ZoneAt,
     words: &mut [u32],
-    reals: &[f32],
+    floats: &[f32],
 ) -> usize
-    requires { ⌜ (list + c < length (now words)) × ((e + r + r < length (now reals)) × (c < 4096)) ⌝ }
-    ensures { λ k. ⌜ (k ≡ cond (picks side (getD (now (reals .entry)) (e + r + r) nan)) (c + 1) c) × (now (words .exit) ≡ cond (picks side (getD (now (reals .entry)) (e + r + r) nan)) (set (now (words .entry)) (list + c) r) (now (words .entry))) ⌝ }
+    requires { ⌜ list + c < length (now words) ⌝ }
+    requires { ⌜ zone .e + r + r < length (now floats) ⌝ }
+    requires { ⌜ c < 4096 ⌝ }
+    ensures { λ k. ⌜ k ≡ cond (picks side (getD (now (floats .entry)) (zone .e + r + r) nan)) (c + 1) c ⌝ }
+    ensures { λ _. ⌜ now (words .exit) ≡ cond (picks side (getD (now (floats .entry)) (zone .e + r + r) nan)) (set (now (words .entry)) (list + c) r) (now (words .entry)) ⌝ }
 {
+    let e = zone.e;
     let row = r as usize;
-    if picks(side, reals[e + row + row]) {
+    if picks(side, floats[e + row + row]) {
         words[list + c] = r;
         return c + 1;
     }
@@ -95,214 +85,158 @@ fn choose(
 }
 
 // The list of the nodes that give, or that take: it answers how many.
-fn gather(
-    side: Side,
-    first: usize,
-    count: usize,
-    n: usize,
-    e: usize,
-    words: &mut [u32],
-    reals: &[f32],
-) -> usize
-    requires { ⌜ Fit n e (area (now words) (now reals)) × (Nodes n e first count (area (now words) (now reals)) × (count ≤ n)) ⌝ }
-    ensures { λ k. ⌜ Picked n e (chosen side (nodesOf n e (view n e (area (now (words .entry)) (now (reals .entry)))) first count) (view n e (area (now (words .entry)) (now (reals .entry))) .plan)) k (area (now (words .entry)) (now (reals .entry))) (area (now (words .exit)) (now (reals .exit))) ⌝ }
+fn gather(side: Side, zone: ZoneAt, words: &mut [u32], floats: &[f32]) -> usize
+    requires { ⌜ Fit (zone .n) (zone .e) (areaAt words floats) ⌝ }
+    requires { ⌜ Nodes (zone .n) (zone .e) (zone .first) (zone .count) (areaAt words floats) ⌝ }
+    ensures { λ k. let a = areaAt (words .entry) (floats .entry) in ⌜ Picked (zone .n) (zone .e) (chosen side (zoneNodes zone a) (view (zone .n) (zone .e) a .plan)) k a (areaAt (words .exit) (floats .exit)) ⌝ }
 {
-    let list = list_at(n, e);
+    let first = zone.first;
+    let count = zone.count;
+    let list = list_at(zone.n, zone.e);
     let mut c = 0;
     let mut i = 0;
     while i < count {
-        c = choose(side, words[first + i], c, list, e, words, reals);
+        c = choose(side, words[first + i], c, list, zone, words, floats);
         i += 1;
     }
     c
 }
 
-// The turfs of the list, one after the other.
+// The `listed` turfs of the list, one after the other.
 fn serve_all(
     side: Side,
-    count: usize,
-    starts: &[u32],
-    neighbours: &[u32],
-    z: u32,
-    n: usize,
-    e: usize,
+    listed: usize,
+    zone: ZoneAt,
+    rows: &Rows,
+    marks: &Marks,
+    gases: usize,
     words: &mut [u32],
-    reals: &mut [f32],
+    floats: &mut [f32],
 )
-    requires { ⌜ Linked n (now starts) (now neighbours) × ((length (now neighbours) ≡ e) × (Fit n e (area (now words) (now reals)) × (z < 4096))) ⌝ }
-    requires { ⌜ Reverses (grid n (now starts) (now neighbours)) n (view n e (area (now words) (now reals)) .reverse) × ((count ≤ n) × Below n (take count (view n e (area (now words) (now reals)) .list))) ⌝ }
-    ensures { λ _. ⌜ Serves n e (λ o p. run (serve (grid n (now (starts .entry)) (now (neighbours .entry))) o z side) (take count (view n e (area (now (words .entry)) (now (reals .entry))) .list)) p) (area (now (words .entry)) (now (reals .entry))) (area (now (words .exit)) (now (reals .exit))) ⌝ }
+    requires { ⌜ Planning (boardAt rows marks gases) (zone .n) (zone .e) (zone .z) (areaAt words floats) ⌝ }
+    requires { ⌜ listed ≤ zone .n ⌝ }
+    requires { ⌜ Below (zone .n) (take listed (view (zone .n) (zone .e) (areaAt words floats) .list)) ⌝ }
+    ensures { λ _. let b = boardAt (rows .entry) (marks .entry) gases in let a = areaAt (words .entry) (floats .entry) in ⌜ Serves (zone .n) (zone .e) (λ o p. run (serve b o (zone .z) side) (take listed (view (zone .n) (zone .e) a .list)) p) a (areaAt (words .exit) (floats .exit)) ⌝ }
 {
+    let z = zone.z;
+    let n = zone.n;
+    let e = zone.e;
     let list = list_at(n, e);
     let mut i = 0;
-    while i < count {
-        serve(
-            side,
-            words[list + i],
-            starts,
-            neighbours,
-            z,
-            n,
-            e,
-            words,
-            reals,
-        );
+    while i < listed {
+        let g = words[list + i] as usize;
+        let hand = Hand { side, g, z, n, e };
+        serve(hand, rows, marks, gases, words, floats);
         i += 1;
-    }
-}
-
-// Fewer givers than takers: the givers give; else the takers take.
-fn side_of(givers: usize, takers: usize) -> Side
-    ensures { λ s. ⌜ s ≡ sideOf givers takers ⌝ }
-{
-    if givers < takers {
-        Side::Giving
-    } else {
-        Side::Taking
     }
 }
 
 // The fast pass, where givers and takers are both many.
 fn fast_pass(
-    first: usize,
-    count: usize,
-    starts: &[u32],
-    neighbours: &[u32],
-    z: u32,
-    n: usize,
-    e: usize,
+    zone: ZoneAt,
+    rows: &Rows,
+    marks: &Marks,
+    gases: usize,
     words: &mut [u32],
-    reals: &mut [f32],
+    floats: &mut [f32],
 )
-    requires { ⌜ Linked n (now starts) (now neighbours) × ((length (now neighbours) ≡ e) × (Fit n e (area (now words) (now reals)) × (z < 4096))) ⌝ }
-    requires { ⌜ Reverses (grid n (now starts) (now neighbours)) n (view n e (area (now words) (now reals)) .reverse) × (Nodes n e first count (area (now words) (now reals)) × ((0 < count) × (count ≤ 4096))) ⌝ }
-    ensures { λ _. ⌜ Does n e (λ o p. fastPass (grid n (now (starts .entry)) (now (neighbours .entry))) o z (nodesOf n e (view n e (area (now (words .entry)) (now (reals .entry)))) first count) p) (area (now (words .entry)) (now (reals .entry))) (area (now (words .exit)) (now (reals .exit))) ⌝ }
+    requires { ⌜ Planning (boardAt rows marks gases) (zone .n) (zone .e) (zone .z) (areaAt words floats) ⌝ }
+    requires { ⌜ Nodes (zone .n) (zone .e) (zone .first) (zone .count) (areaAt words floats) ⌝ }
+    ensures { λ _. let b = boardAt (rows .entry) (marks .entry) gases in let a = areaAt (words .entry) (floats .entry) in ⌜ Does (zone .n) (zone .e) (λ o p. fastPass b o (zone .z) (zoneNodes zone a) p) a (areaAt (words .exit) (floats .exit)) ⌝ }
 {
-    let givers = count_givers(first, count, n, e, words, reals);
+    let count = zone.count;
+    let givers = count_givers(zone, words, floats);
     let takers = count - givers;
     let most = log2(count as u32) as usize;
     if most < givers {
         if most < takers {
-            fast_all(first, count, starts, neighbours, z, n, e, words, reals);
+            fast_all(zone, rows, marks, gases, words, floats);
         }
     }
 }
 
 // The givers give, or the takers take, whoever is fewer.
 fn share_out(
-    first: usize,
-    count: usize,
-    starts: &[u32],
-    neighbours: &[u32],
-    z: u32,
-    n: usize,
-    e: usize,
+    zone: ZoneAt,
+    rows: &Rows,
+    marks: &Marks,
+    gases: usize,
     words: &mut [u32],
-    reals: &mut [f32],
+    floats: &mut [f32],
 )
-    requires { ⌜ Linked n (now starts) (now neighbours) × ((length (now neighbours) ≡ e) × (Fit n e (area (now words) (now reals)) × (z < 4096))) ⌝ }
-    requires { ⌜ Reverses (grid n (now starts) (now neighbours)) n (view n e (area (now words) (now reals)) .reverse) × (Nodes n e first count (area (now words) (now reals)) × (count ≤ n)) ⌝ }
-    ensures { λ _. ⌜ Plans n e (λ o p. shareOut (grid n (now (starts .entry)) (now (neighbours .entry))) o z (nodesOf n e (view n e (area (now (words .entry)) (now (reals .entry)))) first count) p) (area (now (words .entry)) (now (reals .entry))) (area (now (words .exit)) (now (reals .exit))) ⌝ }
+    requires { ⌜ Planning (boardAt rows marks gases) (zone .n) (zone .e) (zone .z) (areaAt words floats) ⌝ }
+    requires { ⌜ Nodes (zone .n) (zone .e) (zone .first) (zone .count) (areaAt words floats) ⌝ }
+    ensures { λ _. let b = boardAt (rows .entry) (marks .entry) gases in let a = areaAt (words .entry) (floats .entry) in ⌜ Plans (zone .n) (zone .e) (λ o p. shareOut b o (zone .z) (zoneNodes zone a) p) a (areaAt (words .exit) (floats .exit)) ⌝ }
 {
-    let givers = count_givers(first, count, n, e, words, reals);
+    let count = zone.count;
+    let givers = count_givers(zone, words, floats);
     let side = side_of(givers, count - givers);
-    let listed = gather(side, first, count, n, e, words, reals);
-    serve_all(side, listed, starts, neighbours, z, n, e, words, reals);
+    let listed = gather(side, zone, words, floats);
+    serve_all(side, listed, zone, rows, marks, gases, words, floats);
 }
 
-// The planning state of the turf r at first.
-fn first_delta(
-    r: u32,
-    average: f32,
-    mixtures: &[u32],
-    gases: usize,
-    gas: &[f32],
-    n: usize,
-    e: usize,
-    words: &mut [u32],
-    reals: &mut [f32],
-)
-    requires { ⌜ Gassed n (now mixtures) gases (now gas) × (Fit n e (area (now words) (now reals)) × (r < n)) ⌝ }
-    ensures { λ _. ⌜ Does n e (λ o p. store p r (record { delta = total (ground 0 [] [] (now (mixtures .entry)) gases) (now (gas .entry)) r -f average; amount = 0f; direction = 0; fast = 0 })) (area (now (words .entry)) (now (reals .entry))) (area (now (words .exit)) (now (reals .exit))) ⌝ }
+// The planning state of a turf at first.
+fn first_delta(row: usize, delta: f32, n: usize, e: usize, words: &mut [u32], floats: &mut [f32])
+    requires { ⌜ Fit n e (areaAt words floats) ⌝ }
+    requires { ⌜ row < n ⌝ }
+    ensures { λ _. ⌜ Does n e (λ o p. store p row (record { delta = delta; amount = 0f; direction = 0; fast = 0 })) (areaAt (words .entry) (floats .entry)) (areaAt (words .exit) (floats .exit)) ⌝ }
 {
-    let row = r as usize;
-    let moles = mixture::total(mixtures, gas, gases, row);
     let info = MonstermosInfo {
-        delta: moles - average,
+        delta,
         amount: 0.0,
         direction: 0,
         fast: 0,
     };
-    store(row, info, n, e, words, reals);
+    store(row, info, n, e, words, floats);
 }
 
-// The deltas of the nodes.
+// The deltas of the nodes: what each has above the average.
 fn all_deltas(
-    first: usize,
-    count: usize,
-    average: f32,
-    mixtures: &[u32],
+    zone: ZoneAt,
+    rows: &Rows,
+    marks: &Marks,
     gases: usize,
     gas: &[f32],
-    n: usize,
-    e: usize,
     words: &mut [u32],
-    reals: &mut [f32],
+    floats: &mut [f32],
 )
-    requires { ⌜ Gassed n (now mixtures) gases (now gas) × (Fit n e (area (now words) (now reals)) × Nodes n e first count (area (now words) (now reals))) ⌝ }
-    ensures { λ _. ⌜ Does n e (λ o p. deltas (ground 0 [] [] (now (mixtures .entry)) gases) o 0 (now (gas .entry)) (nodesOf n e (view n e (area (now (words .entry)) (now (reals .entry)))) first count) average p) (area (now (words .entry)) (now (reals .entry))) (area (now (words .exit)) (now (reals .exit))) ⌝ }
+    requires { let b = boardAt rows marks gases in ⌜ Gassed (zone .n) (b .mixtures) gases (now gas) ⌝ }
+    requires { ⌜ Fit (zone .n) (zone .e) (areaAt words floats) ⌝ }
+    requires { ⌜ Nodes (zone .n) (zone .e) (zone .first) (zone .count) (areaAt words floats) ⌝ }
+    ensures { λ _. let b = boardAt (rows .entry) (marks .entry) gases in let a = areaAt (words .entry) (floats .entry) in ⌜ Does (zone .n) (zone .e) (λ o p. deltas b o (zone .z) (now (gas .entry)) (zoneNodes zone a) (averageOf zone) p) a (areaAt (words .exit) (floats .exit)) ⌝ }
 {
+    let first = zone.first;
+    let count = zone.count;
+    let n = zone.n;
+    let e = zone.e;
+    let mixtures = rows[MIXTURES];
+    let size = count as u16;
+    let average = zone.moles / (size as f32);
     let mut i = 0;
     while i < count {
-        first_delta(
-            words[first + i],
-            average,
-            mixtures,
-            gases,
-            gas,
-            n,
-            e,
-            words,
-            reals,
-        );
+        let row = words[first + i] as usize;
+        let moles = mixture::total(mixtures, gas, gases, row);
+        first_delta(row, moles - average, n, e, words, floats);
         i += 1;
     }
 }
 
-// Zone z has `count` nodes, the words from `first` on, which hold `moles` together.
+// The plan of a zone.
 pub fn process_zone(
-    first: usize,
-    count: usize,
-    moles: f32,
-    mixtures: &[u32],
+    zone: ZoneAt,
+    rows: &Rows,
+    marks: &Marks,
     gases: usize,
     gas: &[f32],
-    starts: &[u32],
-    neighbours: &[u32],
-    z: u32,
-    n: usize,
-    e: usize,
     words: &mut [u32],
-    reals: &mut [f32],
+    floats: &mut [f32],
 )
-    requires { ⌜ Gassed n (now mixtures) gases (now gas) × (Linked n (now starts) (now neighbours) × ((length (now neighbours) ≡ e) × (Fit n e (area (now words) (now reals)) × (z < 4096)))) ⌝ }
-    requires { ⌜ Reverses (grid n (now starts) (now neighbours)) n (view n e (area (now words) (now reals)) .reverse) × (Nodes n e first count (area (now words) (now reals)) × ((0 < count) × (count ≤ n))) ⌝ }
-    ensures { λ _. ⌜ Plans n e (λ o p. planZone (ground n (now (starts .entry)) (now (neighbours .entry)) (now (mixtures .entry)) gases) o z (now (gas .entry)) (nodesOf n e (view n e (area (now (words .entry)) (now (reals .entry)))) first count) moles p) (area (now (words .entry)) (now (reals .entry))) (area (now (words .exit)) (now (reals .exit))) ⌝ }
+    requires { let b = boardAt rows marks gases in ⌜ Gassed (zone .n) (b .mixtures) gases (now gas) ⌝ }
+    requires { ⌜ Planning (boardAt rows marks gases) (zone .n) (zone .e) (zone .z) (areaAt words floats) ⌝ }
+    requires { ⌜ Nodes (zone .n) (zone .e) (zone .first) (zone .count) (areaAt words floats) ⌝ }
+    ensures { λ _. let b = boardAt (rows .entry) (marks .entry) gases in let a = areaAt (words .entry) (floats .entry) in ⌜ Plans (zone .n) (zone .e) (λ o p. planZone b o (zone .z) (now (gas .entry)) (zoneNodes zone a) (zone .moles) p) a (areaAt (words .exit) (floats .exit)) ⌝ }
 {
-    let size = count as u16;
-    let average = moles / (size as f32);
-    all_deltas(
-        first,
-        count,
-        average,
-        mixtures,
-        gases,
-        gas,
-        n,
-        e,
-        words,
-        reals,
-    );
-    fast_pass(first, count, starts, neighbours, z, n, e, words, reals);
-    share_out(first, count, starts, neighbours, z, n, e, words, reals);
+    all_deltas(zone, rows, marks, gases, gas, words, floats);
+    fast_pass(zone, rows, marks, gases, words, floats);
+    share_out(zone, rows, marks, gases, words, floats);
 }

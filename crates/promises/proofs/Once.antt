@@ -19,7 +19,7 @@ use Rattle.depressurize_rules.specs.Depressurize.{depressurizeResult}
 use Rattle.depressurize_rules.specs.declared.DepressurizeAnswer.{DepressurizeAnswer}
 use Rattle.planet_rules.specs.Planet.{planetResult}
 use Rattle.planet_rules.specs.declared.PlanetAnswer.{PlanetAnswer}
-use Rattle.katmos.specs.Answers.{Answers}
+use Rattle.answers.specs.Answers.{Answers}
 
 -- an equation with one result allows one outcome
 once : {A : Type 0} (x o o′ : A) → o ≡ x → o′ ≡ x → o ≡ o′

@@ -18,7 +18,7 @@ use Rattle.basics.specs.Lists.{Found}
 use Rattle.basics.proofs.Loops.{first-found, first-passes}
 use Rattle.board_rules.specs.Board.{Board, linksOf}
 use Rattle.reverse_links.specs.Reverse.{InRow, Linked, reverseOf, wordOf, Reverses}
-use Rattle.reverse_links.specs.Words.{But, found, sizeOf, back, Paired}
+use Rattle.reverse_links.specs.Words.{But, found, sizeOf, back, Paired, Backs}
 use Rattle.reverse_links.proofs.Firsts.{first-only, up-all}
 use Rattle.reverse_links.proofs.Places.{but-none, but-set}
 
@@ -202,14 +202,13 @@ module _ {n : ℕ} {starts neighbours : List ℕ} (t : Linked n starts neighbour
 pub paired-upto : {starts neighbours : List ℕ} {n e k m : ℕ} {w : List ℕ} → k ≡ m → Paired starts neighbours n e k w → Paired starts neighbours n e m w
 paired-upto {starts} {neighbours} {n} {e} {w = w} q h = subst (λ (x : ℕ). Paired starts neighbours n e x w) q h
 
--- all links of a board have their reverse
-of-board : (b : Board) (n e : ℕ) (w : List ℕ) → Linked n (b .starts) (b .neighbours) → length (b .neighbours) ≡ e → Paired (b .starts) (b .neighbours) n e e w → Reverses b n (take e (drop e w))
-unfolding reverseOf linksOf
-of-board b n e w t len h = record {
+-- all links have their reverse
+pub backs-of : {starts neighbours : List ℕ} {n e : ℕ} {w : List ℕ} → Linked n starts neighbours → length neighbours ≡ e → Paired starts neighbours n e e w → Backs n starts neighbours (take e (drop e w))
+backs-of {n = n} {e} {w} t len h = record {
   at = λ r k l i. getD-take e (drop e w) k 0 (omega (arith, link-below t r k l i, len)) ∙ getD-drop e w k 0 ∙ paired-all t e w len h r k l i;
 }
 
--- of any board with these links
-pub reverses-of : {starts neighbours : List ℕ} {n e : ℕ} {w : List ℕ} → Linked n starts neighbours → length neighbours ≡ e → Paired starts neighbours n e e w
-    → (b : Board) → b .starts ≡ starts → b .neighbours ≡ neighbours → Reverses b n (take e (drop e w))
-reverses-of {n = n} {e} {w} t len h b es en = of-board b n e w (rw (es, en) t) (rw en len) (rw (es, en) h)
+-- those of a board
+pub reverses-of : (b : Board) (n : ℕ) {reverse : List ℕ} → Backs n (b .starts) (b .neighbours) reverse → Reverses b n reverse
+unfolding reverseOf linksOf
+reverses-of b n h = record { at = λ r k l i. h .at r k l i }

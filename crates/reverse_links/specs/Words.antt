@@ -6,7 +6,7 @@ use mathlib.Core.List.{List}
 use lib.Dec.{eqb}
 use lib.ListN.{length, getD}
 use Rattle.basics.specs.Loops.{first, upFrom}
-use Rattle.reverse_links.specs.Reverse.{InRow, wordOf}
+use Rattle.reverse_links.specs.Reverse.{InRow, Linked, wordOf}
 
 -- i is not one of the places from lo up to hi
 abbrev pub Outside : ℕ → ℕ → ℕ → Type 0
@@ -28,6 +28,24 @@ sizeOf starts r = getD starts (r + 1) 0 - getD starts r 0
 -- the link that leads back from the end of the link k to the turf q, as a word
 abbrev pub back : List ℕ → List ℕ → ℕ → ℕ → ℕ
 back starts neighbours q k = found neighbours (getD starts (getD neighbours k 0) 0) (getD starts (getD neighbours k 0 + 1) 0) q
+
+-- of n turfs and e links: the links as refusal 4 leaves them, and words with room for owners and reverses
+pub record Pairing (n e : ℕ) (starts neighbours w : List ℕ) : Type 0 where
+  pub linked : Linked n starts neighbours
+  pub all : length neighbours ≡ e
+  pub links : e ≤ 24576
+  pub turfs : n ≤ 4096
+  pub room : e + e ≤ length w
+
+-- k is a link of the turf r, which has `size` links
+pub record OfRow (n : ℕ) (starts : List ℕ) (r k size : ℕ) : Type 0 where
+  pub row : r < n
+  pub link : InRow starts r k
+  pub links : size ≡ sizeOf starts r
+
+-- the words say of each link of n turfs which one leads back
+pub record Backs (n : ℕ) (starts neighbours reverse : List ℕ) : Type 0 where
+  pub at : (r k : ℕ) → r < n → InRow starts r k → getD reverse k 0 ≡ back starts neighbours r k
 
 -- Of the e words from e on, the first m links' were asked for: a link's word is its reverse, or 0 as long as that is open. A link and the one that
 -- leads back are found together. No link below m whose end has at most as many links as its turf is open.

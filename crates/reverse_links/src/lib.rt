@@ -1,15 +1,14 @@
 // The reverse of each link, found once a call. Of n turfs and e links, the words hold the links' owners, then the reverses. A link and the one that
 // leads back are found together, by a look through the shorter of their two rows.
 ghost use mathlib.Core.Path.{_≡_};
-ghost use Prim.Native.Nat.{ℕ, _+_, _-_, _≤_, _<_};
+ghost use Prim.Native.Nat.{_+_, _≤_, _<_};
 ghost use lib.ListN.{length, getD, take, drop};
-ghost use Rattle.board_rules.specs.Board.{Board};
-ghost use Rattle.reverse_links.specs.Reverse.{InRow, Linked, Reverses};
-ghost use Rattle.reverse_links.specs.Words.{But, found, Paired};
+ghost use Rattle.reverse_links.specs.Words.{But, found, Pairing, OfRow, Paired, Backs};
 
 // The first link from `from` to `to` that ends at the turf r, as a word.
 fn look_back(from: usize, to: usize, r: u32, neighbours: &[u32]) -> u32
-    requires { ⌜ (to ≤ length (now neighbours)) × (to ≤ 24576) ⌝ }
+    requires { ⌜ to ≤ length (now neighbours) ⌝ }
+    requires { ⌜ to ≤ 24576 ⌝ }
     ensures { λ p. ⌜ p ≡ found (now (neighbours .entry)) from to r ⌝ }
 {
     let mut k = from;
@@ -33,10 +32,11 @@ fn pair(
     e: usize,
     words: &mut [u32],
 )
-    requires { ⌜ Linked n (now starts) (now neighbours) × ((length (now neighbours) ≡ e) × ((e ≤ 24576) × ((n ≤ 4096) × (e + e ≤ length (now words))))) ⌝ }
-    requires { ⌜ (r < n) × (InRow (now starts) r k × (size ≡ getD (now starts) (r + 1) 0 - getD (now starts) r 0)) ⌝ }
+    requires { ⌜ Pairing n e (now starts) (now neighbours) (now words) ⌝ }
+    requires { ⌜ OfRow n (now starts) r k size ⌝ }
     requires { ⌜ Paired (now starts) (now neighbours) n e k (now words) ⌝ }
-    ensures { λ _. ⌜ But e (e + e) (now (words .entry)) (now (words .exit)) × Paired (now (starts .entry)) (now (neighbours .entry)) n e (k + 1) (now (words .exit)) ⌝ }
+    ensures { λ _. ⌜ But e (e + e) (now (words .entry)) (now (words .exit)) ⌝ }
+    ensures { λ _. ⌜ Paired (now (starts .entry)) (now (neighbours .entry)) n e (k + 1) (now (words .exit)) ⌝ }
 {
     if words[e + k] != 0 {
         return;
@@ -57,9 +57,11 @@ fn pair(
 
 // The links of the turf r.
 fn pair_row(r: usize, starts: &[u32], neighbours: &[u32], n: usize, e: usize, words: &mut [u32])
-    requires { ⌜ Linked n (now starts) (now neighbours) × ((length (now neighbours) ≡ e) × ((e ≤ 24576) × ((n ≤ 4096) × (e + e ≤ length (now words))))) ⌝ }
-    requires { ⌜ (r < n) × Paired (now starts) (now neighbours) n e (getD (now starts) r 0) (now words) ⌝ }
-    ensures { λ _. ⌜ But e (e + e) (now (words .entry)) (now (words .exit)) × Paired (now (starts .entry)) (now (neighbours .entry)) n e (getD (now (starts .entry)) (r + 1) 0) (now (words .exit)) ⌝ }
+    requires { ⌜ Pairing n e (now starts) (now neighbours) (now words) ⌝ }
+    requires { ⌜ r < n ⌝ }
+    requires { ⌜ Paired (now starts) (now neighbours) n e (getD (now starts) r 0) (now words) ⌝ }
+    ensures { λ _. ⌜ But e (e + e) (now (words .entry)) (now (words .exit)) ⌝ }
+    ensures { λ _. ⌜ Paired (now (starts .entry)) (now (neighbours .entry)) n e (getD (now (starts .entry)) (r + 1) 0) (now (words .exit)) ⌝ }
 {
     let from = starts[r] as usize;
     let to = starts[r + 1] as usize;
@@ -72,9 +74,10 @@ fn pair_row(r: usize, starts: &[u32], neighbours: &[u32], n: usize, e: usize, wo
 
 // The links of all turfs, none of which has its reverse yet.
 fn pair_rows(starts: &[u32], neighbours: &[u32], n: usize, e: usize, words: &mut [u32])
-    requires { ⌜ Linked n (now starts) (now neighbours) × ((length (now neighbours) ≡ e) × ((e ≤ 24576) × ((n ≤ 4096) × (e + e ≤ length (now words))))) ⌝ }
+    requires { ⌜ Pairing n e (now starts) (now neighbours) (now words) ⌝ }
     requires { ⌜ Paired (now starts) (now neighbours) n e 0 (now words) ⌝ }
-    ensures { λ _. ⌜ But e (e + e) (now (words .entry)) (now (words .exit)) × Paired (now (starts .entry)) (now (neighbours .entry)) n e e (now (words .exit)) ⌝ }
+    ensures { λ _. ⌜ But e (e + e) (now (words .entry)) (now (words .exit)) ⌝ }
+    ensures { λ _. ⌜ Paired (now (starts .entry)) (now (neighbours .entry)) n e e (now (words .exit)) ⌝ }
 {
     let mut r = 0;
     while r < n {
@@ -85,8 +88,9 @@ fn pair_rows(starts: &[u32], neighbours: &[u32], n: usize, e: usize, words: &mut
 
 // The reverses of all links.
 pub fn find_reverses(starts: &[u32], neighbours: &[u32], n: usize, e: usize, words: &mut [u32])
-    requires { ⌜ Linked n (now starts) (now neighbours) × ((length (now neighbours) ≡ e) × ((e ≤ 24576) × ((n ≤ 4096) × (e + e ≤ length (now words))))) ⌝ }
-    ensures { λ _. ⌜ But e (e + e) (now (words .entry)) (now (words .exit)) × ((b : Board) → b .starts ≡ now (starts .entry) → b .neighbours ≡ now (neighbours .entry) → Reverses b n (take e (drop e (now (words .exit))))) ⌝ }
+    requires { ⌜ Pairing n e (now starts) (now neighbours) (now words) ⌝ }
+    ensures { λ _. ⌜ But e (e + e) (now (words .entry)) (now (words .exit)) ⌝ }
+    ensures { λ _. ⌜ Backs n (now (starts .entry)) (now (neighbours .entry)) (take e (drop e (now (words .exit)))) ⌝ }
 {
     basics::clear_part(words, e, e);
     pair_rows(starts, neighbours, n, e, words);

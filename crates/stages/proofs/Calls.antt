@@ -10,10 +10,7 @@ use lib.ListN.{length}
 use Rattle.board_rules.specs.Board.{Board, turfCount, linkCount}
 use Rattle.lent_rules.specs.Lent.{Lent, refusal}
 use Rattle.lent.specs.Given.{lent}
-use Rattle.reverse_links.specs.Reverse.{Linked}
-use Rattle.plan_zone.specs.Zone.{Gassed}
-use Rattle.plan_zone.proofs.Whole.{tablesOf}
-use Rattle.plan_all.specs.Zones.{Zoned, PlansAll}
+use Rattle.plan_all.specs.Zones.{Plannable, Zoned, PlansAll}
 use Rattle.plan_all.proofs.Asked.{plan-asks}
 use Rattle.equalize.specs.Equalize.{Ask, fillAll}
 use Rattle.equalize.specs.Result.{equalizeNumber}
@@ -64,14 +61,13 @@ module _ (b : Board) (q : Ask) (l : Lent) where
     passes = sym (f .refusal) ∙ z
 
     pub plan-ready : length (left .words) ≡ length (l .words) → length (left .floats) ≡ length (l .floats)
-        → (Gassed (turfCount b) (b .mixtures) (b .gases) (l .gas) × (Linked (turfCount b) (b .starts) (b .neighbours) × (linkCount b ≡ linkCount b)))
-        × Zoned (turfCount b) (linkCount b) (s .zones) (left .words) (left .floats)
+        → Plannable b (l .gas) × Zoned (turfCount b) (linkCount b) (s .zones) (left .words) (left .floats)
     plan-ready lw lf =
         let p = let-pass b q [] l passes in
         plan-asks b q (l .gas) s (f .done z) (p .board) (let-links b q [] l passes) (omega (arith, lw, p .words)) (omega (arith, lf, p .floats))
 
     pub planned-plans : s .cancelled ≡ false → {w : List ℕ} {r : List Float}
-        → PlansAll (turfCount b) (linkCount b) (s .zones) (tablesOf b) (l .gas) (left .words) w (left .floats) r → Plans b q l (lent (l .gas) (left .area) w r) number s
+        → PlansAll (turfCount b) (linkCount b) (s .zones) b (l .gas) (left .words) w (left .floats) r → Plans b q l (lent (l .gas) (left .area) w r) number s
     planned-plans c r = record {
       left = left;
       fills = f;

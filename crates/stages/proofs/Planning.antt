@@ -3,7 +3,6 @@ use Prim.Native.Nat.{ℕ}
 use mathlib.Core.Path.{_≡_, refl, sym}
 use Rattle.board_rules.specs.Board.{Board, turfCount, linkCount}
 use Rattle.lent_rules.specs.Lent.{Lent}
-use Rattle.plan_zone.proofs.Whole.{tablesOf}
 use Rattle.plan_all.proofs.Calls.{planned-filled}
 use Rattle.fill_all.specs.Held.{FillsAll}
 use Rattle.fill_all.specs.declared.Filling.{Filling}
@@ -21,11 +20,11 @@ module _ (b : Board) (q : Ask) (l m : Lent) (s : Filling)
   e = linkCount b
 
   pub plan-comes : {l′ : Lent} → l′ .area ≡ m .area
-      → PlansAll n e (s .zones) (tablesOf b) (l .gas) (m .words) (l′ .words) (m .floats) (l′ .floats) → Planned b q (l .gas) m l′
+      → PlansAll n e (s .zones) b (l .gas) (m .words) (l′ .words) (m .floats) (l′ .floats) → Planned b q (l .gas) m l′
   plan-comes a r = record {
     plan = planned-filled b (fillAll b (l .gas) q) r (sym (owners-are d)) (zones-are d);
-    reverses = r .reverses b refl refl;
+    reverses = r .reverses;
     words = r .words;
-    floats = r .reals;
+    floats = r .floats;
     area = a;
   }

@@ -1,13 +1,17 @@
 // The parts of equalize on their own, for tests that look at what each part leaves: the scratch isn't cleared.
 use equalize::bit;
 use fill_all::Filling;
+use fill_rules::Settings;
+use lent::Room;
+use turfs::Marks;
+use turfs::Rows;
 ghost use mathlib.Core.Path.{_≡_};
 ghost use mathlib.Core.List.{[]};
 ghost use Prim.Native.Nat.{ℕ};
-ghost use Rattle.turfs.specs.Tables.{board};
-ghost use Rattle.lent.specs.Given.{lent};
+ghost use Rattle.turfs.specs.Tables.{board, boardAt};
+ghost use Rattle.lent.specs.Given.{lentAt};
 ghost use Rattle.equalize.specs.Result.{equalizeNumber};
-ghost use Rattle.fill_all.specs.Held.{ask};
+ghost use Rattle.fill_all.specs.Held.{ask, asked};
 ghost use Rattle.stages.specs.Stages.{Fills, Few, fillNumbers, FillAnswers, Plans, PlanAnswers};
 
 // What filling answers: its number, and what it came to.
@@ -31,83 +35,52 @@ fn write(a: FillAnswer, answer: &mut [u32; 6])
 
 // Equalize's refusals, for no turns.
 fn refusal(
-    ids: &[u32],
-    flags: &[u8],
-    planetary: &[u8],
-    mixtures: &[u32],
-    starts: &[u32],
-    neighbours: &[u32],
-    link_flags: &[u8],
-    immutable: &[u8],
-    gases: u32,
-    amounts: &[f32],
     hot: &[u32],
     threshold: f32,
-    events: &[u8],
+    rows: &Rows,
+    marks: &Marks,
+    gases: u32,
+    gas: &[f32],
     words: &[u32],
     floats: &[f32],
+    events: &[u8],
 ) -> u32
-    ensures { λ r. ⌜ ((limit allowance : ℕ) → r ≡ equalizeNumber (board (now (ids .entry)) (now (flags .entry)) (now (planetary .entry)) (now (mixtures .entry)) (now (starts .entry)) (now (neighbours .entry)) (now («link_flags» .entry)) (now (immutable .entry)) gases) (ask (now (hot .entry)) threshold limit allowance) [] (lent (now (amounts .entry)) (now (events .entry)) (now (words .entry)) (now (floats .entry)))) ⌝ }
+    ensures { λ r. let b = boardAt (rows .entry) (marks .entry) gases in
+        ⌜ ((limit allowance : ℕ) → r ≡ equalizeNumber b (ask (now (hot .entry)) threshold limit allowance) [] (lentAt (gas .entry) (events .entry) (words .entry) (floats .entry))) ⌝ }
 {
     let extra = equalize::extra_tests(hot, 0, threshold);
-    lent::refusal(
-        ids,
-        flags,
-        planetary,
-        mixtures,
-        starts,
-        neighbours,
-        link_flags,
-        immutable,
-        gases,
-        amounts,
-        events,
-        words,
-        floats,
-        16,
-        20,
-        extra,
-    )
+    let room = Room {
+        per_turf: 16,
+        per_link: 20,
+    };
+    lent::refusal(rows, marks, gases, gas, words, floats, events, room, extra)
 }
 
 // Filling alone.
 pub fn fill(
-    ids: &[u32],
-    flags: &[u8],
-    planetary: &[u8],
-    mixtures: &[u32],
-    starts: &[u32],
-    neighbours: &[u32],
-    link_flags: &[u8],
-    immutable: &[u8],
-    gases: u32,
-    amounts: &[f32],
     hot: &[u32],
-    threshold: f32,
-    limit: u32,
-    allowance: u32,
-    events: &mut [u8],
+    settings: Settings,
+    rows: &Rows,
+    marks: &Marks,
+    gases: u32,
+    gas: &[f32],
     words: &mut [u32],
     floats: &mut [f32],
+    events: &mut [u8],
 ) -> FillAnswer
-    ensures { λ r. ⌜ Fills (board (now (ids .entry)) (now (flags .entry)) (now (planetary .entry)) (now (mixtures .entry)) (now (starts .entry)) (now (neighbours .entry)) (now («link_flags» .entry)) (now (immutable .entry)) gases) (ask (now (hot .entry)) threshold limit allowance) (lent (now (amounts .entry)) (now (events .entry)) (now (words .entry)) (now (floats .entry))) (lent (now (amounts .entry)) (now (events .exit)) (now (words .exit)) (now (floats .exit))) (r .number) (r .filling) ⌝ }
+    ensures { λ r. let b = boardAt (rows .entry) (marks .entry) gases in ⌜ Fills b (asked (now (hot .entry)) settings)
+        (lentAt (gas .entry) (events .entry) (words .entry) (floats .entry)) (lentAt (gas .entry) (events .exit) (words .exit) (floats .exit)) (r .number) (r .filling) ⌝ }
 {
     let number = refusal(
-        ids,
-        flags,
-        planetary,
-        mixtures,
-        starts,
-        neighbours,
-        link_flags,
-        immutable,
-        gases,
-        amounts,
         hot,
-        threshold,
-        events,
+        settings.threshold,
+        rows,
+        marks,
+        gases,
+        gas,
         words,
         floats,
+        events,
     );
     if number != 0 {
         let filling = Filling {
@@ -121,19 +94,11 @@ pub fn fill(
     }
     let filling = fill_all::fill_all(
         hot,
-        threshold,
-        limit,
-        allowance,
-        ids,
-        flags,
-        planetary,
-        mixtures,
-        starts,
-        neighbours,
-        link_flags,
-        immutable,
+        settings,
+        rows,
+        marks,
         gases as usize,
-        amounts,
+        gas,
         words,
         floats,
         events,
@@ -143,44 +108,29 @@ pub fn fill(
 
 // Filling, and then planning unless the clock ran out.
 pub fn plan(
-    ids: &[u32],
-    flags: &[u8],
-    planetary: &[u8],
-    mixtures: &[u32],
-    starts: &[u32],
-    neighbours: &[u32],
-    link_flags: &[u8],
-    immutable: &[u8],
-    gases: u32,
-    amounts: &[f32],
     hot: &[u32],
-    threshold: f32,
-    limit: u32,
-    allowance: u32,
-    events: &mut [u8],
+    settings: Settings,
+    rows: &Rows,
+    marks: &Marks,
+    gases: u32,
+    gas: &[f32],
     words: &mut [u32],
     floats: &mut [f32],
+    events: &mut [u8],
 ) -> FillAnswer
-    ensures { λ r. ⌜ Plans (board (now (ids .entry)) (now (flags .entry)) (now (planetary .entry)) (now (mixtures .entry)) (now (starts .entry)) (now (neighbours .entry)) (now («link_flags» .entry)) (now (immutable .entry)) gases) (ask (now (hot .entry)) threshold limit allowance) (lent (now (amounts .entry)) (now (events .entry)) (now (words .entry)) (now (floats .entry))) (lent (now (amounts .entry)) (now (events .exit)) (now (words .exit)) (now (floats .exit))) (r .number) (r .filling) ⌝ }
+    ensures { λ r. let b = boardAt (rows .entry) (marks .entry) gases in ⌜ Plans b (asked (now (hot .entry)) settings)
+        (lentAt (gas .entry) (events .entry) (words .entry) (floats .entry)) (lentAt (gas .entry) (events .exit) (words .exit) (floats .exit)) (r .number) (r .filling) ⌝ }
 {
     let a = fill(
-        ids,
-        flags,
-        planetary,
-        mixtures,
-        starts,
-        neighbours,
-        link_flags,
-        immutable,
-        gases,
-        amounts,
         hot,
-        threshold,
-        limit,
-        allowance,
-        events,
+        settings,
+        rows,
+        marks,
+        gases,
+        gas,
         words,
         floats,
+        events,
     );
     if a.number != 0 {
         return a;
@@ -188,17 +138,12 @@ pub fn plan(
     if a.filling.cancelled {
         return a;
     }
-    let n = ids.len();
-    let e = neighbours.len();
     plan_all::plan_all(
         a.filling.zones,
-        mixtures,
+        rows,
+        marks,
         gases as usize,
-        amounts,
-        starts,
-        neighbours,
-        n,
-        e,
+        gas,
         words,
         floats,
     );
@@ -207,15 +152,15 @@ pub fn plan(
 
 // Filling alone: number, cancelled, zones, nodes, tests, bytes.
 #[no_mangle]
-pub extern "C" fn stages_fill(
-    ids: &[u32],
-    flags: &[u8],
-    planetary: &[u8],
-    mixtures: &[u32],
-    starts: &[u32],
-    neighbours: &[u32],
-    link_flags: &[u8],
-    immutable: &[u8],
+pub extern "C" fn stages_fill<'a>(
+    ids: &'a [u32],
+    flags: &'a [u8],
+    planetary: &'a [u8],
+    mixtures: &'a [u32],
+    starts: &'a [u32],
+    neighbours: &'a [u32],
+    link_flags: &'a [u8],
+    immutable: &'a [u8],
     gases: u32,
     amounts: &[f32],
     hot: &[u32],
@@ -227,26 +172,26 @@ pub extern "C" fn stages_fill(
     floats: &mut [f32],
     answer: &mut [u32; 6],
 ) -> u32
-    ensures { λ r. ⌜ FillAnswers (board (now (ids .entry)) (now (flags .entry)) (now (planetary .entry)) (now (mixtures .entry)) (now (starts .entry)) (now (neighbours .entry)) (now («link_flags» .entry)) (now (immutable .entry)) gases) (ask (now (hot .entry)) threshold limit allowance) (lent (now (amounts .entry)) (now (events .entry)) (now (words .entry)) (now (floats .entry))) (lent (now (amounts .entry)) (now (events .exit)) (now (words .exit)) (now (floats .exit))) r (now (answer .exit)) ⌝ }
+    ensures { λ r. let b = board (now (ids .entry)) (now (flags .entry)) (now (planetary .entry)) (now (mixtures .entry)) (now (starts .entry)) (now (neighbours .entry)) (now («link_flags» .entry)) (now (immutable .entry)) gases in
+        ⌜ FillAnswers b (ask (now (hot .entry)) threshold limit allowance) (lentAt (amounts .entry) (events .entry) (words .entry) (floats .entry)) (lentAt (amounts .entry) (events .exit) (words .exit) (floats .exit)) r (now (answer .exit)) ⌝ }
 {
-    let a = fill(
-        ids,
-        flags,
-        planetary,
-        mixtures,
-        starts,
-        neighbours,
-        link_flags,
-        immutable,
-        gases,
-        amounts,
-        hot,
+    let rows = [ids, mixtures, starts, neighbours];
+    let marks = [flags, planetary, link_flags, immutable];
+    let settings = Settings {
         threshold,
         limit,
         allowance,
-        events,
+    };
+    let a = fill(
+        hot,
+        settings,
+        &rows,
+        &marks,
+        gases,
+        amounts,
         words,
         floats,
+        events,
     );
     write(a, answer);
     a.number
@@ -254,15 +199,15 @@ pub extern "C" fn stages_fill(
 
 // Filling and planning: number, cancelled, zones, nodes, tests, bytes.
 #[no_mangle]
-pub extern "C" fn stages_plan(
-    ids: &[u32],
-    flags: &[u8],
-    planetary: &[u8],
-    mixtures: &[u32],
-    starts: &[u32],
-    neighbours: &[u32],
-    link_flags: &[u8],
-    immutable: &[u8],
+pub extern "C" fn stages_plan<'a>(
+    ids: &'a [u32],
+    flags: &'a [u8],
+    planetary: &'a [u8],
+    mixtures: &'a [u32],
+    starts: &'a [u32],
+    neighbours: &'a [u32],
+    link_flags: &'a [u8],
+    immutable: &'a [u8],
     gases: u32,
     amounts: &[f32],
     hot: &[u32],
@@ -274,26 +219,26 @@ pub extern "C" fn stages_plan(
     floats: &mut [f32],
     answer: &mut [u32; 6],
 ) -> u32
-    ensures { λ r. ⌜ PlanAnswers (board (now (ids .entry)) (now (flags .entry)) (now (planetary .entry)) (now (mixtures .entry)) (now (starts .entry)) (now (neighbours .entry)) (now («link_flags» .entry)) (now (immutable .entry)) gases) (ask (now (hot .entry)) threshold limit allowance) (lent (now (amounts .entry)) (now (events .entry)) (now (words .entry)) (now (floats .entry))) (lent (now (amounts .entry)) (now (events .exit)) (now (words .exit)) (now (floats .exit))) r (now (answer .exit)) ⌝ }
+    ensures { λ r. let b = board (now (ids .entry)) (now (flags .entry)) (now (planetary .entry)) (now (mixtures .entry)) (now (starts .entry)) (now (neighbours .entry)) (now («link_flags» .entry)) (now (immutable .entry)) gases in
+        ⌜ PlanAnswers b (ask (now (hot .entry)) threshold limit allowance) (lentAt (amounts .entry) (events .entry) (words .entry) (floats .entry)) (lentAt (amounts .entry) (events .exit) (words .exit) (floats .exit)) r (now (answer .exit)) ⌝ }
 {
-    let a = plan(
-        ids,
-        flags,
-        planetary,
-        mixtures,
-        starts,
-        neighbours,
-        link_flags,
-        immutable,
-        gases,
-        amounts,
-        hot,
+    let rows = [ids, mixtures, starts, neighbours];
+    let marks = [flags, planetary, link_flags, immutable];
+    let settings = Settings {
         threshold,
         limit,
         allowance,
-        events,
+    };
+    let a = plan(
+        hot,
+        settings,
+        &rows,
+        &marks,
+        gases,
+        amounts,
         words,
         floats,
+        events,
     );
     write(a, answer);
     a.number

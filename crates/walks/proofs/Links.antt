@@ -8,7 +8,7 @@ use lib.ListN.{length, getD, take, set, length-set}
 use Rattle.basics.specs.Loops.{member, snoc}
 use Rattle.basics.specs.Regions.{cut, region}
 use Rattle.basics.proofs.Regions.{cut-set}
-use Rattle.board_rules.specs.Board.{Board, turfCount, idOf, end, lockBit, firelock}
+use Rattle.board_rules.specs.Board.{Board, turfCount, idOf, lockBit, firelock}
 use Rattle.event_rules.specs.Events.{encode, encodeAll, kindOf, sizeOf}
 use Rattle.events.specs.Area.{Wrote}
 use Rattle.event_rules.specs.declared.Event.{Event}
@@ -19,7 +19,7 @@ use Rattle.index_set.specs.Line.{array, Line}
 use Rattle.index_set.proofs.Queue.{count-below, take-more, line-more}
 use Rattle.walk_rules.specs.Walk.{Walk, walkLink}
 use Rattle.walks.specs.Does.{Does}
-use Rattle.walks.specs.Reached.{State, at, sizes, walkIn, walkOf, Rest, Fit, walking}
+use Rattle.walks.specs.Reached.{State, at, sizes, walkIn, walkOf, Rest, Fit, walking, Leads}
 use Rattle.walks.specs.declared.Reach.{Reach}
 use Rattle.walks.proofs.Does.{does-none, none-wrote, one-wrote, Going}
 
@@ -92,22 +92,19 @@ module _ (n a : ℕ) (s : Reach) (w e : List ℕ) (h : Fit n (at s w e)) (below 
       → ((es : List Event) → joins a [] (walkOf n (at s w e) es) ≡ f (walkOf n (at s w e) es)) → Does (walking n) f (at s w e) (at g w′ e)
   join-open f g w′ gr put is = does-join g w′ e (s .used) gr put f [] (none-wrote (s .used) e (written-room n (at s w e) h)) (omega arith) is
 
-module _ (b : Board) (row k : ℕ) (s : Reach) (w e : List ℕ) (h : Fit (turfCount b) (at s w e)) where
+module _ (b : Board) (row k a : ℕ) (leads : Leads b k a) (s : Reach) (w e : List ℕ) (h : Fit (turfCount b) (at s w e)) where
   abbrev n : ℕ
   n = turfCount b
 
-  abbrev a : ℕ
-  a = end b k
-
   pub link-old : true ≡ member a (take (s .count) (array n 0 w)) → Does (walking n) (walkLink b row k) (at s w e) (at s w e)
   unfolding walkOf walkLink
-  link-old t = does-none (walking n) (walkLink b row k) h (written-room n (at s w e) h) (λ es. rw (← t))
+  link-old t = does-none (walking n) (walkLink b row k) h (written-room n (at s w e) h) (λ es. rw (← leads .end, ← t))
 
   module _ (below : a < n) (new : false ≡ member a (take (s .count) (array n 0 w))) where
     pub link-open : false ≡ lockBit (getD (b .linkFlags) k 0) → (g : Reach) (w′ : List ℕ) → g ≡ joined s (s .used) → w′ ≡ stored n a s w
         → Does (walking n) (walkLink b row k) (at s w e) (at g w′ e)
     unfolding walkOf walkLink firelock
-    link-open l g w′ gr put = join-open n a s w e h below new (walkLink b row k) g w′ gr put (λ es. rw (← new, ← l, append-nil es))
+    link-open l g w′ gr put = join-open n a s w e h below new (walkLink b row k) g w′ gr put (λ es. rw (← leads .end, ← new, ← l, append-nil es))
 
     pub link-locked : true ≡ lockBit (getD (b .linkFlags) k 0) → (g : Reach) (w′ e′ : List ℕ) (used : ℕ) → g ≡ joined s used → w′ ≡ stored n a s w
         → Wrote (encode (Firelock (idOf b row) (idOf b a))) (s .used) used e e′
@@ -115,4 +112,4 @@ module _ (b : Board) (row k : ℕ) (s : Reach) (w e : List ℕ) (h : Fit (turfCo
     unfolding walkOf walkLink firelock
     link-locked l g w′ e′ used gr put wr =
         let f : Event = Firelock (idOf b row) (idOf b a) in
-        does-join n a s w e h below new g w′ e′ used gr put (walkLink b row k) (f ∷ []) (one-wrote f wr) (omega (arith, wr .end, lock-size (idOf b row) (idOf b a))) (λ es. rw (← new, ← l))
+        does-join n a s w e h below new g w′ e′ used gr put (walkLink b row k) (f ∷ []) (one-wrote f wr) (omega (arith, wr .end, lock-size (idOf b row) (idOf b a))) (λ es. rw (← leads .end, ← new, ← l))

@@ -1,15 +1,18 @@
--- The links of a turf go by number from one start to the next; whether they are walked is a test of the turf. Assumes nothing.
-use Prim.Native.Nat.{ℕ, _+_, _-_, _≤_, _<_}
-use mathlib.Core.Path.{_≡_, refl}
+-- The neighbours of a turf are a part of the link list, from one start to the next; whether they are walked is a test of the turf. Assumes nothing.
+use Prim.Native.Nat.{ℕ, suc, _+_, _-_, _≤_, _<_}
+use native.Mathlib.Omega.{arith}
+use native.Mathlib.Nat.{add-zero, sub-zero}
+use mathlib.Core.Path.{_≡_, refl, ap, ap₂, _∙_}
 use mathlib.Core.List.{List}
 use mathlib.Core.Bool.{true, false}
-use lib.ListN.{getD}
+use lib.ListN.{length, getD, take, drop}
 use borrow.Author.Tests.{le-leb, lt-leb}
 use Rattle.basics.specs.Loops.{run, upFrom}
-use Rattle.board_rules.specs.Board.{Board, turfCount, linkCount, anyBit, enabled, linksOf}
+use Rattle.basics.proofs.Parts as lists
+use Rattle.board_rules.specs.Board.{Board, turfCount, linkCount, anyBit, enabled, degree, linksOf}
 use Rattle.event_rules.specs.declared.Event.{Event}
 use Rattle.walk_rules.specs.Walk.{Walk, walkLink, spread}
-use Rattle.walks.specs.Reached.{State, walkOf, Ground}
+use Rattle.walks.specs.Reached.{State, walkOf, Ground, Leads, Near}
 use Rattle.walk_rules.specs.Worked as worked  -- checked before the laws
 
 pub walked-is : (n : ℕ) (a : State) (es : List Event) → walkOf n a es .walked ≡ a .reach .walked
@@ -29,14 +32,50 @@ module _ (b : Board) (limit row : ℕ) (v : Walk) where
   unfolding spread enabled
   spread-on t h = rw (← t, le-leb (v .walked) limit h)
 
--- the links of the turf at `row`, from one start to the next
-module _ (b : Board) (row : ℕ) (from to : ℕ) (f : from ≡ getD (b .starts) row 0) (t : to ≡ getD (b .starts) (row + 1) 0) where
-  pub links-run : {S : Type 0} (g : ℕ → S → S) (s : S) → run g (upFrom from (to - from)) s ≡ run g (linksOf b row) s
+-- ---- the neighbours of a turf, a part of the link list
+
+-- a step of a loop over a part that starts at `from`: its link number i is number `from + i` of the list
+module _ {S : Type 0} (f : ℕ → S → S) (from i e : ℕ) (s : S) where
+  pub near-next : i < e → run f (upFrom (from + i) (e - i)) s ≡ run f (upFrom (from + (i + 1)) (e - (i + 1))) (f (from + i) s)
+  unfolding run upFrom
+  near-next h =
+      let k : e - i ≡ suc (e - (i + 1)) = omega arith in
+      let j : suc (from + i) ≡ from + (i + 1) = omega arith in
+      ap (λ (n : ℕ). run f (upFrom (from + i) n) s) k ∙ ap (λ (m : ℕ). run f (upFrom m (e - (i + 1))) (f (from + i) s)) j
+
+  pub near-end : e ≤ i → run f (upFrom (from + i) (e - i)) s ≡ s
+  unfolding run upFrom
+  near-end h = let k : e - i ≡ 0 = omega arith in ap (λ (n : ℕ). run f (upFrom (from + i) n) s) k
+
+-- the turf at the end of a link
+pub leads-below : {b : Board} {k a : ℕ} → Ground b → Leads b k a → a < turfCount b
+leads-below g l = rw (l .end) (g .neighbour _ (l .inside))
+
+-- the part from one start to the next
+module _ (b : Board) (row : ℕ) (g : Ground b) (r : row < turfCount b) (from to : ℕ) (f : from ≡ getD (b .starts) row 0) (t : to ≡ getD (b .starts) (row + 1) 0) where
+  pub part-order : from ≤ to
+  part-order = rw (f, t) (g .parts .rise row r)
+
+  pub part-end : to ≤ linkCount b
+  part-end = rw t (g .parts .end row r)
+
+  pub part-near : Near b row from (take (to - from) (drop from (b .neighbours)))
+  part-near = record { start = f; part = rw (f, t) }
+
+-- what a loop over it is told
+module _ (b : Board) (row from : ℕ) (near : List ℕ) (g : Ground b) (r : row < turfCount b) (p : Near b row from near) where
+  near-length : length near ≡ degree b row
+  near-length = ap length (p .part) ∙ lists.part-length (b .neighbours) (getD (b .starts) row 0) (getD (b .starts) (row + 1) 0) (g .parts .rise row r) (g .parts .end row r)
+
+  pub near-run : {S : Type 0} (h : ℕ → S → S) (s : S) → run h (upFrom (from + 0) (length near - 0)) s ≡ run h (linksOf b row) s
   unfolding linksOf
-  links-run g s = rw (f, t)
+  near-run h s = ap₂ (λ (j m : ℕ). run h (upFrom j m) s) (add-zero from ∙ p .start) (sub-zero (length near) ∙ near-length)
 
-  pub links-order : Ground b → row < turfCount b → from ≤ to
-  links-order h r = rw (f, t) (h .parts .rise row r)
+  pub near-room : from + length near ≤ linkCount b
+  near-room = omega (arith, p .start, near-length, g .parts .rise row r, g .parts .end row r)
 
-  pub links-end : Ground b → row < turfCount b → to ≤ linkCount b
-  links-end h r = rw t (h .parts .end row r)
+  pub near-leads : (i : ℕ) → i < length near → Leads b (from + i) (getD near i 0)
+  near-leads i h = record {
+    inside = omega (arith, near-room);
+    end = ap (λ (l : List ℕ). getD l i 0) (p .part) ∙ lists.part-at (b .neighbours) (getD (b .starts) row 0) (getD (b .starts) (row + 1) 0) i (omega (arith, near-length)) ∙ rw (p .start);
+  }

@@ -4,7 +4,7 @@ use mathlib.Core.List.{List, [], _∷_}
 use Prim.Native.Nat.{ℕ, _+_, _*_, _≤_, _<_}
 use lib.ListN.{length, getD, take}
 use Rattle.basics.specs.Regions.{cut, region}
-use Rattle.board_rules.specs.Board.{Board, turfCount, linkCount, mixtureCount, mixOf, end}
+use Rattle.board_rules.specs.Board.{Board, turfCount, linkCount, mixtureCount, mixOf, end, neighboursOf}
 use Rattle.turfs.specs.Tables.{Parts, Small}
 use Rattle.event_rules.specs.Events.{encodeAll}
 use Rattle.events.specs.Area.{Wrote}
@@ -23,6 +23,7 @@ pub record State : Type 0 where
   pub words : List ℕ
   pub area : List ℕ
 
+-- the state of these
 abbrev pub at : Reach → List ℕ → List ℕ → State
 at reach words area = record { reach = reach; words = words; area = area }
 
@@ -30,6 +31,7 @@ at reach words area = record { reach = reach; words = words; area = area }
 abbrev pub sizes : ℕ → List ℕ
 sizes n = n ∷ n ∷ n ∷ []
 
+-- the walk that arrays and a reach hold, once these events are written
 abbrev pub walkIn : List (List ℕ) → Reach → List Event → Walk
 walkIn arrays g es = record {
   queue = take (g .count) (getD arrays 0 []);
@@ -85,6 +87,16 @@ pub record Stands (b : Board) (row : ℕ) (a : State) : Type 0 where
   pub ground : Ground b
   pub fit : Fit (turfCount b) a
   pub inside : row < turfCount b
+
+-- the link number k leads to the turf `a`
+pub record Leads (b : Board) (k a : ℕ) : Type 0 where
+  pub inside : k < linkCount b
+  pub end : a ≡ end b k
+
+-- the neighbours of the turf at `row` are `near`, the part of the link list that starts at the link `from`
+pub record Near (b : Board) (row from : ℕ) (near : List ℕ) : Type 0 where
+  pub start : from ≡ getD (b .starts) row 0
+  pub part : near ≡ neighboursOf b row
 
 -- how many event bytes for each turf a walk may write
 abbrev pub perTurf : Kind → ℕ

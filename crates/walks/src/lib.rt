@@ -20,12 +20,12 @@ ghost use lib.Dec.{ltb};
 ghost use lib.ListN.{length};
 ghost use Rattle.basics.specs.Loops.{run, times};
 ghost use Rattle.board_rules.specs.Board as tables;
-ghost use Rattle.board_rules.specs.Board.{Board, turfCount, linkCount, linksOf};
+ghost use Rattle.board_rules.specs.Board.{Board, turfCount, linksOf};
 ghost use Rattle.turfs.specs.Tables.{boardAt};
 ghost use Rattle.walk_rules.specs.Walk.{walkLink, spread, walkNext};
 ghost use Rattle.walk_rules.specs.Visit.{visitPlanet, atSpace, visitSpace, visit};
 ghost use Rattle.walks.specs.Does.{Does};
-ghost use Rattle.walks.specs.Reached.{at, walking, Stands, Visits, Queued, visitNext, Starts, Walked};
+ghost use Rattle.walks.specs.Reached.{at, walking, Stands, Leads, Near, Visits, Queued, visitNext, Starts, Walked};
 
 // How far a walk has come: turfs in the queue, turfs visited, space turfs met, whether a planetary turf was met, whether the walk has ended, event bytes written.
 pub struct Reach {
@@ -108,10 +108,11 @@ impl Reach {
     }
 }
 
-// One link of the turf at `row`: a turf that is new joins the queue, with a firelock record across a firelock.
+// One link of the turf at `row`, number k, which leads to the turf `a`: a turf that is new joins the queue, with a firelock record across a firelock.
 fn walk_link(
     row: usize,
     k: usize,
+    a: u32,
     s: Reach,
     rows: &Rows,
     marks: &Marks,
@@ -119,13 +120,11 @@ fn walk_link(
     events: &mut [u8],
 ) -> Reach
     requires { let b = boardAt rows marks 0 in ⌜ Stands b row (at s (now words) (now events)) ⌝ }
-    requires { let b = boardAt rows marks 0 in ⌜ k < linkCount b ⌝ }
+    requires { let b = boardAt rows marks 0 in ⌜ Leads b k a ⌝ }
     ensures { λ r. let b = boardAt (rows .entry) (marks .entry) 0 in ⌜ Does (walking (turfCount b)) (walkLink b row k) (at s (now (words .entry)) (now (events .entry))) (at r (now (words .exit)) (now (events .exit))) ⌝ }
 {
     let ids = rows[IDS];
-    let neighbours = rows[NEIGHBOURS];
     let n = ids.len();
-    let a = neighbours[k];
     let count = s.count;
     let used = s.used;
     if index_set::contains(a, count, n, 0, n, words) {
@@ -143,9 +142,11 @@ fn walk_link(
     s.joined(events::append(events, used, lock))
 }
 
-// The links of one turf.
+// The links of one turf: its neighbours are handed on as that part of the link list, which starts at the link `from`.
 fn walk_links(
     row: usize,
+    from: usize,
+    near: &[u32],
     s: Reach,
     rows: &Rows,
     marks: &Marks,
@@ -153,15 +154,14 @@ fn walk_links(
     events: &mut [u8],
 ) -> Reach
     requires { let b = boardAt rows marks 0 in ⌜ Stands b row (at s (now words) (now events)) ⌝ }
+    requires { let b = boardAt rows marks 0 in ⌜ Near b row from (now near) ⌝ }
     ensures { λ r. let b = boardAt (rows .entry) (marks .entry) 0 in ⌜ Does (walking (turfCount b)) (run (walkLink b row) (linksOf b row)) (at s (now (words .entry)) (now (events .entry))) (at r (now (words .exit)) (now (events .exit))) ⌝ }
 {
-    let links = turfs::links_of(rows[STARTS], row);
-    let to = links.to;
     let mut t = s;
-    let mut k = links.from;
-    while k < to {
-        t = walk_link(row, k, t, rows, marks, words, events);
-        k += 1;
+    let mut i = 0;
+    while i < near.len() {
+        t = walk_link(row, from + i, near[i], t, rows, marks, words, events);
+        i += 1;
     }
     t
 }
@@ -186,7 +186,12 @@ fn spread(
     if s.walked > limit as usize {
         return s;
     }
-    walk_links(row, s, rows, marks, words, events)
+    let neighbours = rows[NEIGHBOURS];
+    let links = turfs::links_of(rows[STARTS], row);
+    let from = links.from;
+    let to = links.to;
+    let near = &neighbours[from..to];
+    walk_links(row, from, near, s, rows, marks, words, events)
 }
 
 // Whether a planetary turf was met before or is met here.

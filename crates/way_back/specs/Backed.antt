@@ -37,6 +37,7 @@ pub record State : Type 0 where
   pub floats : List Float
   pub area : List ℕ
 
+-- the state of these
 abbrev pub at : Way → List Float → List ℕ → List Float → List ℕ → State
 at way gas words floats area = record { way = way; gas = gas; words = words; floats = floats; area = area }
 
@@ -47,6 +48,7 @@ pub record Areas : Type 0 where
   pub floats : List Float
   pub area : List ℕ
 
+-- the areas of these
 abbrev pub areas : List Float → List ℕ → List Float → List ℕ → Areas
 areas gas words floats area = record { gas = gas; words = words; floats = floats; area = area }
 
@@ -60,6 +62,7 @@ ripsOf ids [] xs = []
 ripsOf ids (r ∷ rs) [] = []
 ripsOf ids (r ∷ rs) (x ∷ xs) = FloorRip (getD ids r 0) x ∷ ripsOf ids rs xs
 
+-- the way back that arrays and a way hold, once these events are written
 abbrev pub backIn : List ℕ → Way → List Float → List (List ℕ) → List (List Float) → List Event → Back
 backIn ids s gas ws fs es = record { gas = gas; amount = getD fs 0 []; events = es; rips = ripsOf ids (take (s .rips) (getD ws 0 [])) (take (s .rips) (getD fs 1 [])) }
 

@@ -2,7 +2,7 @@
 use Prim.Native.Nat.{ℕ, _+_, _*_, _≤_, _<_}
 use native.Mathlib.Omega.{arith}
 use native.Mathlib.Decide.{ℕ-discrete}
-use mathlib.Core.Path.{_≡_, ap, _∙_, sym, subst}
+use mathlib.Core.Path.{_≡_, refl, ap, _∙_, sym, subst}
 use mathlib.Core.List.{List, [], _∷_}
 use mathlib.Core.Bool.{Bool, true, false}
 use lib.ListN.{length, getD, take, drop, set, length-set}
@@ -10,7 +10,7 @@ use lib.Seq.{getD-set-same, getD-set-other, drop-drop}
 use Rattle.basics.specs.Loops.{member, snoc}
 use Rattle.basics.specs.Regions.{cut, region}
 use Rattle.basics.proofs.Regions.{cut-set, cut-get, cut-length}
-use Rattle.board_rules.specs.Board.{Board, turfCount, idOf, end, immutable}
+use Rattle.board_rules.specs.Board.{Board, turfCount, idOf, end, immutable, neighboursOf}
 use Rattle.event_rules.specs.Events.{encode}
 use Rattle.events.specs.Area.{Wrote}
 use Rattle.event_rules.specs.declared.Event.{Event}
@@ -19,6 +19,7 @@ use Rattle.events.proofs.Areas.{wrote-length}
 use Rattle.index_set.specs.Line.{Line, array, Holds}
 use Rattle.index_set.proofs.Queue.{count-below, take-more, line-more}
 use Rattle.walks.specs.Does.{Does}
+use Rattle.walks.specs.Reached.{Near}
 use Rattle.walks.proofs.Does.{does-none, does-as, one-wrote, Going}
 use Rattle.walks.proofs.Visits.{target-size}
 use Rattle.out_rules.specs.Out.{Out, outTo, outLink}
@@ -137,22 +138,23 @@ module _ (b : Board) (row a : ℕ) (s : Front) (w e : List ℕ) (j : Joins b row
 
 -- ---- one link
 
-module _ (b : Board) (row k : ℕ) (s : Front) (w e : List ℕ) (f : Fit (turfCount b) (at s w e)) where
+-- the part that is the neighbours of the turf at `row`, by the link that it starts at
+pub near-here : {b : Board} {row : ℕ} {near : List ℕ} → near ≡ neighboursOf b row → Near b row (getD (b .starts) row 0) near
+near-here p = record { start = refl; part = p }
+
+module _ (b : Board) (row k c : ℕ) (q : c ≡ end b k) (s : Front) (w e : List ℕ) (f : Fit (turfCount b) (at s w e)) where
   abbrev m : ℕ
   m = turfCount b
 
-  abbrev c : ℕ
-  c = end b k
-
   pub link-immutable : true ≡ immutable b c → Does (outing m) (outLink b row k) (at s w e) (at s w e)
   unfolding outLink
-  link-immutable t = does-none (outing m) (outLink b row k) f (written-room m (at s w e) f) (λ es. rw (← t))
+  link-immutable t = does-none (outing m) (outLink b row k) f (written-room m (at s w e) f) (λ es. rw (← q, ← t))
 
   module _ (o : false ≡ immutable b c) where
     pub link-old : true ≡ member c (take (s .count) (region (sizes m) 2 w)) → Does (outing m) (outLink b row k) (at s w e) (at s w e)
     unfolding outLink outOf
-    link-old t = does-none (outing m) (outLink b row k) f (written-room m (at s w e) f) (λ es. rw (← o, ← t))
+    link-old t = does-none (outing m) (outLink b row k) f (written-room m (at s w e) f) (λ es. rw (← q, ← o, ← t))
 
     pub link-new : false ≡ member c (take (s .count) (region (sizes m) 2 w)) → {a : State} → Does (outing m) (outTo b row c) (at s w e) a → Does (outing m) (outLink b row k) (at s w e) a
     unfolding outLink outOf
-    link-new t d = does-as (outing m) d (λ es. rw (← o, ← t))
+    link-new t d = does-as (outing m) d (λ es. rw (← q, ← o, ← t))

@@ -22,6 +22,7 @@ pub record State : Type 0 where
   pub words : List ℕ
   pub area : List ℕ
 
+-- the state of these
 abbrev pub at : Front → List ℕ → List ℕ → State
 at front words area = record { front = front; words = words; area = area }
 
@@ -29,6 +30,7 @@ at front words area = record { front = front; words = words; area = area }
 abbrev pub sizes : ℕ → List ℕ
 sizes n = n ∷ n ∷ n ∷ n ∷ n ∷ []
 
+-- the way out that arrays and a front hold, once these events are written
 abbrev pub outIn : List (List ℕ) → Front → List Event → Out
 outIn arrays g es = record { order = take (g .count) (getD arrays 2 []); place = g .place; direction = getD arrays 3 []; target = getD arrays 4 []; events = es }
 

@@ -8,9 +8,9 @@ use turfs::NEIGHBOURS;
 use turfs::Rows;
 use turfs::STARTS;
 ghost use mathlib.Core.Path.{_≡_};
-ghost use Prim.Native.Nat.{_<_};
+ghost use Prim.Native.Nat.{ℕ, _<_};
 ghost use Rattle.basics.specs.Loops.{run, times};
-ghost use Rattle.board_rules.specs.Board.{turfCount, linkCount, linksOf};
+ghost use Rattle.board_rules.specs.Board.{turfCount, end, linksOf, neighboursOf};
 ghost use Rattle.turfs.specs.Tables.{boardAt};
 ghost use Rattle.walks.specs.Does.{Does};
 ghost use Rattle.out_rules.specs.Out.{outTo, outLink, outNext};
@@ -52,10 +52,10 @@ fn out_to(
     }
 }
 
-// One link of the turf at `row`: a turf that is new and whose mixture isn't immutable joins, enabled or not.
+// One link of the turf at `row`, which leads to the turf `a`: a turf that is new and whose mixture isn't immutable joins, enabled or not.
 fn out_link(
     row: u32,
-    k: usize,
+    a: u32,
     s: Front,
     rows: &Rows,
     marks: &Marks,
@@ -63,13 +63,11 @@ fn out_link(
     events: &mut [u8],
 ) -> Front
     requires { let b = boardAt rows marks 0 in ⌜ Stands b row (at s (now words) (now events)) ⌝ }
-    requires { let b = boardAt rows marks 0 in ⌜ k < linkCount b ⌝ }
-    ensures { λ r. let b = boardAt (rows .entry) (marks .entry) 0 in ⌜ Does (outing (turfCount b)) (outLink b row k) (at s (now (words .entry)) (now (events .entry))) (at r (now (words .exit)) (now (events .exit))) ⌝ }
+    requires { let b = boardAt rows marks 0 in ⌜ a < turfCount b ⌝ }
+    ensures { λ r. let b = boardAt (rows .entry) (marks .entry) 0 in ⌜ ((k : ℕ) → a ≡ end b k → Does (outing (turfCount b)) (outLink b row k) (at s (now (words .entry)) (now (events .entry))) (at r (now (words .exit)) (now (events .exit)))) ⌝ }
 {
     let ids = rows[IDS];
-    let neighbours = rows[NEIGHBOURS];
     let n = ids.len();
-    let a = neighbours[k];
     if turfs::is_immutable(rows[MIXTURES], marks[IMMUTABLE], a as usize) {
         return s;
     }
@@ -80,9 +78,10 @@ fn out_link(
     out_to(row, a, s, rows, marks, words, events)
 }
 
-// The links of one turf.
+// The links of one turf: its neighbours are handed on as that part of the link list.
 fn out_links(
     row: u32,
+    near: &[u32],
     s: Front,
     rows: &Rows,
     marks: &Marks,
@@ -90,15 +89,14 @@ fn out_links(
     events: &mut [u8],
 ) -> Front
     requires { let b = boardAt rows marks 0 in ⌜ Stands b row (at s (now words) (now events)) ⌝ }
+    requires { let b = boardAt rows marks 0 in ⌜ now near ≡ neighboursOf b row ⌝ }
     ensures { λ r. let b = boardAt (rows .entry) (marks .entry) 0 in ⌜ Does (outing (turfCount b)) (run (outLink b row) (linksOf b row)) (at s (now (words .entry)) (now (events .entry))) (at r (now (words .exit)) (now (events .exit))) ⌝ }
 {
-    let links = turfs::links_of(rows[STARTS], row as usize);
-    let to = links.to;
     let mut t = s;
-    let mut k = links.from;
-    while k < to {
-        t = out_link(row, k, t, rows, marks, words, events);
-        k += 1;
+    let mut i = 0;
+    while i < near.len() {
+        t = out_link(row, near[i], t, rows, marks, words, events);
+        i += 1;
     }
     t
 }
@@ -126,7 +124,12 @@ fn out_row(
     if t.place > limit as usize {
         return t;
     }
-    out_links(row, t, rows, marks, words, events)
+    let neighbours = rows[NEIGHBOURS];
+    let links = turfs::links_of(rows[STARTS], row as usize);
+    let from = links.from;
+    let to = links.to;
+    let near = &neighbours[from..to];
+    out_links(row, near, t, rows, marks, words, events)
 }
 
 // The order from its start.

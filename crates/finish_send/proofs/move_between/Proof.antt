@@ -12,53 +12,47 @@ use Rattle.finish_send.proofs.move_between.Reads as reads
 use Rattle.finish_send.proofs.move_between.Lts as lts
 use Rattle.mixture.proofs.move_air.Reads as move-air-reads
 
--- src/lib.rt:147:20
 element-copy-out-mixtures : tie.Need-element-copy-out-mixtures
 element-copy-out-mixtures c = search needs
 
--- src/lib.rt:149:17
 mul-giver : tie.Need-mul-giver
 mul-giver c = search needs
 
--- src/lib.rt:149:17
 shared-slice-read-giver : tie.Need-shared-slice-read-giver
 shared-slice-read-giver c = search needs
 
--- src/lib.rt:149:17
 cast-giver : tie.Need-cast-giver
 cast-giver c = omega (arith, c .shared-slice-known .given (c .before .before .before .args .turf .row))
 
--- src/lib.rt:150:17
 mul-taker : tie.Need-mul-taker
 mul-taker c = search needs
 
--- src/lib.rt:150:17
 shared-slice-read-taker : tie.Need-shared-slice-read-taker
 shared-slice-read-taker c = search needs
 
--- src/lib.rt:150:17
 cast-taker : tie.Need-cast-taker
 cast-taker c = omega (arith, c .shared-slice-known2 .given (c .before .before .before .before .args .to))
 
--- src/lib.rt:152:9
 returns : tie.Need-returns
-returns c = share-same (boardAt (c .before .before .before .before .before .args .rows) (c .before .before .before .before .before .args .marks) (c .before .before .before .before .before .args .turf .gases)) (c .before .before .before .before .before .args .turf .row) (c .before .before .before .before .before .args .to) _ _ (c .if1 .taken)
+returns c =
+    let entry = c .before .before .before .before .before in
+    share-same (boardAt (entry .args .rows) (entry .args .marks) (entry .args .turf .gases)) (entry .args .turf .row) (entry .args .to) _ _ (c .if1 .taken)
 
--- src/lib.rt:154:23
 element-copy-out-move-air : tie.Need-element-copy-out-move-air
 element-copy-out-move-air c = search needs
 
--- src/lib.rt:154:5
 move-air-requires : tie.Need-move-air-requires
-move-air-requires c κs = (c .before .before .before .before .before .before .before .pre .mixes, ((holds-of (now (c .before .before .before .before .before .before .before .args .gas)) _ _ _ (c .before .before .before .before .before .before .before .pre .amounts) (c .before .before .before .before .before .before .before .pre .mixes .0), holds-of (now (c .before .before .before .before .before .before .before .args .gas)) _ _ _ (c .before .before .before .before .before .before .before .pre .amounts) (c .before .before .before .before .before .before .before .pre .mixes .1)), c .before .before .if1 .left))
+move-air-requires c κs =
+    let entry = c .before .before .before .before .before .before .before in
+    (entry .pre .mixes, ((holds-of (now (entry .args .gas)) _ _ _ (entry .pre .amounts) (entry .pre .mixes .0), holds-of (now (entry .args .gas)) _ _ _ (entry .pre .amounts) (entry .pre .mixes .1)), c .before .before .if1 .left))
 
--- src/lib.rt:143:1
 same-length : tie.Need-same-length
 same-length c = search needs
 
--- src/lib.rt:143:1
 returns-2 : tie.Need-returns-2
-returns-2 c = share-moved (boardAt (c .before .before .before .before .before .before .before .before .before .before .args .rows) (c .before .before .before .before .before .before .before .before .before .before .args .marks) (c .before .before .before .before .before .before .before .before .before .before .args .turf .gases)) (c .before .before .before .before .before .before .before .before .before .before .args .turf .row) (c .before .before .before .before .before .before .before .before .before .before .args .to) _ _ _ (c .before .before .before .before .before .if1 .left) (c .before .before .move-air .ensures (boardAt (c .before .before .before .before .before .before .before .before .before .before .args .rows) (c .before .before .before .before .before .before .before .before .before .before .args .marks) (c .before .before .before .before .before .before .before .before .before .before .args .turf .gases)) refl refl)
+returns-2 c =
+    let entry = c .before .before .before .before .before .before .before .before .before .before in
+    share-moved (boardAt (entry .args .rows) (entry .args .marks) (entry .args .turf .gases)) (entry .args .turf .row) (entry .args .to) _ _ _ (c .before .before .before .before .before .if1 .left) (c .before .before .move-air .ensures (boardAt (entry .args .rows) (entry .args .marks) (entry .args .turf .gases)) refl refl)
 
 pub move-between-spec : {M : Type 1} → statement M
 move-between-spec =

@@ -24,71 +24,56 @@ use Rattle.scratch.proofs.lifted_at.Reads as lifted-at-reads
 
 -- The reverse is one of the links, and an amount above 0 has bits; the three calls are the definition's three changes. Assumes nothing.
 
--- src/lib.rt:172:15
 element-copy-out-ids : tie.Need-element-copy-out-ids
 element-copy-out-ids c = search needs
 
--- src/lib.rt:173:22
 element-copy-out-neighbours : tie.Need-element-copy-out-neighbours
 element-copy-out-neighbours c = search needs
 
--- src/lib.rt:176:9
 lifted-at-requires : tie.Need-lifted-at-requires
 lifted-at-requires c κs = search needs
 
--- src/lib.rt:177:25
 add-amount : tie.Need-add-amount
 add-amount c = search needs
 
--- src/lib.rt:177:18
 mul-amount : tie.Need-mul-amount
 mul-amount c = search needs
 
--- src/lib.rt:177:18
 slice-read-amount : tie.Need-slice-read-amount
 slice-read-amount c = search needs
 
--- src/lib.rt:178:14
 mul-to : tie.Need-mul-to
 mul-to c = search needs
 
--- src/lib.rt:178:14
 shared-slice-read-to : tie.Need-shared-slice-read-to
 shared-slice-read-to c = search needs
 
--- src/lib.rt:178:14
 cast-to : tie.Need-cast-to
 cast-to c = search needs
 
--- src/lib.rt:179:9
 back-link-requires : tie.Need-back-link-requires
 back-link-requires c κs = search needs
 
--- src/lib.rt:180:5
 clear-at-requires : tie.Need-clear-at-requires
-clear-at-requires c κs = back-fits _ _ _ _ (now (c .before .before .before .before .before .before .before .before .before .before .before .args .floats)) _ (c .before .back-link .ensures) (c .before .before .before .before .before .before .before .before .before .before .before .pre .link) (c .before .before .before .before .before .before .before .before .before .before .before .pre .back) (c .before .before .before .before .before .before .before .before .before .before .before .pre .weights)
+clear-at-requires c κs =
+    let entry = c .before .before .before .before .before .before .before .before .before .before .before in
+    back-fits _ _ _ _ (now (entry .args .floats)) _ (c .before .back-link .ensures) (entry .pre .link) (entry .pre .back) (entry .pre .weights)
 
--- src/lib.rt:181:5
 move-between-requires : tie.Need-move-between-requires
 move-between-requires c κs = search needs
 
--- src/lib.rt:185:15
 mul-t25 : tie.Need-mul-t25
 mul-t25 c = search needs
 
--- src/lib.rt:185:15
 shared-slice-read-t29 : tie.Need-shared-slice-read-t29
 shared-slice-read-t29 c = search needs
 
--- src/lib.rt:186:13
 mul-t24 : tie.Need-mul-t24
 mul-t24 c = search needs
 
--- src/lib.rt:186:13
 shared-slice-read-t37 : tie.Need-shared-slice-read-t37
 shared-slice-read-t37 c = search needs
 
--- src/lib.rt:188:5
 append-requires : tie.Need-append-requires
 append-requires c κs =
     let entry = c .before .before .before .before .before .before .before .before .before .before .before .before .before .before .before .before .before .before .before .before .before in
@@ -98,19 +83,15 @@ append-requires c κs =
       entry .pre .room,
     )
 
--- src/lib.rt:158:1
 same-length : tie.Need-same-length
 same-length c = search needs
 
--- src/lib.rt:158:1
 same-length-2 : tie.Need-same-length-2
 same-length-2 c = search needs
 
--- src/lib.rt:158:1
 same-length-3 : tie.Need-same-length-3
 same-length-3 c = search needs
 
--- src/lib.rt:158:1
 returns : tie.Need-returns
 returns c =
     let entry = c .before .before .before .before .before .before .before .before .before .before .before .before .before .before .before .before .before .before .before .before .before .before .before .before in

@@ -133,7 +133,10 @@ finalize-eq-clear-weights-requires : (t : ℕ) → finalize-eq-lts.Need-clear-we
   finalize-eq-neighbors-below t,
   finalize-eq-neighbors.Post,
 ) (finalize-eq-at t) finalize-eq.Post
-finalize-eq-clear-weights-requires t c κs = clear-room _ _ _ _ _ (c .before .before .before .before .before .before .before .before .before .before .pre .1) _ _ _ refl (c .before .before .before .before .links-of .ensures .0) (c .before .before .before .before .links-of .ensures .1) (now (c .before .before .before .before .before .before .before .before .before .before .args .floats)) refl
+finalize-eq-clear-weights-requires t c κs =
+    let entry = c .before .before .before .before .before .before .before .before .before .before in
+    let links-of = c .before .before .before .before .links-of in
+    clear-room _ _ _ _ _ (entry .pre .1) _ _ _ refl (links-of .ensures .0) (links-of .ensures .1) (now (entry .args .floats)) refl
 
 finalize-eq-same-length : (t : ℕ) → finalize-eq-lts.Need-same-length (
   links-of-reads.Asked,
@@ -151,7 +154,10 @@ finalize-eq-same-length : (t : ℕ) → finalize-eq-lts.Need-same-length (
   finalize-eq-neighbors-below t,
   finalize-eq-neighbors.Post,
 ) (finalize-eq-at t) finalize-eq.Post
-finalize-eq-same-length t c = quiet-finishes _ _ _ _ _ (c .before .before .before .before .before .before .before .before .before .before .before .before .before .pre .1) _ _ _ refl (c .before .before .before .before .before .before .before .links-of .ensures .0) (c .before .before .before .before .before .before .before .links-of .ensures .1) _ _ (c .before .before .before .before .before .next-edge .ensures) (c .before .before .before .before .if1 .taken) (c .before .before .clear-weights .ensures) .kept .floats
+finalize-eq-same-length t c =
+    let entry = c .before .before .before .before .before .before .before .before .before .before .before .before .before in
+    let links-of = c .before .before .before .before .before .before .before .links-of in
+    quiet-finishes _ _ _ _ _ (entry .pre .1) _ _ _ refl (links-of .ensures .0) (links-of .ensures .1) _ _ (c .before .before .before .before .before .next-edge .ensures) (c .before .before .before .before .if1 .taken) (c .before .before .clear-weights .ensures) .kept .floats
 
 finalize-eq-returns : (t : ℕ) → finalize-eq-lts.Need-returns (
   links-of-reads.Asked,
@@ -169,7 +175,10 @@ finalize-eq-returns : (t : ℕ) → finalize-eq-lts.Need-returns (
   finalize-eq-neighbors-below t,
   finalize-eq-neighbors.Post,
 ) (finalize-eq-at t) finalize-eq.Post
-finalize-eq-returns t c = quiet-finishes _ _ _ _ _ (c .before .before .before .before .before .before .before .before .before .before .before .before .before .pre .1) _ _ _ refl (c .before .before .before .before .before .before .before .links-of .ensures .0) (c .before .before .before .before .before .before .before .links-of .ensures .1) _ _ (c .before .before .before .before .before .next-edge .ensures) (c .before .before .before .before .if1 .taken) (c .before .before .clear-weights .ensures)
+finalize-eq-returns t c =
+    let entry = c .before .before .before .before .before .before .before .before .before .before .before .before .before in
+    let links-of = c .before .before .before .before .before .before .before .links-of in
+    quiet-finishes _ _ _ _ _ (entry .pre .1) _ _ _ refl (links-of .ensures .0) (links-of .ensures .1) _ _ (c .before .before .before .before .before .next-edge .ensures) (c .before .before .before .before .if1 .taken) (c .before .before .clear-weights .ensures)
 
 finalize-eq-element-copy-out-lifted-at : (t : ℕ) → finalize-eq-lts.Need-element-copy-out-lifted-at (
   links-of-reads.Asked,
@@ -242,7 +251,10 @@ finalize-eq-save-requires : (t : ℕ) → finalize-eq-lts.Need-save-requires (
   finalize-eq-neighbors-below t,
   finalize-eq-neighbors.Post,
 ) (finalize-eq-at t) finalize-eq.Post
-finalize-eq-save-requires t c κs = links-room _ _ _ _ _ (c .before .before .before .before .before .before .before .before .before .before .before .pre .1) _ _ _ (c .before .lifted-at .ensures) (c .before .before .before .before .before .links-of .ensures .0) (c .before .before .before .before .before .links-of .ensures .1) (now (c .before .before .before .before .before .before .before .before .before .before .before .args .floats)) refl
+finalize-eq-save-requires t c κs =
+    let entry = c .before .before .before .before .before .before .before .before .before .before .before in
+    let links-of = c .before .before .before .before .before .links-of in
+    links-room _ _ _ _ _ (entry .pre .1) _ _ _ (c .before .lifted-at .ensures) (links-of .ensures .0) (links-of .ensures .1) (now (entry .args .floats)) refl
 
 finalize-eq-clear-weights-requires-2 : (t : ℕ) → finalize-eq-lts.Need-clear-weights-requires-2 (
   links-of-reads.Asked,
@@ -260,7 +272,12 @@ finalize-eq-clear-weights-requires-2 : (t : ℕ) → finalize-eq-lts.Need-clear-
   finalize-eq-neighbors-below t,
   finalize-eq-neighbors.Post,
 ) (finalize-eq-at t) finalize-eq.Post
-finalize-eq-clear-weights-requires-2 t c κs = clear-room _ _ _ _ _ (c .before .before .before .before .before .before .before .before .before .before .before .before .before .before .before .pre .1) _ _ _ (c .before .before .before .before .before .lifted-at .ensures) (c .before .before .before .before .before .before .before .before .before .links-of .ensures .0) (c .before .before .before .before .before .before .before .before .before .links-of .ensures .1) (c .before .before .before .save .last .1 .1 .1 .1 .1 .0) (saved-size _ _ _ _ _ (c .before .before .before .before .before .before .before .before .before .before .before .before .before .before .before .pre .1) _ _ _ (c .before .before .before .before .before .lifted-at .ensures) (c .before .before .before .before .before .before .before .before .before .links-of .ensures .0) (c .before .before .before .before .before .before .before .before .before .links-of .ensures .1) _ (c .before .before .before .save .ensures))
+finalize-eq-clear-weights-requires-2 t c κs =
+    let entry = c .before .before .before .before .before .before .before .before .before .before .before .before .before .before .before in
+    let links-of = c .before .before .before .before .before .before .before .before .before .links-of in
+    let lifted-at = c .before .before .before .before .before .lifted-at in
+    let save = c .before .before .before .save in
+    clear-room _ _ _ _ _ (entry .pre .1) _ _ _ (lifted-at .ensures) (links-of .ensures .0) (links-of .ensures .1) (save .last .1 .1 .1 .1 .1 .0) (saved-size _ _ _ _ _ (entry .pre .1) _ _ _ (lifted-at .ensures) (links-of .ensures .0) (links-of .ensures .1) _ (save .ensures))
 
 finalize-eq-send-edges-requires : (t : ℕ) → finalize-eq-lts.Need-send-edges-requires (
   links-of-reads.Asked,
@@ -278,7 +295,14 @@ finalize-eq-send-edges-requires : (t : ℕ) → finalize-eq-lts.Need-send-edges-
   finalize-eq-neighbors-below t,
   finalize-eq-neighbors.Post,
 ) (finalize-eq-at t) finalize-eq.Post
-finalize-eq-send-edges-requires t c κs = lifted-going _ _ _ _ _ (c .before .before .before .before .before .before .before .before .before .before .before .before .before .before .before .before .before .before .before .before .before .pre .1) _ _ _ (c .before .before .before .before .before .before .before .before .before .before .before .lifted-at .ensures) (c .before .before .before .before .before .before .before .before .before .before .before .before .before .before .before .links-of .ensures .0) (c .before .before .before .before .before .before .before .before .before .before .before .before .before .before .before .links-of .ensures .1) _ (c .before .before .before .before .before .before .before .before .before .before .before .before .before .next-edge .ensures) (c .before .before .before .before .before .before .before .before .before .before .before .before .if1 .left) _ _ (c .before .before .before .before .before .before .before .before .before .save .ensures) (c .before .before .before .before .before .clear-weights2 .ensures)
+finalize-eq-send-edges-requires t c κs =
+    let entry = c .before .before .before .before .before .before .before .before .before .before .before .before .before .before .before .before .before .before .before .before .before in
+    let links-of = c .before .before .before .before .before .before .before .before .before .before .before .before .before .before .before .links-of in
+    let next-edge = c .before .before .before .before .before .before .before .before .before .before .before .before .before .next-edge in
+    let if1 = c .before .before .before .before .before .before .before .before .before .before .before .before .if1 in
+    let lifted-at = c .before .before .before .before .before .before .before .before .before .before .before .lifted-at in
+    let save = c .before .before .before .before .before .before .before .before .before .save in
+    lifted-going _ _ _ _ _ (entry .pre .1) _ _ _ (lifted-at .ensures) (links-of .ensures .0) (links-of .ensures .1) _ (next-edge .ensures) (if1 .left) _ _ (save .ensures) (c .before .before .before .before .before .clear-weights2 .ensures)
 
 finalize-eq-same-length-2 : (t : ℕ) → finalize-eq-lts.Need-same-length-2 (
   links-of-reads.Asked,
@@ -296,7 +320,16 @@ finalize-eq-same-length-2 : (t : ℕ) → finalize-eq-lts.Need-same-length-2 (
   finalize-eq-neighbors-below t,
   finalize-eq-neighbors.Post,
 ) (finalize-eq-at t) finalize-eq.Post
-finalize-eq-same-length-2 t c = sent-finishes _ _ _ _ _ (c .before .before .before .before .before .before .before .before .before .before .before .before .before .before .before .before .before .before .before .before .before .before .before .before .before .before .before .before .before .pre .1) _ _ _ (c .before .before .before .before .before .before .before .before .before .before .before .before .before .before .before .before .before .before .before .lifted-at .ensures) (c .before .before .before .before .before .before .before .before .before .before .before .before .before .before .before .before .before .before .before .before .before .before .before .links-of .ensures .0) (c .before .before .before .before .before .before .before .before .before .before .before .before .before .before .before .before .before .before .before .before .before .before .before .links-of .ensures .1) _ (c .before .before .before .before .before .before .before .before .before .before .before .before .before .before .before .before .before .before .before .before .before .next-edge .ensures) (c .before .before .before .before .before .before .before .before .before .before .before .before .before .before .before .before .before .before .before .before .if1 .left) _ _ (c .before .before .before .before .before .before .before .before .before .before .before .before .before .before .before .before .before .save .ensures) (c .before .before .before .before .before .before .before .before .before .before .before .before .before .clear-weights2 .ensures) _ _ (c .before .before .before .before .before .before .before .send-edges .ensures) (c .if2 .taken) .kept .gas
+finalize-eq-same-length-2 t c =
+    let entry = c .before .before .before .before .before .before .before .before .before .before .before .before .before .before .before .before .before .before .before .before .before .before .before .before .before .before .before .before .before in
+    let links-of = c .before .before .before .before .before .before .before .before .before .before .before .before .before .before .before .before .before .before .before .before .before .before .before .links-of in
+    let next-edge = c .before .before .before .before .before .before .before .before .before .before .before .before .before .before .before .before .before .before .before .before .before .next-edge in
+    let if1 = c .before .before .before .before .before .before .before .before .before .before .before .before .before .before .before .before .before .before .before .before .if1 in
+    let lifted-at = c .before .before .before .before .before .before .before .before .before .before .before .before .before .before .before .before .before .before .before .lifted-at in
+    let save = c .before .before .before .before .before .before .before .before .before .before .before .before .before .before .before .before .before .save in
+    let clear-weights2 = c .before .before .before .before .before .before .before .before .before .before .before .before .before .clear-weights2 in
+    let send-edges = c .before .before .before .before .before .before .before .send-edges in
+    sent-finishes _ _ _ _ _ (entry .pre .1) _ _ _ (lifted-at .ensures) (links-of .ensures .0) (links-of .ensures .1) _ (next-edge .ensures) (if1 .left) _ _ (save .ensures) (clear-weights2 .ensures) _ _ (send-edges .ensures) (c .if2 .taken) .kept .gas
 
 finalize-eq-same-length-3 : (t : ℕ) → finalize-eq-lts.Need-same-length-3 (
   links-of-reads.Asked,
@@ -314,7 +347,16 @@ finalize-eq-same-length-3 : (t : ℕ) → finalize-eq-lts.Need-same-length-3 (
   finalize-eq-neighbors-below t,
   finalize-eq-neighbors.Post,
 ) (finalize-eq-at t) finalize-eq.Post
-finalize-eq-same-length-3 t c = sent-finishes _ _ _ _ _ (c .before .before .before .before .before .before .before .before .before .before .before .before .before .before .before .before .before .before .before .before .before .before .before .before .before .before .before .before .before .pre .1) _ _ _ (c .before .before .before .before .before .before .before .before .before .before .before .before .before .before .before .before .before .before .before .lifted-at .ensures) (c .before .before .before .before .before .before .before .before .before .before .before .before .before .before .before .before .before .before .before .before .before .before .before .links-of .ensures .0) (c .before .before .before .before .before .before .before .before .before .before .before .before .before .before .before .before .before .before .before .before .before .before .before .links-of .ensures .1) _ (c .before .before .before .before .before .before .before .before .before .before .before .before .before .before .before .before .before .before .before .before .before .next-edge .ensures) (c .before .before .before .before .before .before .before .before .before .before .before .before .before .before .before .before .before .before .before .before .if1 .left) _ _ (c .before .before .before .before .before .before .before .before .before .before .before .before .before .before .before .before .before .save .ensures) (c .before .before .before .before .before .before .before .before .before .before .before .before .before .clear-weights2 .ensures) _ _ (c .before .before .before .before .before .before .before .send-edges .ensures) (c .if2 .taken) .kept .floats
+finalize-eq-same-length-3 t c =
+    let entry = c .before .before .before .before .before .before .before .before .before .before .before .before .before .before .before .before .before .before .before .before .before .before .before .before .before .before .before .before .before in
+    let links-of = c .before .before .before .before .before .before .before .before .before .before .before .before .before .before .before .before .before .before .before .before .before .before .before .links-of in
+    let next-edge = c .before .before .before .before .before .before .before .before .before .before .before .before .before .before .before .before .before .before .before .before .before .next-edge in
+    let if1 = c .before .before .before .before .before .before .before .before .before .before .before .before .before .before .before .before .before .before .before .before .if1 in
+    let lifted-at = c .before .before .before .before .before .before .before .before .before .before .before .before .before .before .before .before .before .before .before .lifted-at in
+    let save = c .before .before .before .before .before .before .before .before .before .before .before .before .before .before .before .before .before .save in
+    let clear-weights2 = c .before .before .before .before .before .before .before .before .before .before .before .before .before .clear-weights2 in
+    let send-edges = c .before .before .before .before .before .before .before .send-edges in
+    sent-finishes _ _ _ _ _ (entry .pre .1) _ _ _ (lifted-at .ensures) (links-of .ensures .0) (links-of .ensures .1) _ (next-edge .ensures) (if1 .left) _ _ (save .ensures) (clear-weights2 .ensures) _ _ (send-edges .ensures) (c .if2 .taken) .kept .floats
 
 finalize-eq-same-length-4 : (t : ℕ) → finalize-eq-lts.Need-same-length-4 (
   links-of-reads.Asked,
@@ -332,7 +374,16 @@ finalize-eq-same-length-4 : (t : ℕ) → finalize-eq-lts.Need-same-length-4 (
   finalize-eq-neighbors-below t,
   finalize-eq-neighbors.Post,
 ) (finalize-eq-at t) finalize-eq.Post
-finalize-eq-same-length-4 t c = sent-finishes _ _ _ _ _ (c .before .before .before .before .before .before .before .before .before .before .before .before .before .before .before .before .before .before .before .before .before .before .before .before .before .before .before .before .before .pre .1) _ _ _ (c .before .before .before .before .before .before .before .before .before .before .before .before .before .before .before .before .before .before .before .lifted-at .ensures) (c .before .before .before .before .before .before .before .before .before .before .before .before .before .before .before .before .before .before .before .before .before .before .before .links-of .ensures .0) (c .before .before .before .before .before .before .before .before .before .before .before .before .before .before .before .before .before .before .before .before .before .before .before .links-of .ensures .1) _ (c .before .before .before .before .before .before .before .before .before .before .before .before .before .before .before .before .before .before .before .before .before .next-edge .ensures) (c .before .before .before .before .before .before .before .before .before .before .before .before .before .before .before .before .before .before .before .before .if1 .left) _ _ (c .before .before .before .before .before .before .before .before .before .before .before .before .before .before .before .before .before .save .ensures) (c .before .before .before .before .before .before .before .before .before .before .before .before .before .clear-weights2 .ensures) _ _ (c .before .before .before .before .before .before .before .send-edges .ensures) (c .if2 .taken) .kept .events
+finalize-eq-same-length-4 t c =
+    let entry = c .before .before .before .before .before .before .before .before .before .before .before .before .before .before .before .before .before .before .before .before .before .before .before .before .before .before .before .before .before in
+    let links-of = c .before .before .before .before .before .before .before .before .before .before .before .before .before .before .before .before .before .before .before .before .before .before .before .links-of in
+    let next-edge = c .before .before .before .before .before .before .before .before .before .before .before .before .before .before .before .before .before .before .before .before .before .next-edge in
+    let if1 = c .before .before .before .before .before .before .before .before .before .before .before .before .before .before .before .before .before .before .before .before .if1 in
+    let lifted-at = c .before .before .before .before .before .before .before .before .before .before .before .before .before .before .before .before .before .before .before .lifted-at in
+    let save = c .before .before .before .before .before .before .before .before .before .before .before .before .before .before .before .before .before .save in
+    let clear-weights2 = c .before .before .before .before .before .before .before .before .before .before .before .before .before .clear-weights2 in
+    let send-edges = c .before .before .before .before .before .before .before .send-edges in
+    sent-finishes _ _ _ _ _ (entry .pre .1) _ _ _ (lifted-at .ensures) (links-of .ensures .0) (links-of .ensures .1) _ (next-edge .ensures) (if1 .left) _ _ (save .ensures) (clear-weights2 .ensures) _ _ (send-edges .ensures) (c .if2 .taken) .kept .events
 
 finalize-eq-returns-2 : (t : ℕ) → finalize-eq-lts.Need-returns-2 (
   links-of-reads.Asked,
@@ -350,7 +401,16 @@ finalize-eq-returns-2 : (t : ℕ) → finalize-eq-lts.Need-returns-2 (
   finalize-eq-neighbors-below t,
   finalize-eq-neighbors.Post,
 ) (finalize-eq-at t) finalize-eq.Post
-finalize-eq-returns-2 t c = sent-finishes _ _ _ _ _ (c .before .before .before .before .before .before .before .before .before .before .before .before .before .before .before .before .before .before .before .before .before .before .before .before .before .before .before .before .before .pre .1) _ _ _ (c .before .before .before .before .before .before .before .before .before .before .before .before .before .before .before .before .before .before .before .lifted-at .ensures) (c .before .before .before .before .before .before .before .before .before .before .before .before .before .before .before .before .before .before .before .before .before .before .before .links-of .ensures .0) (c .before .before .before .before .before .before .before .before .before .before .before .before .before .before .before .before .before .before .before .before .before .before .before .links-of .ensures .1) _ (c .before .before .before .before .before .before .before .before .before .before .before .before .before .before .before .before .before .before .before .before .before .next-edge .ensures) (c .before .before .before .before .before .before .before .before .before .before .before .before .before .before .before .before .before .before .before .before .if1 .left) _ _ (c .before .before .before .before .before .before .before .before .before .before .before .before .before .before .before .before .before .save .ensures) (c .before .before .before .before .before .before .before .before .before .before .before .before .before .clear-weights2 .ensures) _ _ (c .before .before .before .before .before .before .before .send-edges .ensures) (c .if2 .taken)
+finalize-eq-returns-2 t c =
+    let entry = c .before .before .before .before .before .before .before .before .before .before .before .before .before .before .before .before .before .before .before .before .before .before .before .before .before .before .before .before .before in
+    let links-of = c .before .before .before .before .before .before .before .before .before .before .before .before .before .before .before .before .before .before .before .before .before .before .before .links-of in
+    let next-edge = c .before .before .before .before .before .before .before .before .before .before .before .before .before .before .before .before .before .before .before .before .before .next-edge in
+    let if1 = c .before .before .before .before .before .before .before .before .before .before .before .before .before .before .before .before .before .before .before .before .if1 in
+    let lifted-at = c .before .before .before .before .before .before .before .before .before .before .before .before .before .before .before .before .before .before .before .lifted-at in
+    let save = c .before .before .before .before .before .before .before .before .before .before .before .before .before .before .before .before .before .save in
+    let clear-weights2 = c .before .before .before .before .before .before .before .before .before .before .before .before .before .clear-weights2 in
+    let send-edges = c .before .before .before .before .before .before .before .send-edges in
+    sent-finishes _ _ _ _ _ (entry .pre .1) _ _ _ (lifted-at .ensures) (links-of .ensures .0) (links-of .ensures .1) _ (next-edge .ensures) (if1 .left) _ _ (save .ensures) (clear-weights2 .ensures) _ _ (send-edges .ensures) (c .if2 .taken)
 
 finalize-eq-finalize-eq-neighbors-requires :
     (t : ℕ) → finalize-eq-lts.Need-finalize-eq-neighbors-requires (
@@ -369,7 +429,17 @@ finalize-eq-finalize-eq-neighbors-requires :
       finalize-eq-neighbors-below t,
       finalize-eq-neighbors.Post,
     ) (finalize-eq-at t) finalize-eq.Post
-finalize-eq-finalize-eq-neighbors-requires t c κs = (omega (arith, c .before .before .before .before .before .before .before .before .before .before .before .before .before .before .before .before .before .before .before .before .before .before .before .before .before .before .before .before .before .before .before .before .pre .0, fell _ _ _ _ _ (c .before .before .before .before .before .before .before .before .before .before .before .before .before .before .before .before .before .before .before .before .before .before .before .before .before .before .before .before .before .before .before .before .pre .1) _ _ _ (c .before .before .before .before .before .before .before .before .before .before .before .before .before .before .before .before .before .before .before .before .before .before .lifted-at .ensures) (c .before .before .before .before .before .before .before .before .before .before .before .before .before .before .before .before .before .before .before .before .before .before .before .before .before .before .links-of .ensures .0) (c .before .before .before .before .before .before .before .before .before .before .before .before .before .before .before .before .before .before .before .before .before .before .before .before .before .before .links-of .ensures .1) _ (c .before .before .before .before .before .before .before .before .before .before .before .before .before .before .before .before .before .before .before .before .before .before .before .before .next-edge .ensures) (c .before .before .before .before .before .before .before .before .before .before .before .before .before .before .before .before .before .before .before .before .before .before .before .if1 .left) _ _ (c .before .before .before .before .before .before .before .before .before .before .before .before .before .before .before .before .before .before .before .before .save .ensures) (c .before .before .before .before .before .before .before .before .before .before .before .before .before .before .before .before .clear-weights2 .ensures) _ _ (c .before .before .before .before .before .before .before .before .before .before .send-edges .ensures) (c .before .before .before .if2 .left)), givers-begun _ _ _ _ _ (c .before .before .before .before .before .before .before .before .before .before .before .before .before .before .before .before .before .before .before .before .before .before .before .before .before .before .before .before .before .before .before .before .pre .1) _ _ _ (c .before .before .before .before .before .before .before .before .before .before .before .before .before .before .before .before .before .before .before .before .before .before .lifted-at .ensures) (c .before .before .before .before .before .before .before .before .before .before .before .before .before .before .before .before .before .before .before .before .before .before .before .before .before .before .links-of .ensures .0) (c .before .before .before .before .before .before .before .before .before .before .before .before .before .before .before .before .before .before .before .before .before .before .before .before .before .before .links-of .ensures .1) _ (c .before .before .before .before .before .before .before .before .before .before .before .before .before .before .before .before .before .before .before .before .before .before .before .before .next-edge .ensures) (c .before .before .before .before .before .before .before .before .before .before .before .before .before .before .before .before .before .before .before .before .before .before .before .if1 .left) _ _ (c .before .before .before .before .before .before .before .before .before .before .before .before .before .before .before .before .before .before .before .before .save .ensures) (c .before .before .before .before .before .before .before .before .before .before .before .before .before .before .before .before .clear-weights2 .ensures) _ _ (c .before .before .before .before .before .before .before .before .before .before .send-edges .ensures) (c .before .before .before .if2 .left))
+finalize-eq-finalize-eq-neighbors-requires t c κs =
+    let entry = c .before .before .before .before .before .before .before .before .before .before .before .before .before .before .before .before .before .before .before .before .before .before .before .before .before .before .before .before .before .before .before .before in
+    let links-of = c .before .before .before .before .before .before .before .before .before .before .before .before .before .before .before .before .before .before .before .before .before .before .before .before .before .before .links-of in
+    let next-edge = c .before .before .before .before .before .before .before .before .before .before .before .before .before .before .before .before .before .before .before .before .before .before .before .before .next-edge in
+    let if1 = c .before .before .before .before .before .before .before .before .before .before .before .before .before .before .before .before .before .before .before .before .before .before .before .if1 in
+    let lifted-at = c .before .before .before .before .before .before .before .before .before .before .before .before .before .before .before .before .before .before .before .before .before .before .lifted-at in
+    let save = c .before .before .before .before .before .before .before .before .before .before .before .before .before .before .before .before .before .before .before .before .save in
+    let clear-weights2 = c .before .before .before .before .before .before .before .before .before .before .before .before .before .before .before .before .clear-weights2 in
+    let send-edges = c .before .before .before .before .before .before .before .before .before .before .send-edges in
+    let if2 = c .before .before .before .if2 in
+    (omega (arith, entry .pre .0, fell _ _ _ _ _ (entry .pre .1) _ _ _ (lifted-at .ensures) (links-of .ensures .0) (links-of .ensures .1) _ (next-edge .ensures) (if1 .left) _ _ (save .ensures) (clear-weights2 .ensures) _ _ (send-edges .ensures) (if2 .left)), givers-begun _ _ _ _ _ (entry .pre .1) _ _ _ (lifted-at .ensures) (links-of .ensures .0) (links-of .ensures .1) _ (next-edge .ensures) (if1 .left) _ _ (save .ensures) (clear-weights2 .ensures) _ _ (send-edges .ensures) (if2 .left))
 
 finalize-eq-send-edges-requires-2 : (t : ℕ) → finalize-eq-lts.Need-send-edges-requires-2 (
   links-of-reads.Asked,
@@ -387,7 +457,18 @@ finalize-eq-send-edges-requires-2 : (t : ℕ) → finalize-eq-lts.Need-send-edge
   finalize-eq-neighbors-below t,
   finalize-eq-neighbors.Post,
 ) (finalize-eq-at t) finalize-eq.Post
-finalize-eq-send-edges-requires-2 t c κs = rest-going _ _ _ _ _ (c .before .before .before .before .before .before .before .before .before .before .before .before .before .before .before .before .before .before .before .before .before .before .before .before .before .before .before .before .before .before .before .before .before .before .before .before .before .before .before .before .before .before .pre .1) _ _ _ (c .before .before .before .before .before .before .before .before .before .before .before .before .before .before .before .before .before .before .before .before .before .before .before .before .before .before .before .before .before .before .before .before .lifted-at .ensures) (c .before .before .before .before .before .before .before .before .before .before .before .before .before .before .before .before .before .before .before .before .before .before .before .before .before .before .before .before .before .before .before .before .before .before .before .before .links-of .ensures .0) (c .before .before .before .before .before .before .before .before .before .before .before .before .before .before .before .before .before .before .before .before .before .before .before .before .before .before .before .before .before .before .before .before .before .before .before .before .links-of .ensures .1) _ (c .before .before .before .before .before .before .before .before .before .before .before .before .before .before .before .before .before .before .before .before .before .before .before .before .before .before .before .before .before .before .before .before .before .before .next-edge .ensures) (c .before .before .before .before .before .before .before .before .before .before .before .before .before .before .before .before .before .before .before .before .before .before .before .before .before .before .before .before .before .before .before .before .before .if1 .left) _ _ (c .before .before .before .before .before .before .before .before .before .before .before .before .before .before .before .before .before .before .before .before .before .before .before .before .before .before .before .before .before .before .save .ensures) (c .before .before .before .before .before .before .before .before .before .before .before .before .before .before .before .before .before .before .before .before .before .before .before .before .before .before .clear-weights2 .ensures) _ _ (c .before .before .before .before .before .before .before .before .before .before .before .before .before .before .before .before .before .before .before .before .send-edges .ensures) (c .before .before .before .before .before .before .before .before .before .before .before .before .before .if2 .left) _ (c .before .before .before .before .before .before .before .before .before .finalize-eq-neighbors .ensures)
+finalize-eq-send-edges-requires-2 t c κs =
+    let entry = c .before .before .before .before .before .before .before .before .before .before .before .before .before .before .before .before .before .before .before .before .before .before .before .before .before .before .before .before .before .before .before .before .before .before .before .before .before .before .before .before .before .before in
+    let links-of = c .before .before .before .before .before .before .before .before .before .before .before .before .before .before .before .before .before .before .before .before .before .before .before .before .before .before .before .before .before .before .before .before .before .before .before .before .links-of in
+    let next-edge = c .before .before .before .before .before .before .before .before .before .before .before .before .before .before .before .before .before .before .before .before .before .before .before .before .before .before .before .before .before .before .before .before .before .before .next-edge in
+    let if1 = c .before .before .before .before .before .before .before .before .before .before .before .before .before .before .before .before .before .before .before .before .before .before .before .before .before .before .before .before .before .before .before .before .before .if1 in
+    let lifted-at = c .before .before .before .before .before .before .before .before .before .before .before .before .before .before .before .before .before .before .before .before .before .before .before .before .before .before .before .before .before .before .before .before .lifted-at in
+    let save = c .before .before .before .before .before .before .before .before .before .before .before .before .before .before .before .before .before .before .before .before .before .before .before .before .before .before .before .before .before .before .save in
+    let clear-weights2 = c .before .before .before .before .before .before .before .before .before .before .before .before .before .before .before .before .before .before .before .before .before .before .before .before .before .before .clear-weights2 in
+    let send-edges = c .before .before .before .before .before .before .before .before .before .before .before .before .before .before .before .before .before .before .before .before .send-edges in
+    let if2 = c .before .before .before .before .before .before .before .before .before .before .before .before .before .if2 in
+    let finalize-eq-neighbors = c .before .before .before .before .before .before .before .before .before .finalize-eq-neighbors in
+    rest-going _ _ _ _ _ (entry .pre .1) _ _ _ (lifted-at .ensures) (links-of .ensures .0) (links-of .ensures .1) _ (next-edge .ensures) (if1 .left) _ _ (save .ensures) (clear-weights2 .ensures) _ _ (send-edges .ensures) (if2 .left) _ (finalize-eq-neighbors .ensures)
 
 finalize-eq-same-length-5 : (t : ℕ) → finalize-eq-lts.Need-same-length-5 (
   links-of-reads.Asked,
@@ -405,7 +486,20 @@ finalize-eq-same-length-5 : (t : ℕ) → finalize-eq-lts.Need-same-length-5 (
   finalize-eq-neighbors-below t,
   finalize-eq-neighbors.Post,
 ) (finalize-eq-at t) finalize-eq.Post
-finalize-eq-same-length-5 t c = rest-finishes _ _ _ _ _ (c .before .before .before .before .before .before .before .before .before .before .before .before .before .before .before .before .before .before .before .before .before .before .before .before .before .before .before .before .before .before .before .before .before .before .before .before .before .before .before .before .before .before .before .before .before .before .before .before .before .pre .1) _ _ _ (c .before .before .before .before .before .before .before .before .before .before .before .before .before .before .before .before .before .before .before .before .before .before .before .before .before .before .before .before .before .before .before .before .before .before .before .before .before .before .before .lifted-at .ensures) (c .before .before .before .before .before .before .before .before .before .before .before .before .before .before .before .before .before .before .before .before .before .before .before .before .before .before .before .before .before .before .before .before .before .before .before .before .before .before .before .before .before .before .before .links-of .ensures .0) (c .before .before .before .before .before .before .before .before .before .before .before .before .before .before .before .before .before .before .before .before .before .before .before .before .before .before .before .before .before .before .before .before .before .before .before .before .before .before .before .before .before .before .before .links-of .ensures .1) _ (c .before .before .before .before .before .before .before .before .before .before .before .before .before .before .before .before .before .before .before .before .before .before .before .before .before .before .before .before .before .before .before .before .before .before .before .before .before .before .before .before .before .next-edge .ensures) (c .before .before .before .before .before .before .before .before .before .before .before .before .before .before .before .before .before .before .before .before .before .before .before .before .before .before .before .before .before .before .before .before .before .before .before .before .before .before .before .before .if1 .left) _ _ (c .before .before .before .before .before .before .before .before .before .before .before .before .before .before .before .before .before .before .before .before .before .before .before .before .before .before .before .before .before .before .before .before .before .before .before .before .before .save .ensures) (c .before .before .before .before .before .before .before .before .before .before .before .before .before .before .before .before .before .before .before .before .before .before .before .before .before .before .before .before .before .before .before .before .before .clear-weights2 .ensures) _ _ (c .before .before .before .before .before .before .before .before .before .before .before .before .before .before .before .before .before .before .before .before .before .before .before .before .before .before .before .send-edges .ensures) (c .before .before .before .before .before .before .before .before .before .before .before .before .before .before .before .before .before .before .before .before .if2 .left) _ (c .before .before .before .before .before .before .before .before .before .before .before .before .before .before .before .before .finalize-eq-neighbors .ensures) _ _ (c .before .before .before .before .before .before .send-edges2 .ensures) .kept .gas
+finalize-eq-same-length-5 t c =
+    let entry = c .before .before .before .before .before .before .before .before .before .before .before .before .before .before .before .before .before .before .before .before .before .before .before .before .before .before .before .before .before .before .before .before .before .before .before
+    .before .before .before .before .before .before .before .before .before .before .before .before .before .before in
+    let links-of = c .before .before .before .before .before .before .before .before .before .before .before .before .before .before .before .before .before .before .before .before .before .before .before .before .before .before .before .before .before .before .before .before .before .before .before .before .before .before .before .before .before .before .before .links-of in
+    let next-edge = c .before .before .before .before .before .before .before .before .before .before .before .before .before .before .before .before .before .before .before .before .before .before .before .before .before .before .before .before .before .before .before .before .before .before .before .before .before .before .before .before .before .next-edge in
+    let if1 = c .before .before .before .before .before .before .before .before .before .before .before .before .before .before .before .before .before .before .before .before .before .before .before .before .before .before .before .before .before .before .before .before .before .before .before .before .before .before .before .before .if1 in
+    let lifted-at = c .before .before .before .before .before .before .before .before .before .before .before .before .before .before .before .before .before .before .before .before .before .before .before .before .before .before .before .before .before .before .before .before .before .before .before .before .before .before .before .lifted-at in
+    let save = c .before .before .before .before .before .before .before .before .before .before .before .before .before .before .before .before .before .before .before .before .before .before .before .before .before .before .before .before .before .before .before .before .before .before .before .before .before .save in
+    let clear-weights2 = c .before .before .before .before .before .before .before .before .before .before .before .before .before .before .before .before .before .before .before .before .before .before .before .before .before .before .before .before .before .before .before .before .before .clear-weights2 in
+    let send-edges = c .before .before .before .before .before .before .before .before .before .before .before .before .before .before .before .before .before .before .before .before .before .before .before .before .before .before .before .send-edges in
+    let if2 = c .before .before .before .before .before .before .before .before .before .before .before .before .before .before .before .before .before .before .before .before .if2 in
+    let finalize-eq-neighbors = c .before .before .before .before .before .before .before .before .before .before .before .before .before .before .before .before .finalize-eq-neighbors in
+    let send-edges2 = c .before .before .before .before .before .before .send-edges2 in
+    rest-finishes _ _ _ _ _ (entry .pre .1) _ _ _ (lifted-at .ensures) (links-of .ensures .0) (links-of .ensures .1) _ (next-edge .ensures) (if1 .left) _ _ (save .ensures) (clear-weights2 .ensures) _ _ (send-edges .ensures) (if2 .left) _ (finalize-eq-neighbors .ensures) _ _ (send-edges2 .ensures) .kept .gas
 
 finalize-eq-same-length-6 : (t : ℕ) → finalize-eq-lts.Need-same-length-6 (
   links-of-reads.Asked,
@@ -423,7 +517,20 @@ finalize-eq-same-length-6 : (t : ℕ) → finalize-eq-lts.Need-same-length-6 (
   finalize-eq-neighbors-below t,
   finalize-eq-neighbors.Post,
 ) (finalize-eq-at t) finalize-eq.Post
-finalize-eq-same-length-6 t c = rest-finishes _ _ _ _ _ (c .before .before .before .before .before .before .before .before .before .before .before .before .before .before .before .before .before .before .before .before .before .before .before .before .before .before .before .before .before .before .before .before .before .before .before .before .before .before .before .before .before .before .before .before .before .before .before .before .before .pre .1) _ _ _ (c .before .before .before .before .before .before .before .before .before .before .before .before .before .before .before .before .before .before .before .before .before .before .before .before .before .before .before .before .before .before .before .before .before .before .before .before .before .before .before .lifted-at .ensures) (c .before .before .before .before .before .before .before .before .before .before .before .before .before .before .before .before .before .before .before .before .before .before .before .before .before .before .before .before .before .before .before .before .before .before .before .before .before .before .before .before .before .before .before .links-of .ensures .0) (c .before .before .before .before .before .before .before .before .before .before .before .before .before .before .before .before .before .before .before .before .before .before .before .before .before .before .before .before .before .before .before .before .before .before .before .before .before .before .before .before .before .before .before .links-of .ensures .1) _ (c .before .before .before .before .before .before .before .before .before .before .before .before .before .before .before .before .before .before .before .before .before .before .before .before .before .before .before .before .before .before .before .before .before .before .before .before .before .before .before .before .before .next-edge .ensures) (c .before .before .before .before .before .before .before .before .before .before .before .before .before .before .before .before .before .before .before .before .before .before .before .before .before .before .before .before .before .before .before .before .before .before .before .before .before .before .before .before .if1 .left) _ _ (c .before .before .before .before .before .before .before .before .before .before .before .before .before .before .before .before .before .before .before .before .before .before .before .before .before .before .before .before .before .before .before .before .before .before .before .before .before .save .ensures) (c .before .before .before .before .before .before .before .before .before .before .before .before .before .before .before .before .before .before .before .before .before .before .before .before .before .before .before .before .before .before .before .before .before .clear-weights2 .ensures) _ _ (c .before .before .before .before .before .before .before .before .before .before .before .before .before .before .before .before .before .before .before .before .before .before .before .before .before .before .before .send-edges .ensures) (c .before .before .before .before .before .before .before .before .before .before .before .before .before .before .before .before .before .before .before .before .if2 .left) _ (c .before .before .before .before .before .before .before .before .before .before .before .before .before .before .before .before .finalize-eq-neighbors .ensures) _ _ (c .before .before .before .before .before .before .send-edges2 .ensures) .kept .floats
+finalize-eq-same-length-6 t c =
+    let entry = c .before .before .before .before .before .before .before .before .before .before .before .before .before .before .before .before .before .before .before .before .before .before .before .before .before .before .before .before .before .before .before .before .before .before .before
+    .before .before .before .before .before .before .before .before .before .before .before .before .before .before in
+    let links-of = c .before .before .before .before .before .before .before .before .before .before .before .before .before .before .before .before .before .before .before .before .before .before .before .before .before .before .before .before .before .before .before .before .before .before .before .before .before .before .before .before .before .before .before .links-of in
+    let next-edge = c .before .before .before .before .before .before .before .before .before .before .before .before .before .before .before .before .before .before .before .before .before .before .before .before .before .before .before .before .before .before .before .before .before .before .before .before .before .before .before .before .before .next-edge in
+    let if1 = c .before .before .before .before .before .before .before .before .before .before .before .before .before .before .before .before .before .before .before .before .before .before .before .before .before .before .before .before .before .before .before .before .before .before .before .before .before .before .before .before .if1 in
+    let lifted-at = c .before .before .before .before .before .before .before .before .before .before .before .before .before .before .before .before .before .before .before .before .before .before .before .before .before .before .before .before .before .before .before .before .before .before .before .before .before .before .before .lifted-at in
+    let save = c .before .before .before .before .before .before .before .before .before .before .before .before .before .before .before .before .before .before .before .before .before .before .before .before .before .before .before .before .before .before .before .before .before .before .before .before .before .save in
+    let clear-weights2 = c .before .before .before .before .before .before .before .before .before .before .before .before .before .before .before .before .before .before .before .before .before .before .before .before .before .before .before .before .before .before .before .before .before .clear-weights2 in
+    let send-edges = c .before .before .before .before .before .before .before .before .before .before .before .before .before .before .before .before .before .before .before .before .before .before .before .before .before .before .before .send-edges in
+    let if2 = c .before .before .before .before .before .before .before .before .before .before .before .before .before .before .before .before .before .before .before .before .if2 in
+    let finalize-eq-neighbors = c .before .before .before .before .before .before .before .before .before .before .before .before .before .before .before .before .finalize-eq-neighbors in
+    let send-edges2 = c .before .before .before .before .before .before .send-edges2 in
+    rest-finishes _ _ _ _ _ (entry .pre .1) _ _ _ (lifted-at .ensures) (links-of .ensures .0) (links-of .ensures .1) _ (next-edge .ensures) (if1 .left) _ _ (save .ensures) (clear-weights2 .ensures) _ _ (send-edges .ensures) (if2 .left) _ (finalize-eq-neighbors .ensures) _ _ (send-edges2 .ensures) .kept .floats
 
 finalize-eq-same-length-7 : (t : ℕ) → finalize-eq-lts.Need-same-length-7 (
   links-of-reads.Asked,
@@ -441,7 +548,20 @@ finalize-eq-same-length-7 : (t : ℕ) → finalize-eq-lts.Need-same-length-7 (
   finalize-eq-neighbors-below t,
   finalize-eq-neighbors.Post,
 ) (finalize-eq-at t) finalize-eq.Post
-finalize-eq-same-length-7 t c = rest-finishes _ _ _ _ _ (c .before .before .before .before .before .before .before .before .before .before .before .before .before .before .before .before .before .before .before .before .before .before .before .before .before .before .before .before .before .before .before .before .before .before .before .before .before .before .before .before .before .before .before .before .before .before .before .before .before .pre .1) _ _ _ (c .before .before .before .before .before .before .before .before .before .before .before .before .before .before .before .before .before .before .before .before .before .before .before .before .before .before .before .before .before .before .before .before .before .before .before .before .before .before .before .lifted-at .ensures) (c .before .before .before .before .before .before .before .before .before .before .before .before .before .before .before .before .before .before .before .before .before .before .before .before .before .before .before .before .before .before .before .before .before .before .before .before .before .before .before .before .before .before .before .links-of .ensures .0) (c .before .before .before .before .before .before .before .before .before .before .before .before .before .before .before .before .before .before .before .before .before .before .before .before .before .before .before .before .before .before .before .before .before .before .before .before .before .before .before .before .before .before .before .links-of .ensures .1) _ (c .before .before .before .before .before .before .before .before .before .before .before .before .before .before .before .before .before .before .before .before .before .before .before .before .before .before .before .before .before .before .before .before .before .before .before .before .before .before .before .before .before .next-edge .ensures) (c .before .before .before .before .before .before .before .before .before .before .before .before .before .before .before .before .before .before .before .before .before .before .before .before .before .before .before .before .before .before .before .before .before .before .before .before .before .before .before .before .if1 .left) _ _ (c .before .before .before .before .before .before .before .before .before .before .before .before .before .before .before .before .before .before .before .before .before .before .before .before .before .before .before .before .before .before .before .before .before .before .before .before .before .save .ensures) (c .before .before .before .before .before .before .before .before .before .before .before .before .before .before .before .before .before .before .before .before .before .before .before .before .before .before .before .before .before .before .before .before .before .clear-weights2 .ensures) _ _ (c .before .before .before .before .before .before .before .before .before .before .before .before .before .before .before .before .before .before .before .before .before .before .before .before .before .before .before .send-edges .ensures) (c .before .before .before .before .before .before .before .before .before .before .before .before .before .before .before .before .before .before .before .before .if2 .left) _ (c .before .before .before .before .before .before .before .before .before .before .before .before .before .before .before .before .finalize-eq-neighbors .ensures) _ _ (c .before .before .before .before .before .before .send-edges2 .ensures) .kept .events
+finalize-eq-same-length-7 t c =
+    let entry = c .before .before .before .before .before .before .before .before .before .before .before .before .before .before .before .before .before .before .before .before .before .before .before .before .before .before .before .before .before .before .before .before .before .before .before
+    .before .before .before .before .before .before .before .before .before .before .before .before .before .before in
+    let links-of = c .before .before .before .before .before .before .before .before .before .before .before .before .before .before .before .before .before .before .before .before .before .before .before .before .before .before .before .before .before .before .before .before .before .before .before .before .before .before .before .before .before .before .before .links-of in
+    let next-edge = c .before .before .before .before .before .before .before .before .before .before .before .before .before .before .before .before .before .before .before .before .before .before .before .before .before .before .before .before .before .before .before .before .before .before .before .before .before .before .before .before .before .next-edge in
+    let if1 = c .before .before .before .before .before .before .before .before .before .before .before .before .before .before .before .before .before .before .before .before .before .before .before .before .before .before .before .before .before .before .before .before .before .before .before .before .before .before .before .before .if1 in
+    let lifted-at = c .before .before .before .before .before .before .before .before .before .before .before .before .before .before .before .before .before .before .before .before .before .before .before .before .before .before .before .before .before .before .before .before .before .before .before .before .before .before .before .lifted-at in
+    let save = c .before .before .before .before .before .before .before .before .before .before .before .before .before .before .before .before .before .before .before .before .before .before .before .before .before .before .before .before .before .before .before .before .before .before .before .before .before .save in
+    let clear-weights2 = c .before .before .before .before .before .before .before .before .before .before .before .before .before .before .before .before .before .before .before .before .before .before .before .before .before .before .before .before .before .before .before .before .before .clear-weights2 in
+    let send-edges = c .before .before .before .before .before .before .before .before .before .before .before .before .before .before .before .before .before .before .before .before .before .before .before .before .before .before .before .send-edges in
+    let if2 = c .before .before .before .before .before .before .before .before .before .before .before .before .before .before .before .before .before .before .before .before .if2 in
+    let finalize-eq-neighbors = c .before .before .before .before .before .before .before .before .before .before .before .before .before .before .before .before .finalize-eq-neighbors in
+    let send-edges2 = c .before .before .before .before .before .before .send-edges2 in
+    rest-finishes _ _ _ _ _ (entry .pre .1) _ _ _ (lifted-at .ensures) (links-of .ensures .0) (links-of .ensures .1) _ (next-edge .ensures) (if1 .left) _ _ (save .ensures) (clear-weights2 .ensures) _ _ (send-edges .ensures) (if2 .left) _ (finalize-eq-neighbors .ensures) _ _ (send-edges2 .ensures) .kept .events
 
 finalize-eq-returns-3 : (t : ℕ) → finalize-eq-lts.Need-returns-3 (
   links-of-reads.Asked,
@@ -459,7 +579,20 @@ finalize-eq-returns-3 : (t : ℕ) → finalize-eq-lts.Need-returns-3 (
   finalize-eq-neighbors-below t,
   finalize-eq-neighbors.Post,
 ) (finalize-eq-at t) finalize-eq.Post
-finalize-eq-returns-3 t c = rest-finishes _ _ _ _ _ (c .before .before .before .before .before .before .before .before .before .before .before .before .before .before .before .before .before .before .before .before .before .before .before .before .before .before .before .before .before .before .before .before .before .before .before .before .before .before .before .before .before .before .before .before .before .before .before .before .before .pre .1) _ _ _ (c .before .before .before .before .before .before .before .before .before .before .before .before .before .before .before .before .before .before .before .before .before .before .before .before .before .before .before .before .before .before .before .before .before .before .before .before .before .before .before .lifted-at .ensures) (c .before .before .before .before .before .before .before .before .before .before .before .before .before .before .before .before .before .before .before .before .before .before .before .before .before .before .before .before .before .before .before .before .before .before .before .before .before .before .before .before .before .before .before .links-of .ensures .0) (c .before .before .before .before .before .before .before .before .before .before .before .before .before .before .before .before .before .before .before .before .before .before .before .before .before .before .before .before .before .before .before .before .before .before .before .before .before .before .before .before .before .before .before .links-of .ensures .1) _ (c .before .before .before .before .before .before .before .before .before .before .before .before .before .before .before .before .before .before .before .before .before .before .before .before .before .before .before .before .before .before .before .before .before .before .before .before .before .before .before .before .before .next-edge .ensures) (c .before .before .before .before .before .before .before .before .before .before .before .before .before .before .before .before .before .before .before .before .before .before .before .before .before .before .before .before .before .before .before .before .before .before .before .before .before .before .before .before .if1 .left) _ _ (c .before .before .before .before .before .before .before .before .before .before .before .before .before .before .before .before .before .before .before .before .before .before .before .before .before .before .before .before .before .before .before .before .before .before .before .before .before .save .ensures) (c .before .before .before .before .before .before .before .before .before .before .before .before .before .before .before .before .before .before .before .before .before .before .before .before .before .before .before .before .before .before .before .before .before .clear-weights2 .ensures) _ _ (c .before .before .before .before .before .before .before .before .before .before .before .before .before .before .before .before .before .before .before .before .before .before .before .before .before .before .before .send-edges .ensures) (c .before .before .before .before .before .before .before .before .before .before .before .before .before .before .before .before .before .before .before .before .if2 .left) _ (c .before .before .before .before .before .before .before .before .before .before .before .before .before .before .before .before .finalize-eq-neighbors .ensures) _ _ (c .before .before .before .before .before .before .send-edges2 .ensures)
+finalize-eq-returns-3 t c =
+    let entry = c .before .before .before .before .before .before .before .before .before .before .before .before .before .before .before .before .before .before .before .before .before .before .before .before .before .before .before .before .before .before .before .before .before .before .before
+    .before .before .before .before .before .before .before .before .before .before .before .before .before .before in
+    let links-of = c .before .before .before .before .before .before .before .before .before .before .before .before .before .before .before .before .before .before .before .before .before .before .before .before .before .before .before .before .before .before .before .before .before .before .before .before .before .before .before .before .before .before .before .links-of in
+    let next-edge = c .before .before .before .before .before .before .before .before .before .before .before .before .before .before .before .before .before .before .before .before .before .before .before .before .before .before .before .before .before .before .before .before .before .before .before .before .before .before .before .before .before .next-edge in
+    let if1 = c .before .before .before .before .before .before .before .before .before .before .before .before .before .before .before .before .before .before .before .before .before .before .before .before .before .before .before .before .before .before .before .before .before .before .before .before .before .before .before .before .if1 in
+    let lifted-at = c .before .before .before .before .before .before .before .before .before .before .before .before .before .before .before .before .before .before .before .before .before .before .before .before .before .before .before .before .before .before .before .before .before .before .before .before .before .before .before .lifted-at in
+    let save = c .before .before .before .before .before .before .before .before .before .before .before .before .before .before .before .before .before .before .before .before .before .before .before .before .before .before .before .before .before .before .before .before .before .before .before .before .before .save in
+    let clear-weights2 = c .before .before .before .before .before .before .before .before .before .before .before .before .before .before .before .before .before .before .before .before .before .before .before .before .before .before .before .before .before .before .before .before .before .clear-weights2 in
+    let send-edges = c .before .before .before .before .before .before .before .before .before .before .before .before .before .before .before .before .before .before .before .before .before .before .before .before .before .before .before .send-edges in
+    let if2 = c .before .before .before .before .before .before .before .before .before .before .before .before .before .before .before .before .before .before .before .before .if2 in
+    let finalize-eq-neighbors = c .before .before .before .before .before .before .before .before .before .before .before .before .before .before .before .before .finalize-eq-neighbors in
+    let send-edges2 = c .before .before .before .before .before .before .send-edges2 in
+    rest-finishes _ _ _ _ _ (entry .pre .1) _ _ _ (lifted-at .ensures) (links-of .ensures .0) (links-of .ensures .1) _ (next-edge .ensures) (if1 .left) _ _ (save .ensures) (clear-weights2 .ensures) _ _ (send-edges .ensures) (if2 .left) _ (finalize-eq-neighbors .ensures) _ _ (send-edges2 .ensures)
 
 abbrev finalize-eq-neighbors-Inv-loop : finalize-eq-neighbors-lts.InvT-loop
 finalize-eq-neighbors-Inv-loop used rows marks gas₀ words floats₀ events₀ zone gases row from to neighbours up now₀ k₀ gas floats events now k =
@@ -569,7 +702,10 @@ finalize-eq-neighbors-next-edge-requires :
     finalize-eq-neighbors.Post
     finalize-eq-neighbors-Inv-loop
     finalize-eq-neighbors-μ-loop
-finalize-eq-neighbors-next-edge-requires t c κs = links-room _ _ _ _ _ (c .before .before .before .before .before .before .before .before .before .pre .1) _ _ _ (c .before .lifted-at .ensures) (c .before .before .before .links-of .ensures .0) (c .before .before .before .links-of .ensures .1) (now (c .before .before .before .before .before .before .before .before .before .args .floats)) refl
+finalize-eq-neighbors-next-edge-requires t c κs =
+    let entry = c .before .before .before .before .before .before .before .before .before in
+    let links-of = c .before .before .before .links-of in
+    links-room _ _ _ _ _ (entry .pre .1) _ _ _ (c .before .lifted-at .ensures) (links-of .ensures .0) (links-of .ensures .1) (now (entry .args .floats)) refl
 
 finalize-eq-neighbors-loop-holds : (t : ℕ) → finalize-eq-neighbors-lts.Need-loop-holds (
   links-of-reads.Asked,
@@ -585,7 +721,9 @@ finalize-eq-neighbors-loop-holds : (t : ℕ) → finalize-eq-neighbors-lts.Need-
     finalize-eq-neighbors.Post
     finalize-eq-neighbors-Inv-loop
     finalize-eq-neighbors-μ-loop
-finalize-eq-neighbors-loop-holds t c = loop-start _ _ _ _ _ (c .before .before .before .before .before .before .before .before .before .before .pre .1) _ _ _ (c .before .before .lifted-at .ensures) (c .before .before .before .before .links-of .ensures .0) (c .before .before .before .before .links-of .ensures .1) _ (c .next-edge .ensures)
+finalize-eq-neighbors-loop-holds t c =
+    let links-of = c .before .before .before .before .links-of in
+    loop-start _ _ _ _ _ (c .before .before .before .before .before .before .before .before .before .before .pre .1) _ _ _ (c .before .before .lifted-at .ensures) (links-of .ensures .0) (links-of .ensures .1) _ (c .next-edge .ensures)
 
 finalize-eq-neighbors-mul-t32 : (t : ℕ) → finalize-eq-neighbors-lts.Need-mul-t32 (
   links-of-reads.Asked,
@@ -601,7 +739,10 @@ finalize-eq-neighbors-mul-t32 : (t : ℕ) → finalize-eq-neighbors-lts.Need-mul
     finalize-eq-neighbors.Post
     finalize-eq-neighbors-Inv-loop
     finalize-eq-neighbors-μ-loop
-finalize-eq-neighbors-mul-t32 t c = let e = link-below _ _ _ _ _ (c .before .before .before .before .before .before .before .before .before .before .before .before .pre .1) _ _ _ (c .before .before .before .before .lifted-at .ensures) (c .before .before .before .before .before .before .links-of .ensures .0) (c .before .before .before .before .before .before .links-of .ensures .1) _ _ (c .before .loop .inv) (c .loop-test .taken) in omega (arith, e .0, e .1)
+finalize-eq-neighbors-mul-t32 t c =
+    let entry = c .before .before .before .before .before .before .before .before .before .before .before .before in
+    let links-of = c .before .before .before .before .before .before .links-of in
+    let e = link-below _ _ _ _ _ (entry .pre .1) _ _ _ (c .before .before .before .before .lifted-at .ensures) (links-of .ensures .0) (links-of .ensures .1) _ _ (c .before .loop .inv) (c .loop-test .taken) in omega (arith, e .0, e .1)
 
 finalize-eq-neighbors-shared-slice-read-t34 :
     (t : ℕ) → finalize-eq-neighbors-lts.Need-shared-slice-read-t34 (
@@ -618,7 +759,10 @@ finalize-eq-neighbors-shared-slice-read-t34 :
     finalize-eq-neighbors.Post
     finalize-eq-neighbors-Inv-loop
     finalize-eq-neighbors-μ-loop
-finalize-eq-neighbors-shared-slice-read-t34 t c = link-below _ _ _ _ _ (c .before .before .before .before .before .before .before .before .before .before .before .before .before .pre .1) _ _ _ (c .before .before .before .before .before .lifted-at .ensures) (c .before .before .before .before .before .before .before .links-of .ensures .0) (c .before .before .before .before .before .before .before .links-of .ensures .1) _ _ (c .before .before .loop .inv) (c .before .loop-test .taken) .0
+finalize-eq-neighbors-shared-slice-read-t34 t c =
+    let entry = c .before .before .before .before .before .before .before .before .before .before .before .before .before in
+    let links-of = c .before .before .before .before .before .before .before .links-of in
+    link-below _ _ _ _ _ (entry .pre .1) _ _ _ (c .before .before .before .before .before .lifted-at .ensures) (links-of .ensures .0) (links-of .ensures .1) _ _ (c .before .before .loop .inv) (c .before .loop-test .taken) .0
 
 finalize-eq-neighbors-cast-t35 : (t : ℕ) → finalize-eq-neighbors-lts.Need-cast-t35 (
   links-of-reads.Asked,
@@ -651,7 +795,12 @@ finalize-eq-neighbors-finalize-eq-requires :
     finalize-eq-neighbors.Post
     finalize-eq-neighbors-Inv-loop
     finalize-eq-neighbors-μ-loop
-finalize-eq-neighbors-finalize-eq-requires t c κs = (omega (arith, c .before .before .before .before .before .before .before .before .before .before .before .before .before .before .before .before .pre .0, c .before .before .before .before .before .loop .inv .made .fewer), giver-begun _ _ _ _ _ (c .before .before .before .before .before .before .before .before .before .before .before .before .before .before .before .before .pre .1) _ _ _ (c .before .before .before .before .before .before .before .before .lifted-at .ensures) (c .before .before .before .before .before .before .before .before .before .before .links-of .ensures .0) (c .before .before .before .before .before .before .before .before .before .before .links-of .ensures .1) _ _ (c .before .before .before .before .before .loop .inv) (c .before .before .before .before .loop-test .taken))
+finalize-eq-neighbors-finalize-eq-requires t c κs =
+    let entry = c .before .before .before .before .before .before .before .before .before .before .before .before .before .before .before .before in
+    let links-of = c .before .before .before .before .before .before .before .before .before .before .links-of in
+    let lifted-at = c .before .before .before .before .before .before .before .before .lifted-at in
+    let loop = c .before .before .before .before .before .loop in
+    (omega (arith, entry .pre .0, loop .inv .made .fewer), giver-begun _ _ _ _ _ (entry .pre .1) _ _ _ (lifted-at .ensures) (links-of .ensures .0) (links-of .ensures .1) _ _ (loop .inv) (c .before .before .before .before .loop-test .taken))
 
 finalize-eq-neighbors-add-next-edge : (t : ℕ) → finalize-eq-neighbors-lts.Need-add-next-edge (
   links-of-reads.Asked,
@@ -667,7 +816,13 @@ finalize-eq-neighbors-add-next-edge : (t : ℕ) → finalize-eq-neighbors-lts.Ne
     finalize-eq-neighbors.Post
     finalize-eq-neighbors-Inv-loop
     finalize-eq-neighbors-μ-loop
-finalize-eq-neighbors-add-next-edge t c = let e = link-below _ _ _ _ _ (c .before .before .before .before .before .before .before .before .before .before .before .before .before .before .before .before .before .before .before .before .before .before .before .pre .1) _ _ _ (c .before .before .before .before .before .before .before .before .before .before .before .before .before .before .before .lifted-at .ensures) (c .before .before .before .before .before .before .before .before .before .before .before .before .before .before .before .before .before .links-of .ensures .0) (c .before .before .before .before .before .before .before .before .before .before .before .before .before .before .before .before .before .links-of .ensures .1) _ _ (c .before .before .before .before .before .before .before .before .before .before .before .before .loop .inv) (c .before .before .before .before .before .before .before .before .before .before .before .loop-test .taken) in omega (arith, e .0, e .1)
+finalize-eq-neighbors-add-next-edge t c =
+    let entry = c .before .before .before .before .before .before .before .before .before .before .before .before .before .before .before .before .before .before .before .before .before .before .before in
+    let links-of = c .before .before .before .before .before .before .before .before .before .before .before .before .before .before .before .before .before .links-of in
+    let lifted-at = c .before .before .before .before .before .before .before .before .before .before .before .before .before .before .before .lifted-at in
+    let loop = c .before .before .before .before .before .before .before .before .before .before .before .before .loop in
+    let loop-test = c .before .before .before .before .before .before .before .before .before .before .before .loop-test in
+    let e = link-below _ _ _ _ _ (entry .pre .1) _ _ _ (lifted-at .ensures) (links-of .ensures .0) (links-of .ensures .1) _ _ (loop .inv) (loop-test .taken) in omega (arith, e .0, e .1)
 
 finalize-eq-neighbors-next-edge-requires-2 :
     (t : ℕ) → finalize-eq-neighbors-lts.Need-next-edge-requires-2 (
@@ -684,7 +839,14 @@ finalize-eq-neighbors-next-edge-requires-2 :
     finalize-eq-neighbors.Post
     finalize-eq-neighbors-Inv-loop
     finalize-eq-neighbors-μ-loop
-finalize-eq-neighbors-next-edge-requires-2 t c κs = edge-room _ _ _ _ _ (c .before .before .before .before .before .before .before .before .before .before .before .before .before .before .before .before .before .before .before .before .before .before .before .before .pre .1) _ _ _ (c .before .before .before .before .before .before .before .before .before .before .before .before .before .before .before .before .lifted-at .ensures) (c .before .before .before .before .before .before .before .before .before .before .before .before .before .before .before .before .before .before .links-of .ensures .0) (c .before .before .before .before .before .before .before .before .before .before .before .before .before .before .before .before .before .before .links-of .ensures .1) _ _ (c .before .before .before .before .before .before .before .before .before .before .before .before .before .loop .inv) (c .before .before .before .before .before .before .before .before .before .before .before .before .loop-test .taken) (c .before .before .before .before .before .before .before .finalize-eq .last .1 .1 .1 .1 .1 .1 .0) (c .before .before .before .before .before .before .before .finalize-eq .ensures .kept .floats)
+finalize-eq-neighbors-next-edge-requires-2 t c κs =
+    let entry = c .before .before .before .before .before .before .before .before .before .before .before .before .before .before .before .before .before .before .before .before .before .before .before .before in
+    let links-of = c .before .before .before .before .before .before .before .before .before .before .before .before .before .before .before .before .before .before .links-of in
+    let lifted-at = c .before .before .before .before .before .before .before .before .before .before .before .before .before .before .before .before .lifted-at in
+    let loop = c .before .before .before .before .before .before .before .before .before .before .before .before .before .loop in
+    let loop-test = c .before .before .before .before .before .before .before .before .before .before .before .before .loop-test in
+    let finalize-eq = c .before .before .before .before .before .before .before .finalize-eq in
+    edge-room _ _ _ _ _ (entry .pre .1) _ _ _ (lifted-at .ensures) (links-of .ensures .0) (links-of .ensures .1) _ _ (loop .inv) (loop-test .taken) (finalize-eq .last .1 .1 .1 .1 .1 .1 .0) (finalize-eq .ensures .kept .floats)
 
 finalize-eq-neighbors-loop-less : (t : ℕ) → finalize-eq-neighbors-lts.Need-loop-less (
   links-of-reads.Asked,
@@ -716,7 +878,14 @@ finalize-eq-neighbors-loop-again : (t : ℕ) → finalize-eq-neighbors-lts.Need-
     finalize-eq-neighbors.Post
     finalize-eq-neighbors-Inv-loop
     finalize-eq-neighbors-μ-loop
-finalize-eq-neighbors-loop-again t c = loop-next _ _ _ _ _ (c .before .before .before .before .before .before .before .before .before .before .before .before .before .before .before .before .before .before .before .before .before .before .before .before .before .pre .1) _ _ _ (c .before .before .before .before .before .before .before .before .before .before .before .before .before .before .before .before .before .lifted-at .ensures) (c .before .before .before .before .before .before .before .before .before .before .before .before .before .before .before .before .before .before .before .links-of .ensures .0) (c .before .before .before .before .before .before .before .before .before .before .before .before .before .before .before .before .before .before .before .links-of .ensures .1) _ _ (c .before .before .before .before .before .before .before .before .before .before .before .before .before .before .loop .inv) (c .before .before .before .before .before .before .before .before .before .before .before .before .before .loop-test .taken) _ _ (c .before .before .before .before .before .before .before .before .finalize-eq .ensures) (c .next-edge2 .ensures)
+finalize-eq-neighbors-loop-again t c =
+    let entry = c .before .before .before .before .before .before .before .before .before .before .before .before .before .before .before .before .before .before .before .before .before .before .before .before .before in
+    let links-of = c .before .before .before .before .before .before .before .before .before .before .before .before .before .before .before .before .before .before .before .links-of in
+    let lifted-at = c .before .before .before .before .before .before .before .before .before .before .before .before .before .before .before .before .before .lifted-at in
+    let loop = c .before .before .before .before .before .before .before .before .before .before .before .before .before .before .loop in
+    let loop-test = c .before .before .before .before .before .before .before .before .before .before .before .before .before .loop-test in
+    let finalize-eq = c .before .before .before .before .before .before .before .before .finalize-eq in
+    loop-next _ _ _ _ _ (entry .pre .1) _ _ _ (lifted-at .ensures) (links-of .ensures .0) (links-of .ensures .1) _ _ (loop .inv) (loop-test .taken) _ _ (finalize-eq .ensures) (c .next-edge2 .ensures)
 
 finalize-eq-neighbors-same-length : (t : ℕ) → finalize-eq-neighbors-lts.Need-same-length (
   links-of-reads.Asked,
@@ -780,7 +949,10 @@ finalize-eq-neighbors-returns : (t : ℕ) → finalize-eq-neighbors-lts.Need-ret
     finalize-eq-neighbors.Post
     finalize-eq-neighbors-Inv-loop
     finalize-eq-neighbors-μ-loop
-finalize-eq-neighbors-returns t c = givers-finished _ _ _ _ _ (c .before .before .before .before .before .before .before .before .before .before .before .before .pre .1) _ _ _ (c .before .before .before .before .lifted-at .ensures) (c .before .before .before .before .before .before .links-of .ensures .0) (c .before .before .before .before .before .before .links-of .ensures .1) _ _ (c .before .loop .inv) (c .loop-test .left)
+finalize-eq-neighbors-returns t c =
+    let entry = c .before .before .before .before .before .before .before .before .before .before .before .before in
+    let links-of = c .before .before .before .before .before .before .links-of in
+    givers-finished _ _ _ _ _ (entry .pre .1) _ _ _ (c .before .before .before .before .lifted-at .ensures) (links-of .ensures .0) (links-of .ensures .1) _ _ (c .before .loop .inv) (c .loop-test .left)
 
 pub +finalize-eq+finalize-eq-neighbors-spec : {M : Type 1} → statement M
 +finalize-eq+finalize-eq-neighbors-spec =

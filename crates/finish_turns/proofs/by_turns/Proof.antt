@@ -20,81 +20,83 @@ Inv-loop zones turns at used rows marks gas₀ words₀ floats₀ events₀ live
 abbrev μ-loop : tie.MeasureT-loop
 μ-loop zones turns at used rows marks gas₀ words₀ floats₀ events₀ live₀ now₀ i₀ gas words floats events live now i = length turns - i
 
--- src/lib.rt:162:44
 element-copy-out-start : tie.Need-element-copy-out-start Inv-loop μ-loop
 element-copy-out-start c = search needs
 
--- src/lib.rt:162:9
 start-requires : tie.Need-start-requires Inv-loop μ-loop
-start-requires c κs = (c .before .before .before .before .before .before .pre .1, c .before .before .before .before .before .before .pre .0 .ready .board .turfs .1)
+start-requires c κs =
+    let entry = c .before .before .before .before .before .before in
+    (entry .pre .1, entry .pre .0 .ready .board .turfs .1)
 
--- src/lib.rt:165:5
 loop-holds : tie.Need-loop-holds Inv-loop μ-loop
-loop-holds c = taking-start _ _ _ _ _ (c .before .before .start .ensures) (c .before .before .before .before .before .before .before .before .before .pre .1) (c .before .before .before .before .before .before .before .before .before .pre .0 .arrays)
+loop-holds c =
+    let entry = c .before .before .before .before .before .before .before .before .before in
+    taking-start _ _ _ _ _ (c .before .before .start .ensures) (entry .pre .1) (entry .pre .0 .arrays)
 
--- src/lib.rt:167:13
 same-length : tie.Need-same-length Inv-loop μ-loop
 same-length c = c .before .before .loop .inv .to .did .kept .gas
 
--- src/lib.rt:167:13
 same-length-2 : tie.Need-same-length-2 Inv-loop μ-loop
 same-length-2 c = c .before .before .loop .inv .to .did .words .size ∙ c .before .before .before .before .before .start .ensures .beside .size
 
--- src/lib.rt:167:13
 same-length-3 : tie.Need-same-length-3 Inv-loop μ-loop
 same-length-3 c = c .before .before .loop .inv .to .did .kept .floats
 
--- src/lib.rt:167:13
 same-length-4 : tie.Need-same-length-4 Inv-loop μ-loop
 same-length-4 c = c .before .before .loop .inv .to .did .kept .events
 
--- src/lib.rt:167:13
 returns : tie.Need-returns Inv-loop μ-loop
-returns c = from-start _ _ _ _ (c .before .before .before .before .before .before .before .before .before .before .before .before .pre .0 .links) (c .before .before .before .before .before .start .ensures) (taking-none _ _ _ _ _ _ (started-fit (c .before .before .before .before .before .before .before .before .before .before .before .before .pre .0) (c .before .before .before .before .before .start .ensures)) (started-laid (c .before .before .before .before .before .before .before .before .before .before .before .before .pre .1) (c .before .before .before .before .before .start .ensures)) _ _ _ _ (c .before .before .loop .inv) (c .if1 .taken))
+returns c =
+    let entry = c .before .before .before .before .before .before .before .before .before .before .before .before in
+    let start = c .before .before .before .before .before .start in
+    from-start _ _ _ _ (entry .pre .0 .links) (start .ensures) (taking-none _ _ _ _ _ _ (started-fit (entry .pre .0) (start .ensures)) (started-laid (entry .pre .1) (start .ensures)) _ _ _ _ (c .before .before .loop .inv) (c .if1 .taken))
 
--- src/lib.rt:170:22
 mul-turn : tie.Need-mul-turn Inv-loop μ-loop
 mul-turn c = omega (arith, c .before .before .before .before .before .before .before .before .before .before .before .before .good, c .before .loop-test .taken)
 
--- src/lib.rt:170:22
 shared-slice-read-turn : tie.Need-shared-slice-read-turn Inv-loop μ-loop
 shared-slice-read-turn c = c .before .before .loop-test .taken
 
--- src/lib.rt:170:13
 turn-requires : tie.Need-turn-requires Inv-loop μ-loop
-turn-requires c κs = (taking-fit _ _ _ _ _ _ (started-fit (c .before .before .before .before .before .before .before .before .before .before .before .before .before .before .before .before .before .pre .0) (c .before .before .before .before .before .before .before .before .before .before .start .ensures)) (started-laid (c .before .before .before .before .before .before .before .before .before .before .before .before .before .before .before .before .before .pre .1) (c .before .before .before .before .before .before .before .before .before .before .start .ensures)) _ _ _ _ (c .before .before .before .before .before .before .before .loop .inv), taking-live _ _ _ _ _ _ (started-fit (c .before .before .before .before .before .before .before .before .before .before .before .before .before .before .before .before .before .pre .0) (c .before .before .before .before .before .before .before .before .before .before .start .ensures)) (started-laid (c .before .before .before .before .before .before .before .before .before .before .before .before .before .before .before .before .before .pre .1) (c .before .before .before .before .before .before .before .before .before .before .start .ensures)) _ _ _ _ (c .before .before .before .before .before .before .before .loop .inv) (c .before .before .before .before .before .if1 .left))
+turn-requires c κs =
+    let entry = c .before .before .before .before .before .before .before .before .before .before .before .before .before .before .before .before .before in
+    let start = c .before .before .before .before .before .before .before .before .before .before .start in
+    let loop = c .before .before .before .before .before .before .before .loop in
+    (taking-fit _ _ _ _ _ _ (started-fit (entry .pre .0) (start .ensures)) (started-laid (entry .pre .1) (start .ensures)) _ _ _ _ (loop .inv), taking-live _ _ _ _ _ _ (started-fit (entry .pre .0) (start .ensures)) (started-laid (entry .pre .1) (start .ensures)) _ _ _ _ (loop .inv) (c .before .before .before .before .before .if1 .left))
 
--- src/lib.rt:173:9
 add-i : tie.Need-add-i Inv-loop μ-loop
 add-i c = omega (arith, c .before .before .before .before .before .before .before .before .before .before .before .before .before .before .before .before .before .before .before .before .before .before .before .before .before .before .good, c .before .before .before .before .before .before .before .before .before .before .before .before .before .before .before .loop-test .taken)
 
--- src/lib.rt:165:5
 loop-less : tie.Need-loop-less Inv-loop μ-loop
 loop-less c = omega (arith, c .before .before .before .before .before .before .before .before .before .before .before .before .before .before .before .loop-test .taken)
 
--- src/lib.rt:165:5
 loop-again : tie.Need-loop-again Inv-loop μ-loop
-loop-again c = taking-next _ _ _ _ _ _ (started-fit (c .before .before .before .before .before .before .before .before .before .before .before .before .before .before .before .before .before .before .before .before .before .before .before .before .before .before .pre .0) (c .before .before .before .before .before .before .before .before .before .before .before .before .before .before .before .before .before .before .before .start .ensures)) (started-laid (c .before .before .before .before .before .before .before .before .before .before .before .before .before .before .before .before .before .before .before .before .before .before .before .before .before .before .pre .1) (c .before .before .before .before .before .before .before .before .before .before .before .before .before .before .before .before .before .before .before .start .ensures)) _ _ _ _ (c .before .before .before .before .before .before .before .before .before .before .before .before .before .before .before .before .loop .inv) (c .before .before .before .before .before .before .before .before .before .before .before .before .before .before .if1 .left) (c .before .before .before .before .before .before .before .before .before .before .before .before .before .before .before .loop-test .taken) _ _ _ (c .before .before .before .before .before .before .before .before .turn .ensures)
+loop-again c =
+    let entry = c .before .before .before .before .before .before .before .before .before .before .before .before .before .before .before .before .before .before .before .before .before .before .before .before .before .before in
+    let start = c .before .before .before .before .before .before .before .before .before .before .before .before .before .before .before .before .before .before .before .start in
+    let loop = c .before .before .before .before .before .before .before .before .before .before .before .before .before .before .before .before .loop in
+    let loop-test = c .before .before .before .before .before .before .before .before .before .before .before .before .before .before .before .loop-test in
+    let if1 = c .before .before .before .before .before .before .before .before .before .before .before .before .before .before .if1 in
+    let turn = c .before .before .before .before .before .before .before .before .turn in
+    taking-next _ _ _ _ _ _ (started-fit (entry .pre .0) (start .ensures)) (started-laid (entry .pre .1) (start .ensures)) _ _ _ _ (loop .inv) (if1 .left) (loop-test .taken) _ _ _ (turn .ensures)
 
--- src/lib.rt:146:1
 same-length-5 : tie.Need-same-length-5 Inv-loop μ-loop
 same-length-5 c = c .before .loop .inv .to .did .kept .gas
 
--- src/lib.rt:146:1
 same-length-6 : tie.Need-same-length-6 Inv-loop μ-loop
 same-length-6 c = c .before .loop .inv .to .did .words .size ∙ c .before .before .before .before .start .ensures .beside .size
 
--- src/lib.rt:146:1
 same-length-7 : tie.Need-same-length-7 Inv-loop μ-loop
 same-length-7 c = c .before .loop .inv .to .did .kept .floats
 
--- src/lib.rt:146:1
 same-length-8 : tie.Need-same-length-8 Inv-loop μ-loop
 same-length-8 c = c .before .loop .inv .to .did .kept .events
 
--- src/lib.rt:146:1
 returns-2 : tie.Need-returns-2 Inv-loop μ-loop
-returns-2 c = from-start _ _ _ _ (c .before .before .before .before .before .before .before .before .before .before .before .pre .0 .links) (c .before .before .before .before .start .ensures) (taking-all _ _ _ _ _ _ (started-fit (c .before .before .before .before .before .before .before .before .before .before .before .pre .0) (c .before .before .before .before .start .ensures)) (started-laid (c .before .before .before .before .before .before .before .before .before .before .before .pre .1) (c .before .before .before .before .start .ensures)) _ _ _ _ (c .before .loop .inv) (c .loop-test .left))
+returns-2 c =
+    let entry = c .before .before .before .before .before .before .before .before .before .before .before in
+    let start = c .before .before .before .before .start in
+    from-start _ _ _ _ (entry .pre .0 .links) (start .ensures) (taking-all _ _ _ _ _ _ (started-fit (entry .pre .0) (start .ensures)) (started-laid (entry .pre .1) (start .ensures)) _ _ _ _ (c .before .loop .inv) (c .loop-test .left))
 
 pub by-turns-spec : {M : Type 1} → statement M
 by-turns-spec =

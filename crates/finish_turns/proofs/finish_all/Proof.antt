@@ -31,39 +31,58 @@ element-copy-out-cursor-at-2 : tie.Need-element-copy-out-cursor-at-2 Inv-loop μ
 element-copy-out-cursor-at-2 c = search needs
 
 cursor-at-requires : tie.Need-cursor-at-requires Inv-loop μ-loop
-cursor-at-requires c κs = record { turfs = c .before .before .before .before .before .pre .ready .board .turfs .1; links = c .before .before .before .before .before .pre .ready .board .links }
+cursor-at-requires c κs =
+    let entry = c .before .before .before .before .before in
+    record { turfs = entry .pre .ready .board .turfs .1; links = entry .pre .ready .board .links }
 
 by-turns-requires : tie.Need-by-turns-requires Inv-loop μ-loop
-by-turns-requires c κs = let e = sym (c .before .before .before .before .cursor-at .ensures) in (fit-at e (planned-fit _ _ (now (c .before .before .before .before .before .before .before .before .before .before .args .turns)) _ _ (c .before .before .before .before .before .before .before .before .before .before .pre)), all-laid-at e (c .before .before .before .before .before .before .before .before .before .before .pre .laid))
+by-turns-requires c κs =
+    let entry = c .before .before .before .before .before .before .before .before .before .before in
+    let e = sym (c .before .before .before .before .cursor-at .ensures) in (fit-at e (planned-fit _ _ (now (entry .args .turns)) _ _ (entry .pre)), all-laid-at e (entry .pre .laid))
 
 loop-holds : tie.Need-loop-holds Inv-loop μ-loop
 loop-holds c =
-    let turns = now (c .before .before .before .before .before .before .before .before .before .before .before .before .before .before .before .before .before .before .before .args .turns) in
-    let turned = turned-at _ _ turns _ _ _ _ (c .before .before .before .before .before .before .before .before .before .before .before .before .before .cursor-at .ensures) (c .before .before .before .before .before .before .before .before .by-turns .ensures) in
-    ending-start _ _ _ _ _ (turned-fit _ _ turns _ _ (c .before .before .before .before .before .before .before .before .before .before .before .before .before .before .before .before .before .before .before .pre) _ _ turned) (turned-laid _ _ turns _ _ (c .before .before .before .before .before .before .before .before .before .before .before .before .before .before .before .before .before .before .before .pre) _ _ turned)
+    let entry = c .before .before .before .before .before .before .before .before .before .before .before .before .before .before .before .before .before .before .before in
+    let cursor-at = c .before .before .before .before .before .before .before .before .before .before .before .before .before .cursor-at in
+    let by-turns = c .before .before .before .before .before .before .before .before .by-turns in
+    let turns = now (entry .args .turns) in
+    let turned = turned-at _ _ turns _ _ _ _ (cursor-at .ensures) (by-turns .ensures) in
+    ending-start _ _ _ _ _ (turned-fit _ _ turns _ _ (entry .pre) _ _ turned) (turned-laid _ _ turns _ _ (entry .pre) _ _ turned)
 
 finish-zone-requires : tie.Need-finish-zone-requires Inv-loop μ-loop
 finish-zone-requires c κs =
-    let turns = now (c .before .before .before .before .before .before .before .before .before .before .before .before .before .before .before .before .before .before .before .before .before .before .before .before .before .args .turns) in
-    let turned = turned-at _ _ turns _ _ _ _ (c .before .before .before .before .before .before .before .before .before .before .before .before .before .before .before .before .before .before .before .cursor-at .ensures) (c .before .before .before .before .before .before .before .before .before .before .before .before .before .before .by-turns .ensures) in
-    let fit = turned-fit _ _ turns _ _ (c .before .before .before .before .before .before .before .before .before .before .before .before .before .before .before .before .before .before .before .before .before .before .before .before .before .pre) _ _ turned in
-    let laid = turned-laid _ _ turns _ _ (c .before .before .before .before .before .before .before .before .before .before .before .before .before .before .before .before .before .before .before .before .before .before .before .before .before .pre) _ _ turned in
-    let e = sym (c .before .before .before .before .before .before .before .before .before .before .before .before .before .before .before .before .before .before .before .cursor-at .ensures) in
-    (fit-at e (ending-fit _ _ _ _ _ fit laid _ _ _ (c .before .before .before .before .before .loop .inv)), laid-at e (ending-laid _ _ _ _ _ fit laid _ _ _ (c .before .before .before .before .before .loop .inv) (c .before .before .before .before .loop-test .taken)))
+    let entry = c .before .before .before .before .before .before .before .before .before .before .before .before .before .before .before .before .before .before .before .before .before .before .before .before .before in
+    let cursor-at = c .before .before .before .before .before .before .before .before .before .before .before .before .before .before .before .before .before .before .before .cursor-at in
+    let loop = c .before .before .before .before .before .loop in
+    let turns = now (entry .args .turns) in
+    let turned = turned-at _ _ turns _ _ _ _ (cursor-at .ensures) (c .before .before .before .before .before .before .before .before .before .before .before .before .before .before .by-turns .ensures) in
+    let fit = turned-fit _ _ turns _ _ (entry .pre) _ _ turned in
+    let laid = turned-laid _ _ turns _ _ (entry .pre) _ _ turned in
+    let e = sym (cursor-at .ensures) in
+    (fit-at e (ending-fit _ _ _ _ _ fit laid _ _ _ (loop .inv)), laid-at e (ending-laid _ _ _ _ _ fit laid _ _ _ (loop .inv) (c .before .before .before .before .loop-test .taken)))
 
 add-z : tie.Need-add-z Inv-loop μ-loop
-add-z c = omega (arith, c .before .before .before .before .before .before .before .before .before .before .before .before .before .loop-test .taken, c .before .before .before .before .before .before .before .before .before .before .before .before .before .before .before .before .before .before .before .before .before .before .before .before .before .before .before .before .before .before .before .before .before .before .fits .zones)
+add-z c =
+    let entry = c .before .before .before .before .before .before .before .before .before .before .before .before .before .before .before .before .before .before .before .before .before .before .before .before .before .before .before .before .before .before .before .before .before .before in
+    let loop-test = c .before .before .before .before .before .before .before .before .before .before .before .before .before .loop-test in
+    omega (arith, loop-test .taken, entry .fits .zones)
 
 loop-less : tie.Need-loop-less Inv-loop μ-loop
 loop-less c = omega (arith, c .before .before .before .before .before .before .before .before .before .before .before .before .before .loop-test .taken)
 
 loop-again : tie.Need-loop-again Inv-loop μ-loop
 loop-again c =
-    let turns = now (c .before .before .before .before .before .before .before .before .before .before .before .before .before .before .before .before .before .before .before .before .before .before .before .before .before .before .before .before .before .before .before .before .before .before .args .turns) in
-    let turned = turned-at _ _ turns _ _ _ _ (c .before .before .before .before .before .before .before .before .before .before .before .before .before .before .before .before .before .before .before .before .before .before .before .before .before .before .before .before .cursor-at .ensures) (c .before .before .before .before .before .before .before .before .before .before .before .before .before .before .before .before .before .before .before .before .before .before .before .by-turns .ensures) in
-    let fit = turned-fit _ _ turns _ _ (c .before .before .before .before .before .before .before .before .before .before .before .before .before .before .before .before .before .before .before .before .before .before .before .before .before .before .before .before .before .before .before .before .before .before .pre) _ _ turned in
-    let laid = turned-laid _ _ turns _ _ (c .before .before .before .before .before .before .before .before .before .before .before .before .before .before .before .before .before .before .before .before .before .before .before .before .before .before .before .before .before .before .before .before .before .before .pre) _ _ turned in
-    ending-next _ _ _ _ _ fit laid _ _ _ (c .before .before .before .before .before .before .before .before .before .before .before .before .before .before .loop .inv) (c .before .before .before .before .before .before .before .before .before .before .before .before .before .loop-test .taken) _ _ (zoned-at (c .before .before .before .before .before .before .before .before .before .before .before .before .before .before .before .before .before .before .before .before .before .before .before .before .before .before .before .before .cursor-at .ensures) (c .before .before .before .before .before .before .before .before .finish-zone .ensures))
+    let entry = c .before .before .before .before .before .before .before .before .before .before .before .before .before .before .before .before .before .before .before .before .before .before .before .before .before .before .before .before .before .before .before .before .before .before in
+    let cursor-at = c .before .before .before .before .before .before .before .before .before .before .before .before .before .before .before .before .before .before .before .before .before .before .before .before .before .before .before .before .cursor-at in
+    let by-turns = c .before .before .before .before .before .before .before .before .before .before .before .before .before .before .before .before .before .before .before .before .before .before .before .by-turns in
+    let loop = c .before .before .before .before .before .before .before .before .before .before .before .before .before .before .loop in
+    let loop-test = c .before .before .before .before .before .before .before .before .before .before .before .before .before .loop-test in
+    let finish-zone = c .before .before .before .before .before .before .before .before .finish-zone in
+    let turns = now (entry .args .turns) in
+    let turned = turned-at _ _ turns _ _ _ _ (cursor-at .ensures) (by-turns .ensures) in
+    let fit = turned-fit _ _ turns _ _ (entry .pre) _ _ turned in
+    let laid = turned-laid _ _ turns _ _ (entry .pre) _ _ turned in
+    ending-next _ _ _ _ _ fit laid _ _ _ (loop .inv) (loop-test .taken) _ _ (zoned-at (cursor-at .ensures) (finish-zone .ensures))
 
 same-length : tie.Need-same-length Inv-loop μ-loop
 same-length c = c .before .loop .inv .did .kept .gas ∙ c .before .before .before .before .before .before .before .before .before .before .by-turns .ensures .did .kept .gas
@@ -79,9 +98,10 @@ same-length-4 c = c .before .loop .inv .did .kept .events ∙ c .before .before 
 
 returns : tie.Need-returns Inv-loop μ-loop
 returns c =
-    let turns = now (c .before .before .before .before .before .before .before .before .before .before .before .before .before .before .before .before .before .before .before .before .before .args .turns) in
+    let entry = c .before .before .before .before .before .before .before .before .before .before .before .before .before .before .before .before .before .before .before .before .before in
+    let turns = now (entry .args .turns) in
     let turned = turned-at _ _ turns _ _ _ _ (c .before .before .before .before .before .before .before .before .before .before .before .before .before .before .before .cursor-at .ensures) (c .before .before .before .before .before .before .before .before .before .before .by-turns .ensures) in
-    finishes-all _ _ turns _ _ (c .before .before .before .before .before .before .before .before .before .before .before .before .before .before .before .before .before .before .before .before .before .pre) _ _ turned _ _ _ (c .loop-test .left) (c .before .loop .inv)
+    finishes-all _ _ turns _ _ (entry .pre) _ _ turned _ _ _ (c .loop-test .left) (c .before .loop .inv)
 
 pub finish-all-spec : {M : Type 1} → statement M
 finish-all-spec =

@@ -12,121 +12,100 @@ use Rattle.finish_turns.proofs.finish_next.Reads as reads
 use Rattle.finish_turns.proofs.finish_next.Lts as lts
 use Rattle.finish_turf.proofs.finalize_eq.Reads as finalize-eq-reads
 
--- src/lib.rt:95:9
 element-copy-out-n : tie.Need-element-copy-out-n
 element-copy-out-n c = search needs
 
--- src/lib.rt:96:17
 add-first : tie.Need-add-first
 add-first c = search needs
 
--- src/lib.rt:96:17
 add-first-2 : tie.Need-add-first-2
 add-first-2 c = search needs
 
--- src/lib.rt:97:22
 add-from : tie.Need-add-from
 add-from c = search needs
 
--- src/lib.rt:97:16
 mul-from : tie.Need-mul-from
 mul-from c = search needs
 
--- src/lib.rt:97:16
 slice-read-from : tie.Need-slice-read-from
 slice-read-from c = search needs
 
--- src/lib.rt:97:16
 cast-from : tie.Need-cast-from
 cast-from c = search needs
 
--- src/lib.rt:98:21
 add-had : tie.Need-add-had
 add-had c = search needs
 
--- src/lib.rt:98:15
 mul-had : tie.Need-mul-had
 mul-had c = search needs
 
--- src/lib.rt:98:15
 slice-read-had : tie.Need-slice-read-had
 slice-read-had c = search needs
 
--- src/lib.rt:100:20
 add-words : tie.Need-add-words
 add-words c = search needs
 
--- src/lib.rt:100:20
 add-words-2 : tie.Need-add-words-2
 add-words-2 c = search needs
 
--- src/lib.rt:100:20
 add-words-3 : tie.Need-add-words-3
 add-words-3 c = search needs
 
--- src/lib.rt:100:43
 cast-words : tie.Need-cast-words
 cast-words c = search needs
 
--- src/lib.rt:100:20
 add-words-4 : tie.Need-add-words-4
 add-words-4 c = search needs
 
--- src/lib.rt:100:14
 mul-words : tie.Need-mul-words
 mul-words c = search needs
 
--- src/lib.rt:100:14
 slice-read-words : tie.Need-slice-read-words
 slice-read-words c = search needs
 
--- src/lib.rt:100:14
 cast-words-2 : tie.Need-cast-words-2
 cast-words-2 c = let h = row-small _ _ _ _ _ (c .before .before .before .before .before .before .before .pre .0) (c .before .before .before .before .before .before .before .pre .1) in omega (arith, h)
 
--- src/lib.rt:101:15
 cast-t30 : tie.Need-cast-t30
 cast-t30 c = search needs
 
--- src/lib.rt:104:9
 finalize-eq-requires : tie.Need-finalize-eq-requires
-finalize-eq-requires c κs = node-begun _ _ _ _ _ (c .before .before .before .before .before .before .before .before .before .before .before .pre .0) (c .before .before .before .before .before .before .before .before .before .before .before .pre .1)
+finalize-eq-requires c κs =
+    let entry = c .before .before .before .before .before .before .before .before .before .before .before in
+    node-begun _ _ _ _ _ (entry .pre .0) (entry .pre .1)
 
--- src/lib.rt:105:28
 add-words-5 : tie.Need-add-words-5
-add-words-5 c = omega (arith, c .before .before .before .before .before .before .before .before .before .before .before .before .before .before .before .before .before .before .pre .1 .some, c .before .before .before .before .before .before .before .before .before .before .before .before .before .before .before .before .slice-known2 .given (c .before .before .before .before .before .before .before .before .before .before .before .before .before .before .before .before .before .before .args .at .cursor + length (table (now (c .before .before .before .before .before .before .before .before .before .before .before .before .before .before .before .before .before .before .args .rows)) 0) + length (table (now (c .before .before .before .before .before .before .before .before .before .before .before .before .before .before .before .before .before .before .args .rows)) 0) + (c .before .before .before .before .before .before .before .before .before .before .before .before .before .before .before .before .before .before .args .zone + 1)))
+add-words-5 c =
+    let entry = c .before .before .before .before .before .before .before .before .before .before .before .before .before .before .before .before .before .before in
+    let slice-known2 = c .before .before .before .before .before .before .before .before .before .before .before .before .before .before .before .before .slice-known2 in
+    omega (arith, entry .pre .1 .some, slice-known2 .given (entry .args .at .cursor + length (table (now (entry .args .rows)) 0) + length (table (now (entry .args .rows)) 0) + (entry .args .zone + 1)))
 
--- src/lib.rt:105:11
 add-words-6 : tie.Need-add-words-6
 add-words-6 c = search needs
 
--- src/lib.rt:105:5
 mul-words-2 : tie.Need-mul-words-2
 mul-words-2 c = search needs
 
--- src/lib.rt:105:5
 slice-write-words : tie.Need-slice-write-words
 slice-write-words c = omega (arith, c .before .before .before .before .before .before .before .before .before .before .before .before .before .before .before .before .before .before .pre .0 .arrays, c .before .before .before .before .before .before .before .before .before .before .before .before .before .before .before .before .before .before .pre .1 .laid .below)
 
--- src/lib.rt:79:1
 same-length : tie.Need-same-length
 same-length c = search needs
 
--- src/lib.rt:79:1
 same-length-2 : tie.Need-same-length-2
 same-length-2 c = search needs
 
--- src/lib.rt:79:1
 same-length-3 : tie.Need-same-length-3
 same-length-3 c = search needs
 
--- src/lib.rt:79:1
 same-length-4 : tie.Need-same-length-4
 same-length-4 c = search needs
 
--- src/lib.rt:79:1
 returns : tie.Need-returns
-returns c = node-done _ _ _ _ _ (c .before .before .before .before .before .before .before .before .before .before .before .before .before .before .before .before .before .before .pre .0) (c .before .before .before .before .before .before .before .before .before .before .before .before .before .before .before .before .before .before .pre .1) _ (c .before .before .before .before .before .before .finalize-eq .ensures)
+returns c =
+    let entry = c .before .before .before .before .before .before .before .before .before .before .before .before .before .before .before .before .before .before in
+    let finalize-eq = c .before .before .before .before .before .before .finalize-eq in
+    node-done _ _ _ _ _ (entry .pre .0) (entry .pre .1) _ (finalize-eq .ensures)
 
 pub finish-next-spec : {M : Type 1} → statement M
 finish-next-spec =

@@ -19,77 +19,77 @@ Inv-loop zone at used rows marks gas₀ words₀ floats₀ events₀ cursor n si
 abbrev μ-loop : tie.MeasureT-loop
 μ-loop zone at used rows marks gas₀ words₀ floats₀ events₀ cursor n size i₀ now₀ gas words floats events i now = size - i
 
--- src/lib.rt:195:9
 element-copy-out-n : tie.Need-element-copy-out-n Inv-loop μ-loop
 element-copy-out-n c = search needs
 
--- src/lib.rt:196:30
 add-size-of : tie.Need-add-size-of Inv-loop μ-loop
 add-size-of c = search needs
 
--- src/lib.rt:196:30
 add-size-of-2 : tie.Need-add-size-of-2 Inv-loop μ-loop
 add-size-of-2 c = search needs
 
--- src/lib.rt:196:9
 size-of-requires : tie.Need-size-of-requires Inv-loop μ-loop
 size-of-requires c κs = size-room (c .before .before .before .before .before .pre .1)
 
--- src/lib.rt:197:23
 add-i : tie.Need-add-i Inv-loop μ-loop
 add-i c = search needs
 
--- src/lib.rt:197:17
 mul-i : tie.Need-mul-i Inv-loop μ-loop
 mul-i c = search needs
 
--- src/lib.rt:197:17
 slice-read-i : tie.Need-slice-read-i Inv-loop μ-loop
 slice-read-i c = search needs
 
--- src/lib.rt:197:17
 cast-i : tie.Need-cast-i Inv-loop μ-loop
 cast-i c = omega (arith, c .slice-known5 .given (c .before .before .before .before .before .before .before .args .at .cursor + c .before .before .before .before .before .before .before .args .zone))
 
--- src/lib.rt:199:5
 loop-holds : tie.Need-loop-holds Inv-loop μ-loop
-loop-holds c = zoning-start _ _ _ _ _ (c .before .before .before .before .before .before .before .pre .0) (c .before .before .before .before .before .before .before .pre .1)
+loop-holds c =
+    let entry = c .before .before .before .before .before .before .before in
+    zoning-start _ _ _ _ _ (entry .pre .0) (entry .pre .1)
 
--- src/lib.rt:200:9
 finish-next-requires : tie.Need-finish-next-requires Inv-loop μ-loop
-finish-next-requires c κs = (zoning-fit _ _ _ _ _ (c .before .before .before .before .before .before .before .before .before .before .before .before .before .pre .0) (c .before .before .before .before .before .before .before .before .before .before .before .before .before .pre .1) _ _ _ (c .before .before .before .before .before .loop .inv), zoning-open _ _ _ _ _ (c .before .before .before .before .before .before .before .before .before .before .before .before .before .pre .0) (c .before .before .before .before .before .before .before .before .before .before .before .before .before .pre .1) _ _ _ (c .before .before .before .before .before .loop .inv) _ (c .before .before .before .before .before .before .before .size-of .ensures) (c .before .before .before .before .loop-test .taken))
+finish-next-requires c κs =
+    let entry = c .before .before .before .before .before .before .before .before .before .before .before .before .before in
+    let size-of = c .before .before .before .before .before .before .before .size-of in
+    let loop = c .before .before .before .before .before .loop in
+    (zoning-fit _ _ _ _ _ (entry .pre .0) (entry .pre .1) _ _ _ (loop .inv), zoning-open _ _ _ _ _ (entry .pre .0) (entry .pre .1) _ _ _ (loop .inv) _ (size-of .ensures) (c .before .before .before .before .loop-test .taken))
 
--- src/lib.rt:201:9
 add-i-2 : tie.Need-add-i-2 Inv-loop μ-loop
-add-i-2 c = omega (arith, c .before .before .before .before .before .before .before .before .before .before .before .before .before .before .before .before .before .before .before .before .before .before .good, c .before .before .before .before .before .before .before .before .before .before .before .before .before .loop-test .taken, c .before .before .before .before .before .before .before .before .before .before .before .before .before .before .before .before .size-of .ensures, c .before .before .before .before .before .before .before .before .before .before .before .before .before .before .before .before .before .before .before .before .before .before .pre .1 .within)
+add-i-2 c =
+    let entry = c .before .before .before .before .before .before .before .before .before .before .before .before .before .before .before .before .before .before .before .before .before .before in
+    let size-of = c .before .before .before .before .before .before .before .before .before .before .before .before .before .before .before .before .size-of in
+    let loop-test = c .before .before .before .before .before .before .before .before .before .before .before .before .before .loop-test in
+    omega (arith, entry .good, loop-test .taken, size-of .ensures, entry .pre .1 .within)
 
--- src/lib.rt:199:5
 loop-less : tie.Need-loop-less Inv-loop μ-loop
 loop-less c = omega (arith, c .before .before .before .before .before .before .before .before .before .before .before .before .before .loop-test .taken)
 
--- src/lib.rt:199:5
 loop-again : tie.Need-loop-again Inv-loop μ-loop
-loop-again c = zoning-next _ _ _ _ _ (c .before .before .before .before .before .before .before .before .before .before .before .before .before .before .before .before .before .before .before .before .before .before .pre .0) (c .before .before .before .before .before .before .before .before .before .before .before .before .before .before .before .before .before .before .before .before .before .before .pre .1) _ _ _ (c .before .before .before .before .before .before .before .before .before .before .before .before .before .before .loop .inv) _ (c .before .before .before .before .before .before .before .before .before .before .before .before .before .before .before .before .size-of .ensures) (c .before .before .before .before .before .before .before .before .before .before .before .before .before .loop-test .taken) _ _ (c .before .before .before .before .before .before .before .before .finish-next .ensures)
+loop-again c =
+    let entry = c .before .before .before .before .before .before .before .before .before .before .before .before .before .before .before .before .before .before .before .before .before .before in
+    let size-of = c .before .before .before .before .before .before .before .before .before .before .before .before .before .before .before .before .size-of in
+    let loop = c .before .before .before .before .before .before .before .before .before .before .before .before .before .before .loop in
+    let loop-test = c .before .before .before .before .before .before .before .before .before .before .before .before .before .loop-test in
+    let finish-next = c .before .before .before .before .before .before .before .before .finish-next in
+    zoning-next _ _ _ _ _ (entry .pre .0) (entry .pre .1) _ _ _ (loop .inv) _ (size-of .ensures) (loop-test .taken) _ _ (finish-next .ensures)
 
--- src/lib.rt:179:1
 same-length : tie.Need-same-length Inv-loop μ-loop
 same-length c = c .before .loop .inv .did .kept .gas
 
--- src/lib.rt:179:1
 same-length-2 : tie.Need-same-length-2 Inv-loop μ-loop
 same-length-2 c = c .before .loop .inv .did .words .size
 
--- src/lib.rt:179:1
 same-length-3 : tie.Need-same-length-3 Inv-loop μ-loop
 same-length-3 c = c .before .loop .inv .did .kept .floats
 
--- src/lib.rt:179:1
 same-length-4 : tie.Need-same-length-4 Inv-loop μ-loop
 same-length-4 c = c .before .loop .inv .did .kept .events
 
--- src/lib.rt:179:1
 returns : tie.Need-returns Inv-loop μ-loop
-returns c = zoning-end _ _ _ _ _ (c .before .before .before .before .before .before .before .before .before .pre .0) (c .before .before .before .before .before .before .before .before .before .pre .1) _ _ _ (c .before .loop .inv) _ (c .before .before .before .size-of .ensures) (c .loop-test .left)
+returns c =
+    let entry = c .before .before .before .before .before .before .before .before .before in
+    zoning-end _ _ _ _ _ (entry .pre .0) (entry .pre .1) _ _ _ (c .before .loop .inv) _ (c .before .before .before .size-of .ensures) (c .loop-test .left)
 
 pub finish-zone-spec : {M : Type 1} → statement M
 finish-zone-spec =

@@ -4,8 +4,6 @@ use Rattle.plan_all.proofs.Plans.{blanked}
 use borrow.Author.Needs.{needs}
 use Rattle.plan_all.proofs.clear_plan.Statement.{statement}
 use Rattle.plan_all.proofs.clear_plan.Tie as tie
-use Rattle.basics.proofs.clear_floats.Reads as clear-floats-reads
-use Rattle.basics.proofs.clear_part.Reads as clear-part-reads
 
 add-pairs : tie.Need-add-pairs
 add-pairs c = search needs
@@ -41,7 +39,12 @@ same-length-2 : tie.Need-same-length-2
 same-length-2 c = search needs
 
 returns : tie.Need-returns
-returns c = blanked _ _ _ (c .before .before .before .before .before .before .before .before .before .before .before .before .before .before .pre) (c .before .before .before .before .before .before .before .before .before .before .clear-part .ensures) (c .before .before .before .before .before .before .clear-part2 .ensures) (c .before .before .clear-floats .ensures) (c .before .before .before .before .before .before .clear-part2 .kept .0 ∙ c .before .before .before .before .before .before .before .before .before .before .clear-part .kept .0) (c .before .before .before .before .before .before .before .before .before .before .clear-part .kept .0) (c .before .before .clear-floats .kept .0)
+returns c =
+    let clear-part = c .before .before .before .before .before .before .before .before .before .before .clear-part in
+    let clear-part2 = c .before .before .before .before .before .before .clear-part2 in
+    let clear-floats = c .before .before .clear-floats in
+    blanked _ _ _ (c .before .before .before .before .before .before .before .before .before .before .before .before .before .before .pre) (clear-part .ensures)
+    (clear-part2 .ensures) (clear-floats .ensures) (clear-part2 .kept .0 ∙ clear-part .kept .0) (clear-part .kept .0) (clear-floats .kept .0)
 
 pub clear-plan-spec : {M : Type 1} → statement M
 clear-plan-spec =

@@ -1,10 +1,18 @@
 -- The starts say where the zone's nodes are. Assumes nothing.
 use native.Mathlib.Omega.{arith}
+use mathlib.Core.Path.{refl}
+use Rattle.turfs.specs.Tables.{boardOf}
 use Rattle.plan_all.proofs.Zones.{room-fit, from-to, handed}
 use Rattle.plan_all.proofs.Plans.{zone-planned}
 use borrow.Author.Needs.{needs}
 use Rattle.plan_all.proofs.plan_zone_at.Statement.{statement}
 use Rattle.plan_all.proofs.plan_zone_at.Tie as tie
+
+element-copy-out-ids : tie.Need-element-copy-out-ids
+element-copy-out-ids c = search needs
+
+element-copy-out-neighbours : tie.Need-element-copy-out-neighbours
+element-copy-out-neighbours c = search needs
 
 starts-at-requires : tie.Need-starts-at-requires
 starts-at-requires c κs = search needs
@@ -19,7 +27,10 @@ slice-read-from : tie.Need-slice-read-from
 slice-read-from c = search needs
 
 cast-from : tie.Need-cast-from
-cast-from c = omega (arith, from-to (c .before .starts-at .ensures) (c .before .before .before .before .before .before .before .before .pre .0 .1 .1 .1 .1) (c .before .before .before .before .before .before .before .before .pre .1 .1) .0, from-to (c .before .starts-at .ensures) (c .before .before .before .before .before .before .before .before .pre .0 .1 .1 .1 .1) (c .before .before .before .before .before .before .before .before .pre .1 .1) .1 .0, c .before .before .before .before .before .before .before .before .pre .0 .1 .1 .1 .0 .sizes .turfs, c .before .before .before .before .before .before .before .before .pre .0 .1 .1 .1 .0 .sizes .links)
+cast-from c =
+    let entry = c .before .before .before .before .before .before .before in
+    let range = from-to (c .before .starts-at .ensures) (entry .pre .1 .1 .0) (entry .pre .1 .1 .1 .1) in
+    omega (arith, range, entry .pre .1 .0 .sizes .turfs, entry .pre .1 .0 .sizes .links)
 
 add-to : tie.Need-add-to
 add-to c = search needs
@@ -31,40 +42,49 @@ slice-read-to : tie.Need-slice-read-to
 slice-read-to c = search needs
 
 cast-to : tie.Need-cast-to
-cast-to c = omega (arith, from-to (c .before .before .starts-at .ensures) (c .before .before .before .before .before .before .before .before .before .pre .0 .1 .1 .1 .1) (c .before .before .before .before .before .before .before .before .before .pre .1 .1) .1 .0, c .before .before .before .before .before .before .before .before .before .pre .0 .1 .1 .1 .0 .sizes .turfs, c .before .before .before .before .before .before .before .before .before .pre .0 .1 .1 .1 .0 .sizes .links)
+cast-to c =
+    let entry = c .before .before .before .before .before .before .before .before in
+    let range = from-to (c .before .before .starts-at .ensures) (entry .pre .1 .1 .0) (entry .pre .1 .1 .1 .1) in
+    omega (arith, range, entry .pre .1 .0 .sizes .turfs, entry .pre .1 .0 .sizes .links)
+
+moles-at-requires : tie.Need-moles-at-requires
+moles-at-requires c κs = search needs
+
+cast-t24 : tie.Need-cast-t24
+cast-t24 c = search needs
 
 nodes-at-requires : tie.Need-nodes-at-requires
 nodes-at-requires c κs = search needs
 
-add-first : tie.Need-add-first
-add-first c = omega (arith, c .nodes-at .ensures, from-to (c .before .before .before .starts-at .ensures) (c .before .before .before .before .before .before .before .before .before .before .pre .0 .1 .1 .1 .1) (c .before .before .before .before .before .before .before .before .before .before .pre .1 .1) .0, from-to (c .before .before .before .starts-at .ensures) (c .before .before .before .before .before .before .before .before .before .before .pre .0 .1 .1 .1 .1) (c .before .before .before .before .before .before .before .before .before .before .pre .1 .1) .1 .0, c .before .before .before .before .before .before .before .before .before .before .pre .0 .1 .1 .1 .0 .sizes .turfs, c .before .before .before .before .before .before .before .before .before .before .pre .0 .1 .1 .1 .0 .sizes .links)
+add-t25 : tie.Need-add-t25
+add-t25 c =
+    let entry = c .before .before .before .before .before .before .before .before .before .before in
+    let range = from-to (c .before .before .before .before .starts-at .ensures) (entry .pre .1 .1 .0) (entry .pre .1 .1 .1 .1) in
+    omega (arith, c .nodes-at .ensures, range, entry .pre .1 .0 .sizes .turfs, entry .pre .1 .0 .sizes .links)
 
-add-moles : tie.Need-add-moles
-add-moles c = search needs
+sub-t27 : tie.Need-sub-t27
+sub-t27 c = omega (arith, from-to (c .before .before .before .before .starts-at .ensures) (c .before .before .before .before .before .before .before .before .before .before .pre .1 .1 .0) (c .before .before .before .before .before .before .before .before .before .before .pre .1 .1 .1 .1) .0)
 
-add-moles-2 : tie.Need-add-moles-2
-add-moles-2 c = search needs
+mul-t28 : tie.Need-mul-t28
+mul-t28 c = search needs
 
-add-moles-3 : tie.Need-add-moles-3
-add-moles-3 c = search needs
-
-add-moles-4 : tie.Need-add-moles-4
-add-moles-4 c = search needs
-
-mul-moles : tie.Need-mul-moles
-mul-moles c = search needs
-
-slice-read-moles : tie.Need-slice-read-moles
-slice-read-moles c = search needs
-
-sub-process-zone : tie.Need-sub-process-zone
-sub-process-zone c = omega (arith, from-to (c .before .before .before .before .starts-at .ensures) (c .before .before .before .before .before .before .before .before .before .before .before .pre .0 .1 .1 .1 .1) (c .before .before .before .before .before .before .before .before .before .before .before .pre .1 .1) .0)
-
-cast-process-zone : tie.Need-cast-process-zone
-cast-process-zone c = search needs
+slice-read-t30 : tie.Need-slice-read-t30
+slice-read-t30 c = search needs
 
 process-zone-requires : tie.Need-process-zone-requires
-process-zone-requires c κs = ((c .before .before .before .before .before .before .before .before .before .before .before .before .before .pre .0 .0, (c .before .before .before .before .before .before .before .before .before .before .before .before .before .pre .0 .1 .0, (c .before .before .before .before .before .before .before .before .before .before .before .before .before .pre .0 .1 .1 .0, (room-fit (c .before .before .before .before .before .before .before .before .before .before .before .before .before .pre .0 .1 .1 .1 .0), omega (arith, c .before .before .before .before .before .before .before .before .before .before .before .before .before .pre .0 .1 .1 .1 .1, c .before .before .before .before .before .before .before .before .before .before .before .before .before .pre .0 .1 .1 .1 .0 .sizes .turfs))))), (c .before .before .before .before .before .before .before .before .before .before .before .before .before .pre .1 .0, (handed (c .before .before .before .before .before .before .starts-at .ensures) (c .before .before .before .before .before .before .before .before .before .before .before .before .before .pre .0 .1 .1 .1 .1) (c .before .before .before .before .before .before .before .before .before .before .before .before .before .pre .1 .1) (c .before .before .before .nodes-at .ensures) (c .before .before .before .before .before .before .before .before .before .before .before .before .before .pre .0 .1 .1 .1 .0), (omega (arith, from-to (c .before .before .before .before .before .before .starts-at .ensures) (c .before .before .before .before .before .before .before .before .before .before .before .before .before .pre .0 .1 .1 .1 .1) (c .before .before .before .before .before .before .before .before .before .before .before .before .before .pre .1 .1) .0), omega (arith, from-to (c .before .before .before .before .before .before .starts-at .ensures) (c .before .before .before .before .before .before .before .before .before .before .before .before .before .pre .0 .1 .1 .1 .1) (c .before .before .before .before .before .before .before .before .before .before .before .before .before .pre .1 .1) .1 .1)))))
+process-zone-requires c κs =
+    let entry = c .before .before .before .before .before .before .before .before .before .before .before .before .before in (
+      entry .pre .0 .gassed,
+      (
+        record {
+          sized = record { turfs = refl; links = refl; linked = entry .pre .0 .linked };
+          fit = room-fit (entry .pre .1 .0);
+          zone = omega (arith, entry .pre .1 .1 .0, entry .pre .1 .0 .sizes .turfs);
+          reverses = entry .pre .1 .1 .1 .0;
+        },
+        handed (c .before .before .before .before .before .before .before .starts-at .ensures) (entry .pre .1 .1 .0) (entry .pre .1 .1 .1 .1) (c .before .before .before .nodes-at .ensures) (entry .pre .1 .0),
+      ),
+    )
 
 same-length : tie.Need-same-length
 same-length c = search needs
@@ -73,12 +93,18 @@ same-length-2 : tie.Need-same-length-2
 same-length-2 c = search needs
 
 returns : tie.Need-returns
-returns c = zone-planned _ _ (c .before .before .before .before .before .before .before .before .before .before .before .starts-at .ensures) (c .before .before .before .before .before .before .before .before .before .before .before .before .before .before .before .before .before .before .pre .0 .1 .1 .1 .1) (c .before .before .before .before .before .before .before .before .before .before .before .before .before .before .before .before .before .before .pre .1 .1) (c .before .before .before .before .before .before .before .before .nodes-at .ensures) (c .before .before .before .before .process-zone .ensures)
+returns c =
+    let entry = c .before .before .before .before .before .before .before .before .before .before .before .before .before .before .before .before .before .before in
+    zone-planned (boardOf (entry .args .rows .now) (entry .args .marks .now) (entry .args .gases)) _ (c .before .before .before .before .before .before .before .before .before .before .before .before .starts-at .ensures)
+    (entry .pre .1 .1 .0) (entry .pre .1 .1 .1 .1) (c .before .before .before .before .before .before .before .before .nodes-at .ensures) (c .before .before .before .before .before .before .before .before .before .moles-at .ensures)
+    (c .before .before .before .before .process-zone .ensures)
 
 pub plan-zone-at-spec : {M : Type 1} → statement M
 plan-zone-at-spec =
     tie.close
     (tie.spec
+    element-copy-out-ids
+    element-copy-out-neighbours
     starts-at-requires
     add-at
     mul-from
@@ -88,16 +114,13 @@ plan-zone-at-spec =
     mul-to
     slice-read-to
     cast-to
+    moles-at-requires
+    cast-t24
     nodes-at-requires
-    add-first
-    add-moles
-    add-moles-2
-    add-moles-3
-    add-moles-4
-    mul-moles
-    slice-read-moles
-    sub-process-zone
-    cast-process-zone
+    add-t25
+    sub-t27
+    mul-t28
+    slice-read-t30
     process-zone-requires
     same-length
     same-length-2

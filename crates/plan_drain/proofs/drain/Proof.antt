@@ -14,41 +14,68 @@ use Rattle.plan_drain.proofs.drain.Statement.{statement}
 use Rattle.plan_drain.proofs.drain.Tie as tie
 
 abbrev Inv-loop : tie.InvT-loop
-Inv-loop from to z n e words reals₀ queue i₀ reals i =
-    ((i ≤ to) × (length reals ≡ length reals₀))
-    × Onto n e (λ o p. run (drainVia (view n e (area words reals₀) .reverse) (view n e (area words reals₀) .via) z o) (reverse (take (i - from) (drop from (view n e (area words reals₀) .queue)))) p)
-    (λ o p. run (drainVia (view n e (area words reals₀) .reverse) (view n e (area words reals₀) .via) z o) (reverse (take (to - from) (drop from (view n e (area words reals₀) .queue)))) p)
-    (area words reals₀) (area words reals)
+Inv-loop from to z n e words floats₀ queue i₀ floats i =
+    ((i ≤ to) × (length floats ≡ length floats₀))
+    × Onto n e (λ o p. run (drainVia (view n e (area words floats₀) .reverse) (view n e (area words floats₀) .via) z o) (reverse (take (i - from) (drop from (view n e (area words floats₀) .queue)))) p)
+    (λ o p. run (drainVia (view n e (area words floats₀) .reverse) (view n e (area words floats₀) .via) z o) (reverse (take (to - from) (drop from (view n e (area words floats₀) .queue)))) p)
+    (area words floats₀) (area words floats)
 
 abbrev μ-loop : tie.MeasureT-loop
-μ-loop from to z n e words reals₀ queue i₀ reals i = i
+μ-loop from to z n e words floats₀ queue i₀ floats i = i
 
 queue-at-requires : tie.Need-queue-at-requires Inv-loop μ-loop
-queue-at-requires c κs = (c .before .before .pre .0 .0 .links, c .before .before .pre .0 .0 .turfs)
+queue-at-requires c κs = (c .before .before .pre .0 .links, c .before .before .pre .0 .turfs)
 
 loop-holds : tie.Need-loop-holds Inv-loop μ-loop
-loop-holds c = ((omega arith, refl), onto-start _ (c .before .before .before .pre .0 .0))
+loop-holds c = ((omega arith, refl), onto-start _ (c .before .before .before .pre .0))
 
 sub-i : tie.Need-sub-i Inv-loop μ-loop
 sub-i c = omega arith
 
 add-drain-turf : tie.Need-add-drain-turf Inv-loop μ-loop
-add-drain-turf c = omega (arith, c .before .before .queue-at .ensures, c .before .before .before .before .before .pre .0 .0 .links, c .before .before .before .before .before .pre .0 .0 .turfs, c .before .before .before .before .before .pre .0 .1 .1, c .before .loop .inv .0, c .loop-test .taken)
+add-drain-turf c = omega (arith, c .before .before .queue-at .ensures, c .before .before .before .before .before .pre .0 .links, c .before .before .before .before .before .pre .0 .turfs, c .before .before .before .before .before .pre .1 .1 .0, c .before .loop .inv .0, c .loop-test .taken)
 
 mul-drain-turf : tie.Need-mul-drain-turf Inv-loop μ-loop
-mul-drain-turf c = omega (arith, c .before .before .queue-at .ensures, c .before .before .before .before .before .pre .0 .0 .words, c .before .before .before .before .before .pre .0 .1 .1, c .before .loop .inv .0, c .before .before .before .before .before .good, c .loop-test .taken)
+mul-drain-turf c = omega (arith, c .before .before .queue-at .ensures, c .before .before .before .before .before .pre .0 .words, c .before .before .before .before .before .pre .1 .1 .0, c .before .loop .inv .0, c .before .before .before .before .before .good, c .loop-test .taken)
 
 shared-slice-read-drain-turf : tie.Need-shared-slice-read-drain-turf Inv-loop μ-loop
-shared-slice-read-drain-turf c = omega (arith, c .before .before .before .queue-at .ensures, c .before .before .before .before .before .before .pre .0 .0 .words, c .before .before .before .before .before .before .pre .0 .1 .1, c .before .before .loop .inv .0, c .before .loop-test .taken)
+shared-slice-read-drain-turf c = omega (arith, c .before .before .before .queue-at .ensures, c .before .before .before .before .before .before .pre .0 .words, c .before .before .before .before .before .before .pre .1 .1 .0, c .before .before .loop .inv .0, c .before .loop-test .taken)
 
 drain-turf-requires : tie.Need-drain-turf-requires Inv-loop μ-loop
-drain-turf-requires c κs = (c .before .before .before .loop .inv .1 .fit, (c .before .before .before .before .before .before .before .pre .0 .1 .0, row-within _ _ 0 (c .before .before .before .loop .i - 1) _ _ _ (c .before .before .before .before .queue-at .ensures) (omega (arith, c .before .before .before .loop .inv .0, c .before .before .loop-test .taken, c .before .before .before .before .before .before .before .pre .0 .1 .1)) _ (c .before .before .before .before .before .before .before .pre .1 (c .before .before .before .loop .i - 1) (omega (arith, c .before .before .before .loop .inv .0, c .before .before .loop-test .taken)))))
+drain-turf-requires c κs =
+    let entry = c .before .before .before .before .before .before .before in
+    let loop = c .before .before .before .loop in
+    let loop-test = c .before .before .loop-test in (
+      loop .inv .1 .fit,
+      (
+        entry .pre .1 .0,
+        row-within _ _ 0 (loop .i - 1) _ _ _ (c .before .before .before .before .queue-at .ensures) (omega (
+          arith,
+          loop .inv .0,
+          loop-test .taken,
+          entry .pre .1 .1 .0,
+        )) _ (entry .pre .1 .1 .1 (loop .i - 1) (omega (arith, loop .inv .0, loop-test .taken))),
+      ),
+    )
 
 loop-less : tie.Need-loop-less Inv-loop μ-loop
 loop-less c = omega arith
 
 loop-again : tie.Need-loop-again Inv-loop μ-loop
-loop-again c = ((omega (arith, c .before .before .before .before .before .before .loop .inv .0), c .before .before .drain-turf .kept .1 .1 .1 .1 .1 .0 ∙ c .before .before .before .before .before .before .loop .inv .0 .1), onto-next _ _ (c .before .before .before .before .before .before .loop .inv .1) (drained-same _ _ _ _ _ _ _ (c .before .before .drain-turf .ensures)) (λ o p. row-next _ _ _ (c .before .before .before .before .before .before .loop .i - 1) _ _ _ (c .before .before .before .before .before .before .before .queue-at .ensures) (omega (arith, c .before .before .before .before .before .before .loop .inv .0, c .before .before .before .before .before .loop-test .taken, c .before .before .before .before .before .before .before .before .before .before .pre .0 .1 .1)) _ (c .before .before .before .before .before .before .loop .i) (omega (arith, c .before .before .before .before .before .loop-test .taken)) (omega (arith, c .before .before .before .before .before .loop-test .taken)) (queue-length _ _ _ (c .before .before .before .before .before .before .before .before .before .before .pre .0 .0)) _))
+loop-again c =
+    let entry = c .before .before .before .before .before .before .before .before .before .before in
+    let loop = c .before .before .before .before .before .before .loop in
+    let loop-test = c .before .before .before .before .before .loop-test in
+    let drain-turf = c .before .before .drain-turf in (
+      (omega (arith, loop .inv .0), drain-turf .kept .1 .1 .1 .1 .1 .0 ∙ loop .inv .0 .1),
+      onto-next _ _ (loop .inv .1) (drained-same _ _ _ _ _ _ _ (drain-turf .ensures))
+          (λ o p. row-next _ _ _ (loop .i - 1) _ _ _ (c .before .before .before .before .before .before .before .queue-at .ensures) (omega (
+            arith,
+            loop .inv .0,
+            loop-test .taken,
+            entry .pre .1 .1 .0,
+          )) _ (loop .i) (omega (arith, loop-test .taken)) (omega (arith, loop-test .taken)) (queue-length _ _ _ (entry .pre .0)) _),
+    )
 
 same-length : tie.Need-same-length Inv-loop μ-loop
 same-length c = search needs

@@ -37,19 +37,46 @@ cast-k : tie.Need-cast-k
 cast-k c = omega (arith, c .shared-slice-known2 .given (c .before .before .before .before .before .before .before .before .args .e + c .before .before .before .before .before .before .before .before .args .e + c .before .before .before .before .before .before .before .before .args .r + c .before .before .before .before .before .before .before .before .args .r + 1))
 
 back-link-requires : tie.Need-back-link-requires
-back-link-requires c κs = (omega (arith, c .before .before .before .before .before .before .before .before .pre .0 .words), (back-k _ _ (c .before .before .before .before .before .before .before .before .args .z) _ _ _ _ (c .before .before .before .before .load .ensures) (c .before .before .before .before .before .before .before .before .pre .0) (c .before .before .before .before .before .before .before .before .pre .1 .1 .0) (c .before .before .before .before .before .before .before .before .pre .1 .1 .1) (c .before .if2 .taken), (back-p _ _ (c .before .before .before .before .before .before .before .before .args .z) _ _ _ _ (c .before .before .before .before .load .ensures) (c .before .before .before .before .before .before .before .before .pre .0) (c .before .before .before .before .before .before .before .before .pre .1 .1 .0) (c .before .before .before .before .before .before .before .before .pre .1 .1 .1) (c .before .if2 .taken), c .before .before .before .before .before .before .before .before .pre .1 .0)))
+back-link-requires c κs =
+    let entry = c .before .before .before .before .before .before .before .before in
+    let load = c .before .before .before .before .load in (
+      omega (arith, entry .pre .0 .words),
+      (
+        back-k _ _ (entry .args .z) _ _ _ _ (load .ensures) (entry .pre .0) (entry .pre .1 .1 .0) (entry .pre .1 .1 .1) (c .before .if2 .taken),
+        (back-p _ _ (entry .args .z) _ _ _ _ (load .ensures) (entry .pre .0) (entry .pre .1 .1 .0) (entry .pre .1 .1 .1) (c .before .if2 .taken), entry .pre .1 .0),
+      ),
+    )
 
 sub-hand-on : tie.Need-sub-hand-on
 sub-hand-on c = search needs
 
 hand-on-requires : tie.Need-hand-on-requires
-hand-on-requires c κs = ((c .before .before .before .before .before .before .before .before .before .before .pre .0, (c .before .before .before .before .before .before .before .before .before .before .pre .1 .1 .0, back-row _ _ (c .before .before .before .before .before .before .before .before .before .before .args .z) _ _ _ _ (c .before .before .before .before .before .before .load .ensures) (c .before .before .before .before .before .before .before .before .before .before .pre .0) (c .before .before .before .before .before .before .before .before .before .before .pre .1 .1 .0) (c .before .before .before .before .before .before .before .before .before .before .pre .1 .1 .1) (c .before .before .before .if2 .taken))), (back-there _ _ _ _ _ _ _ (c .before .before .before .before .before .before .load .ensures) (c .before .before .before .before .before .before .before .before .before .before .pre .0) (c .before .before .before .before .before .before .before .before .before .before .pre .1 .1 .0) (c .before .before .before .before .before .before .before .before .before .before .pre .1 .1 .1) (c .before .before .before .if2 .taken) _ (c .before .back-link .ensures), back-k _ _ (c .before .before .before .before .before .before .before .before .before .before .args .z) _ _ _ _ (c .before .before .before .before .before .before .load .ensures) (c .before .before .before .before .before .before .before .before .before .before .pre .0) (c .before .before .before .before .before .before .before .before .before .before .pre .1 .1 .0) (c .before .before .before .before .before .before .before .before .before .before .pre .1 .1 .1) (c .before .before .before .if2 .taken)))
+hand-on-requires c κs =
+    let entry = c .before .before .before .before .before .before .before .before .before .before in
+    let met = c .before .before .before .before .before .before .load .ensures in
+    let pointed = c .before .before .before .if2 .taken in (
+      entry .pre .0,
+      (
+        entry .pre .1 .1 .0,
+        (
+          back-row _ _ (entry .args .z) _ _ _ _ met (entry .pre .0) (entry .pre .1 .1 .0) (entry .pre .1 .1 .1) pointed,
+          (
+            back-there _ _ _ _ _ _ _ met (entry .pre .0) (entry .pre .1 .1 .0) (entry .pre .1 .1 .1) pointed _ (c .before .back-link .ensures),
+            back-k _ _ (entry .args .z) _ _ _ _ met (entry .pre .0) (entry .pre .1 .1 .0) (entry .pre .1 .1 .1) pointed,
+          ),
+        ),
+      ),
+    )
 
 same-length : tie.Need-same-length
 same-length c = search needs
 
 returns : tie.Need-returns
-returns c = drained _ _ _ _ _ _ _ (c .before .before .before .before .before .before .before .before .before .load .ensures) (c .before .before .before .before .before .before .before .before .before .before .before .before .before .pre .0) (c .before .before .before .before .before .before .before .before .before .before .before .before .before .pre .1 .1 .0) (c .before .before .before .before .before .before .before .before .before .before .before .before .before .pre .1 .1 .1) (c .before .before .before .before .before .before .if2 .taken) _ (c .before .before .before .before .back-link .ensures) (c .before .before .before .before .before .before .before .if1 .taken) (c .before .before .hand-on .ensures)
+returns c =
+    let entry = c .before .before .before .before .before .before .before .before .before .before .before .before .before in
+    drained _ _ _ _ _ _ _ (c .before .before .before .before .before .before .before .before .before .load .ensures) (entry .pre .0) (entry .pre .1 .1 .0) (entry .pre .1 .1 .1)
+    (c .before .before .before .before .before .before .if2 .taken) _ (c .before .before .before .before .back-link .ensures) (c .before .before .before .before .before .before .before .if1 .taken)
+    (c .before .before .hand-on .ensures)
 
 same-length-2 : tie.Need-same-length-2
 same-length-2 c = search needs

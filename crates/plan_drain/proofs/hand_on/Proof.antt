@@ -24,58 +24,65 @@ slice-read-x : tie.Need-slice-read-x
 slice-read-x c = search needs
 
 adjust-eq-movement-requires : tie.Need-adjust-eq-movement-requires
-adjust-eq-movement-requires c κs = (found-more _ _ (c .before .before .before .before .args .there) (omega (arith, c .before .before .before .before .pre .0 .0 .reals)) (c .before .before .before .before .pre .1 .0), found-more _ _ (c .before .before .before .before .args .back) (omega (arith, c .before .before .before .before .pre .0 .0 .reals)) (c .before .before .before .before .pre .1 .1))
+adjust-eq-movement-requires c κs =
+    let entry = c .before .before .before .before in (
+      found-more _ _ (entry .args .there) (omega (arith, entry .pre .0 .floats)) (entry .pre .1 .1 .1 .0),
+      found-more _ _ (entry .args .back) (omega (arith, entry .pre .0 .floats))
+          (entry .pre .1 .1 .1 .1),
+    )
 
-add-reals : tie.Need-add-reals
-add-reals c = search needs
+add-floats : tie.Need-add-floats
+add-floats c = search needs
 
-add-reals-2 : tie.Need-add-reals-2
-add-reals-2 c = search needs
+add-floats-2 : tie.Need-add-floats-2
+add-floats-2 c = search needs
 
-add-reals-3 : tie.Need-add-reals-3
-add-reals-3 c = search needs
+add-floats-3 : tie.Need-add-floats-3
+add-floats-3 c = search needs
 
-mul-reals : tie.Need-mul-reals
-mul-reals c = search needs
+mul-floats : tie.Need-mul-floats
+mul-floats c = search needs
 
-slice-read-reals : tie.Need-slice-read-reals
-slice-read-reals c = search needs
+slice-read-floats : tie.Need-slice-read-floats
+slice-read-floats c = search needs
 
-add-reals-4 : tie.Need-add-reals-4
-add-reals-4 c = search needs
+add-floats-4 : tie.Need-add-floats-4
+add-floats-4 c = search needs
 
-add-reals-5 : tie.Need-add-reals-5
-add-reals-5 c = search needs
+add-floats-5 : tie.Need-add-floats-5
+add-floats-5 c = search needs
 
-add-reals-6 : tie.Need-add-reals-6
-add-reals-6 c = search needs
+add-floats-6 : tie.Need-add-floats-6
+add-floats-6 c = search needs
 
-mul-reals-2 : tie.Need-mul-reals-2
-mul-reals-2 c = search needs
+mul-floats-2 : tie.Need-mul-floats-2
+mul-floats-2 c = search needs
 
-slice-write-reals : tie.Need-slice-write-reals
-slice-write-reals c = search needs
+slice-write-floats : tie.Need-slice-write-floats
+slice-write-floats c = search needs
 
-add-reals-7 : tie.Need-add-reals-7
-add-reals-7 c = search needs
+add-floats-7 : tie.Need-add-floats-7
+add-floats-7 c = search needs
 
-add-reals-8 : tie.Need-add-reals-8
-add-reals-8 c = search needs
+add-floats-8 : tie.Need-add-floats-8
+add-floats-8 c = search needs
 
-add-reals-9 : tie.Need-add-reals-9
-add-reals-9 c = search needs
+add-floats-9 : tie.Need-add-floats-9
+add-floats-9 c = search needs
 
-mul-reals-3 : tie.Need-mul-reals-3
-mul-reals-3 c = search needs
+mul-floats-3 : tie.Need-mul-floats-3
+mul-floats-3 c = search needs
 
-slice-write-reals-2 : tie.Need-slice-write-reals-2
-slice-write-reals-2 c = simp length-set (omega arith)
+slice-write-floats-2 : tie.Need-slice-write-floats-2
+slice-write-floats-2 c = simp length-set (omega arith)
 
 same-length : tie.Need-same-length
 same-length c = search needs
 
 returns : tie.Need-returns
-returns c = handed _ _ _ _ _ _ _ _ _ (c .before .before .before .before .before .before .before .before .pre .0 .0) (c .before .before .before .before .before .before .before .before .pre .0 .1 .0) (c .before .before .before .before .before .before .before .before .pre .0 .1 .1) (c .before .before .before .before .before .before .before .before .pre .1 .0) (c .before .before .before .before .before .before .before .before .pre .1 .1) (c .before .before .before .adjust-eq-movement .ensures)
+returns c =
+    let entry = c .before .before .before .before .before .before .before .before in
+    handed _ _ _ _ _ _ _ _ _ (entry .pre .0) (entry .pre .1 .0) (entry .pre .1 .1 .0) (entry .pre .1 .1 .1 .0) (entry .pre .1 .1 .1 .1) (c .before .before .before .adjust-eq-movement .ensures)
 
 pub hand-on-spec : {M : Type 1} → statement M
 hand-on-spec =
@@ -87,20 +94,20 @@ hand-on-spec =
     mul-x
     slice-read-x
     adjust-eq-movement-requires
-    add-reals
-    add-reals-2
-    add-reals-3
-    mul-reals
-    slice-read-reals
-    add-reals-4
-    add-reals-5
-    add-reals-6
-    mul-reals-2
-    slice-write-reals
-    add-reals-7
-    add-reals-8
-    add-reals-9
-    mul-reals-3
-    slice-write-reals-2
+    add-floats
+    add-floats-2
+    add-floats-3
+    mul-floats
+    slice-read-floats
+    add-floats-4
+    add-floats-5
+    add-floats-6
+    mul-floats-2
+    slice-write-floats
+    add-floats-7
+    add-floats-8
+    add-floats-9
+    mul-floats-3
+    slice-write-floats-2
     same-length
     returns)

@@ -1,4 +1,5 @@
 -- By the three ways out: not the zone's link, a marked turf, a move. Assumes nothing.
+use Prim.Native.Nat.{_<_}
 use native.Mathlib.Omega.{arith}
 use Rattle.plan_fast.proofs.Moves.{fast-foreign, fast-marked, fast-p, fast-back, fast-more}
 use borrow.Author.Needs.{needs}
@@ -15,7 +16,24 @@ add-if1 : tie.Need-add-if1
 add-if1 c = search needs
 
 returns : tie.Need-returns
-returns c = fast-foreign _ _ _ _ _ _ _ _ _ (c .before .before .before .before .pre .0 .0) (c .before .before .before .before .pre .0 .1 .1 .1 .1) (c .before .before .before .before .pre .0 .1 .1 .1 .0) (c .if1 .taken)
+returns c =
+    let entry = c .before .before .before .before .before in
+    let hk : entry .args .k < entry .args .share .e = omega (arith, entry .pre .1 .1 .0 .within) in
+    let ha = entry .pre .1 .1 .0 .ends (entry .args .k) hk in
+    fast-foreign _ _ (entry .args .share .z) (entry .args .share .r) _ _ (entry .args .share .x) _ _ (entry .pre .0) hk ha (c .if1 .taken)
+
+mul-a : tie.Need-mul-a
+mul-a c = search needs
+
+shared-slice-read-a : tie.Need-shared-slice-read-a
+shared-slice-read-a c = search needs
+
+cast-a : tie.Need-cast-a
+cast-a c =
+    let entry = c .before .before .before .before .before .before in
+    let hk : entry .args .k < entry .args .share .e = omega (arith, entry .pre .1 .1 .0 .within) in
+    let ha = entry .pre .1 .1 .0 .ends (entry .args .k) hk in
+    omega (arith, ha, entry .pre .0 .turfs)
 
 add-if2 : tie.Need-add-if2
 add-if2 c = search needs
@@ -27,28 +45,56 @@ add-if2-3 : tie.Need-add-if2-3
 add-if2-3 c = search needs
 
 add-if2-4 : tie.Need-add-if2-4
-add-if2-4 c = search needs
+add-if2-4 c =
+    let entry = c .before .before .before .before .before .before in
+    let hk : entry .args .k < entry .args .share .e = omega (arith, entry .pre .1 .1 .0 .within) in
+    let ha = entry .pre .1 .1 .0 .ends (entry .args .k) hk in
+    omega (arith, ha, entry .pre .0 .turfs, entry .pre .0 .links)
 
 mul-if2 : tie.Need-mul-if2
-mul-if2 c = search needs
+mul-if2 c =
+    let entry = c .before .before .before .before .before .before in
+    let hk : entry .args .k < entry .args .share .e = omega (arith, entry .pre .1 .1 .0 .within) in
+    let ha = entry .pre .1 .1 .0 .ends (entry .args .k) hk in
+    omega (arith, ha, entry .pre .0 .turfs, entry .pre .0 .links)
 
 shared-slice-read-if2 : tie.Need-shared-slice-read-if2
-shared-slice-read-if2 c = search needs
+shared-slice-read-if2 c =
+    let entry = c .before .before .before .before .before .before .before in
+    let hk : entry .args .k < entry .args .share .e = omega (arith, entry .pre .1 .1 .0 .within) in
+    let ha = entry .pre .1 .1 .0 .ends (entry .args .k) hk in
+    omega (arith, ha, entry .pre .0 .words)
 
 returns-2 : tie.Need-returns-2
-returns-2 c = fast-marked _ _ _ _ _ _ _ _ _ (c .before .before .before .before .before .before .pre .0 .0) (c .before .before .before .before .before .before .pre .0 .1 .1 .1 .1) (c .before .before .before .before .before .before .pre .0 .1 .1 .1 .0) (c .before .before .if1 .left) (c .if2 .taken)
+returns-2 c =
+    let entry = c .before .before .before .before .before .before .before .before in
+    let hk : entry .args .k < entry .args .share .e = omega (arith, entry .pre .1 .1 .0 .within) in
+    let ha = entry .pre .1 .1 .0 .ends (entry .args .k) hk in
+    fast-marked _ _ (entry .args .share .z) (entry .args .share .r) _ _ (entry .args .share .x) _ _ (entry .pre .0) hk ha (c .before .before .before .if1 .left) (c .if2 .taken)
 
 back-link-requires : tie.Need-back-link-requires
-back-link-requires c κs = (omega (arith, c .before .before .before .before .before .before .pre .0 .0 .words), (c .before .before .before .before .before .before .pre .0 .1 .1 .1 .1, (fast-p _ _ (c .before .before .before .before .before .before .args .z) (c .before .before .before .before .before .before .args .r) _ (c .before .before .before .before .before .before .args .a) (c .before .before .before .before .before .before .args .x) _ _ (c .before .before .before .before .before .before .pre .0 .0) (c .before .before .before .before .before .before .pre .0 .1 .1 .1 .1) (c .before .before .before .before .before .before .pre .0 .1 .1 .1 .0) (c .before .before .before .before .before .before .pre .1), c .before .before .before .before .before .before .pre .0 .1 .0)))
+back-link-requires c κs =
+    let entry = c .before .before .before .before .before .before .before .before in
+    let hk : entry .args .k < entry .args .share .e = omega (arith, entry .pre .1 .1 .0 .within) in
+    let ha = entry .pre .1 .1 .0 .ends (entry .args .k) hk in
+    (omega (arith, entry .pre .0 .words), (hk, (fast-p _ _ (entry .args .share .z) (entry .args .share .r) _ _ (entry .args .share .x) _ _ (entry .pre .0) hk ha (entry .pre .1 .1 .1), entry .pre .1 .0)))
 
 fast-move-requires : tie.Need-fast-move-requires
-fast-move-requires c κs = ((c .before .before .before .before .before .before .before .before .pre .0 .0, (c .before .before .before .before .before .before .before .before .pre .0 .1 .1 .0, c .before .before .before .before .before .before .before .before .pre .0 .1 .1 .1 .0)), (c .before .before .before .before .before .before .before .before .pre .0 .1 .1 .1 .1, fast-back _ _ (c .before .before .before .before .before .before .before .before .args .z) (c .before .before .before .before .before .before .before .before .args .r) _ (c .before .before .before .before .before .before .before .before .args .a) (c .before .before .before .before .before .before .before .before .args .x) _ _ (c .before .before .before .before .before .before .before .before .pre .0 .0) (c .before .before .before .before .before .before .before .before .pre .0 .1 .1 .1 .1) (c .before .before .before .before .before .before .before .before .pre .0 .1 .1 .1 .0) (c .before .before .before .before .before .before .before .before .pre .1) _ (c .before .back-link .ensures)))
+fast-move-requires c κs =
+    let entry = c .before .before .before .before .before .before .before .before .before .before in
+    let hk : entry .args .k < entry .args .share .e = omega (arith, entry .pre .1 .1 .0 .within) in
+    let ha = entry .pre .1 .1 .0 .ends (entry .args .k) hk in
+    (entry .pre .0, (entry .pre .1 .1 .0 .row, (ha, (hk, fast-back _ _ (entry .args .share .z) (entry .args .share .r) _ _ (entry .args .share .x) _ _ (entry .pre .0) hk ha (entry .pre .1 .1 .1) _ (c .before .back-link .ensures)))))
 
 same-length : tie.Need-same-length
 same-length c = search needs
 
 returns-3 : tie.Need-returns-3
-returns-3 c = fast-more _ _ _ _ _ _ _ _ _ (c .before .before .before .before .before .before .before .before .before .before .before .pre .0 .0) (c .before .before .before .before .before .before .before .before .before .before .before .pre .0 .1 .1 .1 .1) (c .before .before .before .before .before .before .before .before .before .before .before .pre .0 .1 .1 .1 .0) (c .before .before .before .before .before .before .before .before .before .before .before .pre .1) _ (c .before .before .before .before .back-link .ensures) (c .before .before .before .before .before .before .before .if1 .left) (c .before .before .before .before .before .if2 .left) (c .before .before .fast-move .ensures)
+returns-3 c =
+    let entry = c .before .before .before .before .before .before .before .before .before .before .before .before .before in
+    let hk : entry .args .k < entry .args .share .e = omega (arith, entry .pre .1 .1 .0 .within) in
+    let ha = entry .pre .1 .1 .0 .ends (entry .args .k) hk in
+    fast-more _ _ (entry .args .share .z) (entry .args .share .r) _ _ (entry .args .share .x) _ _ (entry .pre .0) hk ha (entry .pre .1 .1 .1) _ (c .before .before .before .before .back-link .ensures) (c .before .before .before .before .before .before .before .before .if1 .left) (c .before .before .before .before .before .if2 .left) (c .before .before .fast-move .ensures)
 
 pub fast-link-spec : {M : Type 1} → statement M
 fast-link-spec =
@@ -58,6 +104,9 @@ fast-link-spec =
     shared-slice-read-if1
     add-if1
     returns
+    mul-a
+    shared-slice-read-a
+    cast-a
     add-if2
     add-if2-2
     add-if2-3

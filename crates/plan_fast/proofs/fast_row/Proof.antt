@@ -1,63 +1,56 @@
 -- The loop's invariant: the links left, from here on, come to all links from the start. Assumes nothing.
 use Prim.Native.Nat.{ℕ, _≤_, _<_, _-_, _+_}
 use native.Mathlib.Omega.{arith}
-use native.Mathlib.Nat.{sub-zero}
-use mathlib.Core.Path.{_≡_, refl, _∙_, sym, ap}
-use mathlib.Core.List.{List}
-use lib.ListN.{length, getD}
-use lib.Ieee.{Float}
-use borrow.Author.Needs.{needs}
+use mathlib.Core.Path.{_≡_, refl, _∙_}
+use lib.ListN.{length}
 use Rattle.basics.specs.Loops.{run, upFrom}
 use Rattle.basics.proofs.Loops.{run-up, run-up-end}
-use Rattle.process_zone.specs.Plan.{Plan}
-use Rattle.index_set.proofs.Queue.{Below-at}
 use Rattle.plan_state.specs.Held.{area, view}
-use Rattle.plan_state.proofs.Stores.{does-as}
-use Rattle.plan_state.proofs.Nodes.{Onto, onto-next, onto-end}
-use Rattle.plan_fast.specs.Steps.{fastVia}
+use Rattle.plan_state.proofs.Nodes.{Onto, onto-start, onto-next, onto-end}
+use Rattle.plan_fast.specs.Steps.{shareOver}
 use Rattle.plan_fast.proofs.Moves.{reverse-same, fast-same}
 use Rattle.plan_fast.proofs.fast_row.Statement.{statement}
 use Rattle.plan_fast.proofs.fast_row.Tie as tie
 
-abbrev step : ℕ → Float → List ℕ → ℕ → ℕ → List ℕ → List ℕ → ℕ → Plan → Plan
-step r x part from z rev o j s = fastVia rev z r x o (from + j) (getD part j 0) s
-
 abbrev Inv-loop : tie.InvT-loop
-Inv-loop r x part from z n e words reals₀ i₀ reals i =
-    ((i ≤ length part) × (length reals ≡ length reals₀))
-    × Onto n e (λ o p. run (step r x part from z (view n e (area words reals₀) .reverse) o) (upFrom i (length part - i)) p)
-    (λ o p. run (step r x part from z (view n e (area words reals₀) .reverse) o) (upFrom 0 (length part)) p)
-    (area words reals₀) (area words reals)
+Inv-loop share from to neighbours words floats₀ k₀ floats k = ((from ≤ k) × ((k ≤ to) × (length floats ≡ length floats₀)))
+    × Onto (share .n) (share .e) (λ o p. run (shareOver share neighbours (view (share .n) (share .e) (area words floats₀) .reverse) o) (upFrom k (to - k)) p)
+    (λ o p. run (shareOver share neighbours (view (share .n) (share .e) (area words floats₀) .reverse) o) (upFrom from (to - from)) p)
+    (area words floats₀) (area words floats)
 
 abbrev μ-loop : tie.MeasureT-loop
-μ-loop r x part from z n e words reals₀ i₀ reals i = length part - i
+μ-loop share from to neighbours words floats₀ k₀ floats k = to - k
 
 loop-holds : tie.Need-loop-holds Inv-loop μ-loop
-loop-holds c = ((omega arith, refl), record { fit = c .before .before .before .pre .0 .0; on = rw sub-zero })
-
-add-fast-link : tie.Need-add-fast-link Inv-loop μ-loop
-add-fast-link c = omega (arith, c .before .before .before .before .before .pre .0 .1 .1 .1 .1, c .before .before .before .before .before .pre .0 .0 .links)
-
-mul-fast-link : tie.Need-mul-fast-link Inv-loop μ-loop
-mul-fast-link c = omega arith
-
-shared-slice-read-fast-link : tie.Need-shared-slice-read-fast-link Inv-loop μ-loop
-shared-slice-read-fast-link c = omega arith
+loop-holds c = ((omega arith, (c .before .before .before .pre .1 .1 .1 .0, refl)), onto-start _ (c .before .before .before .pre .0))
 
 fast-link-requires : tie.Need-fast-link-requires Inv-loop μ-loop
-fast-link-requires c κs = ((c .before .before .before .loop .inv .1 .fit, (c .before .before .before .before .before .before .before .pre .0 .1 .0, (c .before .before .before .before .before .before .before .pre .0 .1 .1 .0, (Below-at _ _ _ (c .before .before .before .before .before .before .before .pre .0 .1 .1 .1 .0) (c .before .before .loop-test .taken), omega (arith, c .before .before .before .before .before .before .before .pre .0 .1 .1 .1 .1, c .before .before .loop-test .taken))))), rw (reverse-same _ _ _ _ (c .before .before .before .before .before .before .before .args .reals .now)) (c .before .before .before .before .before .before .before .pre .1 _ (c .before .before .loop-test .taken)))
+fast-link-requires c κs =
+    let entry = c .before .before .before .before .before .before in (
+      c .before .before .loop .inv .1 .fit,
+      (
+        entry .pre .1 .0,
+        (
+          record { row = entry .pre .1 .1 .0 .row; all = entry .pre .1 .1 .0 .all; within = omega (arith, entry .pre .1 .1 .0 .within, c .before .loop-test .taken); ends = entry .pre .1 .1 .0 .ends },
+          rw (reverse-same _ _ _ _ (entry .args .floats .now)) (entry .pre .1 .1 .1 .1 _ (c .before .before .loop .inv .0 .0) (c .before .loop-test .taken)),
+        ),
+      ),
+    )
 
-add-i : tie.Need-add-i Inv-loop μ-loop
-add-i c = omega arith
+add-k : tie.Need-add-k Inv-loop μ-loop
+add-k c = omega (arith, c .before .before .before .before .loop-test .taken, c .before .before .before .before .before .before .before .before .before .pre .1 .1 .0 .within, c .before .before .before .before .before .before .before .before .before .pre .0 .links)
 
 loop-less : tie.Need-loop-less Inv-loop μ-loop
-loop-less c = omega arith
+loop-less c = omega (arith, c .before .before .before .before .loop-test .taken)
 
 loop-again : tie.Need-loop-again Inv-loop μ-loop
-loop-again c = ((omega arith, c .before .before .fast-link .kept .1 .1 .1 .1 .1 .1 .1 .1 .0 ∙ c .before .before .before .before .before .before .loop .inv .0 .1), onto-next _ _ (c .before .before .before .before .before .before .loop .inv .1) (fast-same _ _ _ _ _ _ _ _ _ _ (c .before .before .fast-link .ensures)) (λ o p. run-up _ _ _ _ (c .before .before .before .before .before .loop-test .taken)))
+loop-again c = (
+  (omega (arith, c .before .before .before .before .before .loop .inv .0 .0), (omega (arith, c .before .before .before .before .loop-test .taken), c .before .before .fast-link .kept .1 .1 .1 .1 .0 ∙ c .before .before .before .before .before .loop .inv .0 .1 .1)),
+  onto-next _ _ (c .before .before .before .before .before .loop .inv .1) (fast-same _ _ _ _ _ _ _ _ _ _ (c .before .before .fast-link .ensures)) (λ o p. run-up _ _ _ _ (c .before .before .before .before .loop-test .taken)),
+)
 
 same-length : tie.Need-same-length Inv-loop μ-loop
-same-length c = search needs
+same-length c = c .before .loop .inv .0 .1 .1
 
 returns : tie.Need-returns Inv-loop μ-loop
 returns c = onto-end (c .before .loop .inv .1) (λ o p. run-up-end _ _ _ _ (c .loop-test .left))
@@ -69,11 +62,8 @@ fast-row-spec =
     Inv-loop
     μ-loop
     loop-holds
-    add-fast-link
-    mul-fast-link
-    shared-slice-read-fast-link
     fast-link-requires
-    add-i
+    add-k
     loop-less
     loop-again
     same-length

@@ -1,8 +1,7 @@
 -- The links counted are the eligible ones, and a move leaves the marks, so each may be looked at when its turn comes. Assumes nothing.
 use native.Mathlib.Omega.{arith}
-use Prim.Native.Nat.{_+_}
-use Rattle.plan_state.proofs.Parts.{part-below, part-fits}
-use Rattle.plan_fast.proofs.Fast.{fast-within, fast-some, fast-none}
+use Rattle.turfs.specs.Tables.{boardOf}
+use Rattle.plan_fast.proofs.Fast.{stored, fast-within, fast-some, fast-none}
 use borrow.Author.Needs.{needs}
 use Rattle.plan_fast.proofs.fast_turf.Statement.{statement}
 use Rattle.plan_fast.proofs.fast_turf.Tie as tie
@@ -10,8 +9,17 @@ use Rattle.plan_fast.proofs.fast_turf.Tie as tie
 load-requires : tie.Need-load-requires
 load-requires c κs = search needs
 
+marked-requires : tie.Need-marked-requires
+marked-requires c κs = search needs
+
 store-requires : tie.Need-store-requires
 store-requires c κs = search needs
+
+element-copy-out-starts : tie.Need-element-copy-out-starts
+element-copy-out-starts c = search needs
+
+element-copy-out-neighbours : tie.Need-element-copy-out-neighbours
+element-copy-out-neighbours c = search needs
 
 mul-from : tie.Need-mul-from
 mul-from c = search needs
@@ -20,7 +28,9 @@ shared-slice-read-from : tie.Need-shared-slice-read-from
 shared-slice-read-from c = search needs
 
 cast-from : tie.Need-cast-from
-cast-from c = omega (arith, c .shared-slice-known3 .given (c .before .before .before .before .before .before .before .before .before .before .before .before .before .before .before .before .args .r))
+cast-from c =
+    let entry = c .before .before .before .before .before .before .before .before .before .before .before .before .before .before .before .before .before in
+    omega (arith, entry .pre .0 .sized .linked .rise _ (entry .pre .1), entry .pre .0 .sized .linked .within _ (entry .pre .1), entry .pre .0 .sized .links, entry .pre .0 .fit .links)
 
 add-to : tie.Need-add-to
 add-to c = search needs
@@ -32,40 +42,53 @@ shared-slice-read-to : tie.Need-shared-slice-read-to
 shared-slice-read-to c = search needs
 
 cast-to : tie.Need-cast-to
-cast-to c = omega (arith, c .shared-slice-known4 .given (c .before .before .before .before .before .before .before .before .before .before .before .before .before .before .before .before .before .args .r + 1))
-
-mul-count-eligible : tie.Need-mul-count-eligible
-mul-count-eligible c = omega (arith, ((c .before .before .before .before .before .before .before .before .before .before .before .before .before .before .before .before .before .pre .0 .0) .rise _ (c .before .before .before .before .before .before .before .before .before .before .before .before .before .before .before .before .before .pre .0 .1 .1 .1 .1)), ((c .before .before .before .before .before .before .before .before .before .before .before .before .before .before .before .before .before .pre .0 .0) .within _ (c .before .before .before .before .before .before .before .before .before .before .before .before .before .before .before .before .before .pre .0 .1 .1 .1 .1)), c .before .before .before .before .before .before .before .before .before .before .before .before .before .before .before .before .before .good)
-
-sub-count-eligible : tie.Need-sub-count-eligible
-sub-count-eligible c = ((c .before .before .before .before .before .before .before .before .before .before .before .before .before .before .before .before .before .pre .0 .0) .rise _ (c .before .before .before .before .before .before .before .before .before .before .before .before .before .before .before .before .before .pre .0 .1 .1 .1 .1))
-
-part-count-eligible-start : tie.Need-part-count-eligible-start
-part-count-eligible-start c = ((c .before .before .before .before .before .before .before .before .before .before .before .before .before .before .before .before .before .pre .0 .0) .rise _ (c .before .before .before .before .before .before .before .before .before .before .before .before .before .before .before .before .before .pre .0 .1 .1 .1 .1))
-
-part-count-eligible-end : tie.Need-part-count-eligible-end
-part-count-eligible-end c = ((c .before .before .before .before .before .before .before .before .before .before .before .before .before .before .before .before .before .pre .0 .0) .within _ (c .before .before .before .before .before .before .before .before .before .before .before .before .before .before .before .before .before .pre .0 .1 .1 .1 .1))
+cast-to c =
+    let entry = c .before .before .before .before .before .before .before .before .before .before .before .before .before .before .before .before .before .before in
+    omega (arith, entry .pre .0 .sized .linked .within _ (entry .pre .1), entry .pre .0 .sized .links, entry .pre .0 .fit .links)
 
 count-eligible-requires : tie.Need-count-eligible-requires
-count-eligible-requires c κs = (omega (arith, c .before .before .before .before .before .before .before .before .before .store .ensures .fit .words), (part-below _ _ _ _ (c .before .before .before .before .before .before .before .before .before .before .before .before .before .before .before .before .before .before .before .pre .0 .0) (c .before .before .before .before .before .before .before .before .before .before .before .before .before .before .before .before .before .before .before .pre .0 .1 .1 .1 .1), (omega (arith, part-fits _ _ _ _ (c .before .before .before .before .before .before .before .before .before .before .before .before .before .before .before .before .before .before .before .pre .0 .0) (c .before .before .before .before .before .before .before .before .before .before .before .before .before .before .before .before .before .before .before .pre .0 .1 .1 .1 .1), c .before .before .before .before .before .before .before .before .before .before .before .before .before .before .before .before .before .before .before .pre .0 .1 .0), (c .before .before .before .before .before .before .before .before .before .before .before .before .before .before .before .before .before .before .before .pre .0 .1 .1 .1 .0, c .before .before .before .before .before .before .before .before .before .before .before .before .before .before .before .before .before .before .before .pre .0 .1 .1 .0 .links))))
+count-eligible-requires c κs =
+    let entry = c .before .before .before .before .before .before .before .before .before .before .before .before .before .before .before .before .before .before .before in (
+      omega (arith, c .before .before .before .before .before .before .before .before .before .before .store .ensures .fit .words),
+      (
+        entry .pre .0 .zone,
+        (
+          entry .pre .0 .fit .links,
+          (
+            entry .pre .0 .sized .linked .rise _ (entry .pre .1),
+            (omega (arith, entry .pre .0 .sized .linked .within _ (entry .pre .1), entry .pre .0 .sized .links), (entry .pre .0 .sized .links, λ k l. entry .pre .0 .sized .linked .rows k (omega (arith, l, entry .pre .0 .sized .links)))),
+          ),
+        ),
+      ),
+    )
 
-int-to-float-x : tie.Need-int-to-float-x
-int-to-float-x c = search needs
-
-mul-fast-row : tie.Need-mul-fast-row
-mul-fast-row c = omega (arith, ((c .before .before .before .before .before .before .before .before .before .before .before .before .before .before .before .before .before .before .before .before .before .pre .0 .0) .rise _ (c .before .before .before .before .before .before .before .before .before .before .before .before .before .before .before .before .before .before .before .before .before .pre .0 .1 .1 .1 .1)), ((c .before .before .before .before .before .before .before .before .before .before .before .before .before .before .before .before .before .before .before .before .before .pre .0 .0) .within _ (c .before .before .before .before .before .before .before .before .before .before .before .before .before .before .before .before .before .before .before .before .before .pre .0 .1 .1 .1 .1)), c .before .before .before .before .before .before .before .before .before .before .before .before .before .before .before .before .before .before .before .before .before .good)
-
-sub-fast-row : tie.Need-sub-fast-row
-sub-fast-row c = ((c .before .before .before .before .before .before .before .before .before .before .before .before .before .before .before .before .before .before .before .before .before .pre .0 .0) .rise _ (c .before .before .before .before .before .before .before .before .before .before .before .before .before .before .before .before .before .before .before .before .before .pre .0 .1 .1 .1 .1))
-
-part-fast-row-start : tie.Need-part-fast-row-start
-part-fast-row-start c = ((c .before .before .before .before .before .before .before .before .before .before .before .before .before .before .before .before .before .before .before .before .before .pre .0 .0) .rise _ (c .before .before .before .before .before .before .before .before .before .before .before .before .before .before .before .before .before .before .before .before .before .pre .0 .1 .1 .1 .1))
-
-part-fast-row-end : tie.Need-part-fast-row-end
-part-fast-row-end c = ((c .before .before .before .before .before .before .before .before .before .before .before .before .before .before .before .before .before .before .before .before .before .pre .0 .0) .within _ (c .before .before .before .before .before .before .before .before .before .before .before .before .before .before .before .before .before .before .before .before .before .pre .0 .1 .1 .1 .1))
+int-to-float-t43 : tie.Need-int-to-float-t43
+int-to-float-t43 c = search needs
 
 fast-row-requires : tie.Need-fast-row-requires
-fast-row-requires c κs = ((c .before .before .before .before .before .before .before .before .before .before .before .before .before .before .store .ensures .fit, (c .before .before .before .before .before .before .before .before .before .before .before .before .before .before .before .before .before .before .before .before .before .before .before .before .pre .0 .1 .1 .1 .0, ((c .before .before .before .before .before .before .before .before .before .before .before .before .before .before .before .before .before .before .before .before .before .before .before .before .pre .0 .1 .1 .1 .1), (part-below _ _ _ _ (c .before .before .before .before .before .before .before .before .before .before .before .before .before .before .before .before .before .before .before .before .before .before .before .before .pre .0 .0) (c .before .before .before .before .before .before .before .before .before .before .before .before .before .before .before .before .before .before .before .before .before .before .before .before .pre .0 .1 .1 .1 .1), omega (arith, part-fits _ _ _ _ (c .before .before .before .before .before .before .before .before .before .before .before .before .before .before .before .before .before .before .before .before .before .before .before .before .pre .0 .0) (c .before .before .before .before .before .before .before .before .before .before .before .before .before .before .before .before .before .before .before .before .before .before .before .before .pre .0 .1 .1 .1 .1), c .before .before .before .before .before .before .before .before .before .before .before .before .before .before .before .before .before .before .before .before .before .before .before .before .pre .0 .1 .0))))), fast-within _ _ _ _ (c .before .before .before .before .before .before .before .before .before .before .before .before .before .before .before .before .before .before .before .before .before .before .before .before .args .z) _ _ _ (c .before .before .before .before .before .before .before .before .before .before .before .before .before .before .before .before .before .load .ensures) (c .before .before .before .before .before .before .before .before .before .before .before .before .before .before .before .before .before .before .before .before .before .before .before .before .pre .0 .0) (c .before .before .before .before .before .before .before .before .before .before .before .before .before .before .before .before .before .before .before .before .before .before .before .before .pre .0 .1 .1 .1 .1) (c .before .before .before .before .before .before .before .before .before .before .before .before .before .before .before .before .before .before .before .before .before .before .before .before .pre .1) _ _ (c .before .before .before .before .before .before .before .before .before .before .before .before .before .before .store .ensures) (c .before .before .before .before .before .before .before .before .before .before .before .before .before .before .before .before .before .before .before .before .before .before .before .before .pre .0 .1 .0))
+fast-row-requires c κs =
+    let entry = c .before .before .before .before .before .before .before .before .before .before .before .before .before .before .before .before .before .before .before .before .before .before .before in
+    let load = c .before .before .before .before .before .before .before .before .before .before .before .before .before .before .before .before .before .before .load in
+    let store = c .before .before .before .before .before .before .before .before .before .before .before .before .before .before .store in (
+      store .ensures .fit,
+      (
+        entry .pre .0 .zone,
+        (
+          record {
+            row = entry .pre .1;
+            all = entry .pre .0 .sized .links;
+            within = omega (arith, entry .pre .0 .sized .linked .within _ (entry .pre .1), entry .pre .0 .sized .links);
+            ends = λ k l. entry .pre .0 .sized .linked .rows k (omega (arith, l, entry .pre .0 .sized .links));
+          },
+          (
+            entry .pre .0 .sized .linked .rise _ (entry .pre .1),
+            fast-within (boardOf (entry .args .rows .now) (entry .args .marks .now) (entry .args .gases)) _ _ (entry .args .zone .z)
+                _ _ _ (load .ensures) (entry .pre .0 .sized .linked) (entry .pre .1) (entry .pre .0 .reverses) _ _ (stored (load .result) (c .before .before .before .before .before .before .before .before .before .before .before .before .before .before .before .before .before .marked .ensures)
+                (store .ensures)) (entry .pre .0 .sized .links),
+          ),
+        ),
+      ),
+    )
 
 same-length : tie.Need-same-length
 same-length c = search needs
@@ -74,7 +97,13 @@ same-length-2 : tie.Need-same-length-2
 same-length-2 c = search needs
 
 returns : tie.Need-returns
-returns c = fast-some _ _ _ _ (c .before .before .before .before .before .before .before .before .before .before .before .before .before .before .before .before .before .before .before .before .before .before .before .before .before .before .before .args .z) _ _ _ (c .before .before .before .before .before .before .before .before .before .before .before .before .before .before .before .before .before .before .before .before .load .ensures) (c .before .before .before .before .before .before .before .before .before .before .before .before .before .before .before .before .before .before .before .before .before .before .before .before .before .before .before .pre .0 .0) (c .before .before .before .before .before .before .before .before .before .before .before .before .before .before .before .before .before .before .before .before .before .before .before .before .before .before .before .pre .0 .1 .1 .1 .1) (c .before .before .before .before .before .before .before .before .before .before .before .before .before .before .before .before .before .before .before .before .before .before .before .before .before .before .before .pre .1) _ _ (c .before .before .before .before .before .before .before .before .before .before .before .before .before .before .before .before .before .store .ensures) _ (c .before .before .before .before .before .before .before .before .before .before .before .before .if1 .taken) (c .before .before .before .before .before .before .before .count-eligible .ensures) (c .before .before .fast-row .ensures)
+returns c =
+    let entry = c .before .before .before .before .before .before .before .before .before .before .before .before .before .before .before .before .before .before .before .before .before .before .before .before .before .before in
+    let load = c .before .before .before .before .before .before .before .before .before .before .before .before .before .before .before .before .before .before .before .before .before .load in
+    fast-some (boardOf (entry .args .rows .now) (entry .args .marks .now) (entry .args .gases)) _ _ (entry .args .zone .z) _ _ _ (load .ensures) (entry .pre .0 .sized .linked)
+    (entry .pre .1) (entry .pre .0 .reverses) _ _ (stored (load .result) (c .before .before .before .before .before .before .before .before .before .before .before .before .before .before .before .before .before .before .before .before .marked .ensures)
+    (c .before .before .before .before .before .before .before .before .before .before .before .before .before .before .before .before .before .store .ensures)) _ (c .before .before .before .before .before .before .before .before .before .before .before .before .if1 .taken)
+    (c .before .before .before .before .before .before .count-eligible .ensures) (c .before .before .fast-row .ensures)
 
 same-length-3 : tie.Need-same-length-3
 same-length-3 c = search needs
@@ -83,14 +112,21 @@ same-length-4 : tie.Need-same-length-4
 same-length-4 c = search needs
 
 returns-2 : tie.Need-returns-2
-returns-2 c = fast-none _ _ _ _ _ _ _ _ (c .before .before .before .before .before .before .before .before .load .ensures) (c .if1 .left) (c .before .before .before .before .before .store .ensures)
+returns-2 c =
+    let entry = c .before .before .before .before .before .before .before .before .before .before .before .before .before .before in
+    let load = c .before .before .before .before .before .before .before .before .before .load in
+    fast-none (boardOf (entry .args .rows .now) (entry .args .marks .now) (entry .args .gases)) _ _ (entry .args .zone .z) _ _ _ (load .ensures) (c .if1 .left) (stored
+    (load .result) (c .before .before .before .before .before .before .before .before .marked .ensures) (c .before .before .before .before .before .store .ensures))
 
 pub fast-turf-spec : {M : Type 1} → statement M
 fast-turf-spec =
     tie.close
     (tie.spec
     load-requires
+    marked-requires
     store-requires
+    element-copy-out-starts
+    element-copy-out-neighbours
     mul-from
     shared-slice-read-from
     cast-from
@@ -98,16 +134,8 @@ fast-turf-spec =
     mul-to
     shared-slice-read-to
     cast-to
-    mul-count-eligible
-    sub-count-eligible
-    part-count-eligible-start
-    part-count-eligible-end
     count-eligible-requires
-    int-to-float-x
-    mul-fast-row
-    sub-fast-row
-    part-fast-row-start
-    part-fast-row-end
+    int-to-float-t43
     fast-row-requires
     same-length
     same-length-2

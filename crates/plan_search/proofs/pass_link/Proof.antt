@@ -1,4 +1,5 @@
 -- By the four ways out: not the zone's link, a row that is in the queue, a new row that wants, one that doesn't. Assumes nothing.
+use Prim.Native.Nat.{_<_}
 use native.Mathlib.Omega.{arith}
 use mathlib.Core.Path.{_∙_, refl, sym}
 use mathlib.Core.Bool.{true≢false}
@@ -8,12 +9,6 @@ use Rattle.plan_search.proofs.Passes.{pass-foreign, pass-queued, pass-n
 use borrow.Author.Needs.{needs}
 use Rattle.plan_search.proofs.pass_link.Statement.{statement}
 use Rattle.plan_search.proofs.pass_link.Tie as tie
-use Rattle.index_set.proofs.contains.Reads as contains-reads
-use Rattle.index_set.proofs.insert.Reads as insert-reads
-use Rattle.index_set.proofs.places_at.Reads as places-at-reads
-use Rattle.index_set.proofs.queue_at.Reads as queue-at-reads
-use Rattle.plan_trade.proofs.point.Reads as point-reads
-use Rattle.plan_trade.proofs.wants.Reads as wants-reads
 
 mul-if1 : tie.Need-mul-if1
 mul-if1 c = search needs
@@ -25,7 +20,11 @@ add-if1 : tie.Need-add-if1
 add-if1 c = search needs
 
 returns : tie.Need-returns
-returns c = (λ q. absurd (true≢false (sym q)), λ _. pass-foreign (c .before .before .before .before .args .side) (c .before .before .before .before .args .r) (c .before .before .before .before .args .k) (c .before .before .before .before .args .a) (c .before .before .before .before .args .z) _ _ _ _ _ (c .before .before .before .before .pre .0 .0) (c .before .before .before .before .pre .1 .1 .1) (c .before .before .before .before .pre .1 .1 .0) (c .if1 .taken))
+returns c =
+    let entry = c .before .before .before .before .before in
+    let hk : entry .args .k < entry .args .hand .e = omega (arith, entry .pre .1 .within) in
+    let ha = entry .pre .1 .ends (entry .args .k) hk in
+    (λ q. absurd (true≢false (sym q)), λ _. pass-foreign (entry .args .hand .side) (entry .args .r) (entry .args .k) (entry .args .hand .z) _ _ _ (entry .args .neighbours .now) _ _ (entry .pre .0 .seeking) hk ha (c .if1 .taken))
 
 queue-at-requires : tie.Need-queue-at-requires
 queue-at-requires c κs = search needs
@@ -33,26 +32,67 @@ queue-at-requires c κs = search needs
 places-at-requires : tie.Need-places-at-requires
 places-at-requires c κs = search needs
 
+mul-a : tie.Need-mul-a
+mul-a c = search needs
+
+shared-slice-read-a : tie.Need-shared-slice-read-a
+shared-slice-read-a c = search needs
+
 contains-requires : tie.Need-contains-requires
-contains-requires c κs = (link-holds (c .before .before .before .before .before .before .before .args .side) (c .before .before .before .before .before .before .before .args .a) (c .before .before .before .before .before .before .before .args .r) (c .before .before .before .before .before .before .before .args .k) (c .before .before .before .before .before .before .before .args .a) (c .before .before .before .before .before .before .before .args .z) _ _ _ _ _ (c .before .before .before .before .before .before .before .pre .0 .0) (c .before .before .before .before .before .before .before .pre .1 .1 .1) (c .before .before .before .before .before .before .before .pre .1 .1 .0) (c .before .before .before .before .before .before .before .pre .1 .1 .0) _ _ (c .before .before .queue-at .ensures) (c .before .places-at .ensures), c .before .before .before .before .before .before .before .pre .1 .1 .0)
+contains-requires c κs =
+    let entry = c .before .before .before .before .before .before .before .before .before in
+    let hk : entry .args .k < entry .args .hand .e = omega (arith, entry .pre .1 .within) in
+    let ha = entry .pre .1 .ends (entry .args .k) hk in
+    (link-holds (entry .args .hand .side) _ (entry .args .r) (entry .args .k) _ (entry .args .hand .z) _ _ _ _ _ (entry .pre .0 .seeking) hk ha ha _ _ (c .before .before .before .queue-at .ensures) (c .before .before .places-at .ensures), ha)
 
 same-length : tie.Need-same-length
 same-length c = search needs
 
 returns-2 : tie.Need-returns-2
-returns-2 c = (λ q. absurd (true≢false (sym q)), λ _. pass-queued (c .before .before .before .before .before .before .before .before .before .args .side) (c .before .before .before .before .before .before .before .before .before .args .r) (c .before .before .before .before .before .before .before .before .before .args .k) (c .before .before .before .before .before .before .before .before .before .args .a) (c .before .before .before .before .before .before .before .before .before .args .z) _ _ _ _ _ (c .before .before .before .before .before .before .before .before .before .pre .0 .0) (c .before .before .before .before .before .before .before .before .before .pre .1 .1 .1) (c .before .before .before .before .before .before .before .before .before .pre .1 .1 .0) _ _ (c .before .before .before .before .queue-at .ensures) (c .before .before .before .places-at .ensures) (c .before .before .before .before .before .if1 .left) (sym (c .if2 .taken) ∙ c .before .contains .ensures))
+returns-2 c =
+    let entry = c .before .before .before .before .before .before .before .before .before .before .before in
+    let hk : entry .args .k < entry .args .hand .e = omega (arith, entry .pre .1 .within) in
+    let ha = entry .pre .1 .ends (entry .args .k) hk in (
+      λ q. absurd (true≢false (sym q)),
+      λ _. pass-queued (entry .args .hand .side) (entry .args .r) (entry .args .k) (entry .args .hand .z) _ _ _ (entry .args .neighbours .now)
+          _ _ (entry .pre .0 .seeking) hk ha _ _ (c .before .before .before .before .before .queue-at .ensures) (c .before .before .before .before .places-at .ensures) (c .before .before .before .before .before .before .if1 .left)
+          (sym (c .if2 .taken) ∙ c .before .contains .ensures),
+    )
+
+cast-row : tie.Need-cast-row
+cast-row c =
+    let entry = c .before .before .before .before .before .before .before .before .before .before .before in
+    let hk : entry .args .k < entry .args .hand .e = omega (arith, entry .pre .1 .within) in
+    let ha = entry .pre .1 .ends (entry .args .k) hk in
+    omega (arith, ha, entry .pre .0 .seeking .fit .links, entry .pre .0 .seeking .fit .turfs)
 
 add-wants : tie.Need-add-wants
-add-wants c = search needs
+add-wants c =
+    let entry = c .before .before .before .before .before .before .before .before .before .before .before in
+    let hk : entry .args .k < entry .args .hand .e = omega (arith, entry .pre .1 .within) in
+    let ha = entry .pre .1 .ends (entry .args .k) hk in
+    omega (arith, ha, entry .pre .0 .seeking .fit .links, entry .pre .0 .seeking .fit .turfs)
 
 add-wants-2 : tie.Need-add-wants-2
-add-wants-2 c = search needs
+add-wants-2 c =
+    let entry = c .before .before .before .before .before .before .before .before .before .before .before in
+    let hk : entry .args .k < entry .args .hand .e = omega (arith, entry .pre .1 .within) in
+    let ha = entry .pre .1 .ends (entry .args .k) hk in
+    omega (arith, ha, entry .pre .0 .seeking .fit .links, entry .pre .0 .seeking .fit .turfs)
 
 mul-wants : tie.Need-mul-wants
-mul-wants c = search needs
+mul-wants c =
+    let entry = c .before .before .before .before .before .before .before .before .before .before .before in
+    let hk : entry .args .k < entry .args .hand .e = omega (arith, entry .pre .1 .within) in
+    let ha = entry .pre .1 .ends (entry .args .k) hk in
+    omega (arith, ha, entry .pre .0 .seeking .fit .links, entry .pre .0 .seeking .fit .turfs)
 
 slice-read-wants : tie.Need-slice-read-wants
-slice-read-wants c = search needs
+slice-read-wants c =
+    let entry = c .before .before .before .before .before .before .before .before .before .before .before .before in
+    let hk : entry .args .k < entry .args .hand .e = omega (arith, entry .pre .1 .within) in
+    let ha = entry .pre .1 .ends (entry .args .k) hk in
+    omega (arith, ha, entry .pre .0 .seeking .fit .floats)
 
 wants-requires : tie.Need-wants-requires
 wants-requires c κs = search needs
@@ -64,7 +104,25 @@ returns-3 : tie.Need-returns-3
 returns-3 c = (λ _. refl, λ q. absurd (true≢false q))
 
 insert-requires : tie.Need-insert-requires
-insert-requires c κs = let l = link-room (c .before .before .before .before .before .before .before .before .before .before .before .before .before .args .side) (c .before .before .before .before .before .before .before .before .before .before .before .before .before .args .a) (c .before .before .before .before .before .before .before .before .before .before .before .before .before .args .r) (c .before .before .before .before .before .before .before .before .before .before .before .before .before .args .k) (c .before .before .before .before .before .before .before .before .before .before .before .before .before .args .a) (c .before .before .before .before .before .before .before .before .before .before .before .before .before .args .z) _ _ _ _ _ (c .before .before .before .before .before .before .before .before .before .before .before .before .before .pre .0 .0) (c .before .before .before .before .before .before .before .before .before .before .before .before .before .pre .1 .1 .1) (c .before .before .before .before .before .before .before .before .before .before .before .before .before .pre .1 .1 .0) (c .before .before .before .before .before .before .before .before .before .before .before .before .before .pre .1 .1 .0) _ _ (c .before .before .before .before .before .before .before .before .queue-at .ensures) (c .before .before .before .before .before .before .before .places-at .ensures) (c .before .before .before .before .before .before .before .before .before .if1 .left) (sym (c .before .before .before .before .if2 .left) ∙ c .before .before .before .before .before .contains .ensures) in (omega (arith, l, c .before .before .before .before .before .before .before .before .queue-at .ensures, c .before .before .before .before .before .before .before .before .before .before .before .before .before .pre .0 .0 .fit .words), (omega (arith, l, c .before .before .before .before .before .before .before .places-at .ensures, c .before .before .before .before .before .before .before .before .before .before .before .before .before .pre .0 .0 .fit .words, c .before .before .before .before .before .before .before .before .before .before .before .before .before .pre .1 .1 .0), omega (arith, l, c .before .before .before .before .before .before .before .before .before .before .before .before .before .pre .0 .0 .fit .turfs)))
+insert-requires c κs =
+    let entry = c .before .before .before .before .before .before .before .before .before .before .before .before .before .before .before in
+    let queue-at = c .before .before .before .before .before .before .before .before .before .queue-at in
+    let places-at = c .before .before .before .before .before .before .before .before .places-at in
+    let hk : entry .args .k < entry .args .hand .e = omega (arith, entry .pre .1 .within) in
+    let ha = entry .pre .1 .ends (entry .args .k) hk in
+    let l = link-room (entry .args .hand .side) _ (entry .args .r) (entry .args .k) _ (entry .args .hand .z) _ _ _ _ _ (entry .pre .0 .seeking) hk ha ha _ _ (queue-at .ensures)
+    (places-at .ensures) (c .before .before .before .before .before .before .before .before .before .before .if1 .left) (sym (c .before .before .before .before .if2 .left)
+    ∙ c .before .before .before .before .before .contains .ensures) in (
+      omega (arith, l, queue-at .ensures, entry .pre .0 .seeking .fit .words),
+      (
+        omega (arith, l, places-at .ensures, entry .pre .0 .seeking .fit .words, ha),
+        omega (
+          arith,
+          l,
+          entry .pre .0 .seeking .fit .turfs,
+        ),
+      ),
+    )
 
 cast-words : tie.Need-cast-words
 cast-words c = search needs
@@ -73,28 +131,66 @@ add-words : tie.Need-add-words
 add-words c = search needs
 
 add-words-2 : tie.Need-add-words-2
-add-words-2 c = search needs
+add-words-2 c =
+    let entry = c .before .before .before .before .before .before .before .before .before .before .before .before .before .before .before .before .before .before in
+    let hk : entry .args .k < entry .args .hand .e = omega (arith, entry .pre .1 .within) in
+    let ha = entry .pre .1 .ends (entry .args .k) hk in
+    omega (arith, ha, entry .pre .0 .seeking .fit .links, entry .pre .0 .seeking .fit .turfs)
 
 add-words-3 : tie.Need-add-words-3
-add-words-3 c = search needs
+add-words-3 c =
+    let entry = c .before .before .before .before .before .before .before .before .before .before .before .before .before .before .before .before .before .before in
+    let hk : entry .args .k < entry .args .hand .e = omega (arith, entry .pre .1 .within) in
+    let ha = entry .pre .1 .ends (entry .args .k) hk in
+    omega (arith, ha, entry .pre .0 .seeking .fit .links, entry .pre .0 .seeking .fit .turfs)
 
 add-words-4 : tie.Need-add-words-4
-add-words-4 c = search needs
+add-words-4 c =
+    let entry = c .before .before .before .before .before .before .before .before .before .before .before .before .before .before .before .before .before .before in
+    let hk : entry .args .k < entry .args .hand .e = omega (arith, entry .pre .1 .within) in
+    let ha = entry .pre .1 .ends (entry .args .k) hk in
+    omega (arith, ha, entry .pre .0 .seeking .fit .links, entry .pre .0 .seeking .fit .turfs)
 
 mul-words : tie.Need-mul-words
-mul-words c = search needs
+mul-words c =
+    let entry = c .before .before .before .before .before .before .before .before .before .before .before .before .before .before .before .before .before .before in
+    let hk : entry .args .k < entry .args .hand .e = omega (arith, entry .pre .1 .within) in
+    let ha = entry .pre .1 .ends (entry .args .k) hk in
+    omega (arith, ha, entry .pre .0 .seeking .fit .links, entry .pre .0 .seeking .fit .turfs)
 
 slice-write-words : tie.Need-slice-write-words
-slice-write-words c = search needs
+slice-write-words c =
+    let entry = c .before .before .before .before .before .before .before .before .before .before .before .before .before .before .before .before .before .before in
+    let hk : entry .args .k < entry .args .hand .e = omega (arith, entry .pre .1 .within) in
+    let ha = entry .pre .1 .ends (entry .args .k) hk in
+    omega (arith, ha, entry .pre .0 .seeking .fit .words, c .before .before .insert .kept .1 .1 .1 .1 .0)
 
 add-point : tie.Need-add-point
 add-point c = search needs
 
 point-requires : tie.Need-point-requires
-point-requires c κs = (push-fit (c .before .before .before .before .before .before .before .before .before .before .before .before .before .before .before .before .before .before .args .side) (c .before .before .before .before .before .before .before .before .before .before .before .before .before .before .before .before .before .before .args .a) (c .before .before .before .before .before .before .before .before .before .before .before .before .before .before .before .before .before .before .args .r) (c .before .before .before .before .before .before .before .before .before .before .before .before .before .before .before .before .before .before .args .k) (c .before .before .before .before .before .before .before .before .before .before .before .before .before .before .before .before .before .before .args .a) (c .before .before .before .before .before .before .before .before .before .before .before .before .before .before .before .before .before .before .args .z) _ _ _ _ _ (c .before .before .before .before .before .before .before .before .before .before .before .before .before .before .before .before .before .before .pre .0 .0) (c .before .before .before .before .before .before .before .before .before .before .before .before .before .before .before .before .before .before .pre .1 .1 .1) (c .before .before .before .before .before .before .before .before .before .before .before .before .before .before .before .before .before .before .pre .1 .1 .0) (c .before .before .before .before .before .before .before .before .before .before .before .before .before .before .before .before .before .before .pre .1 .1 .0) _ _ (c .before .before .before .before .before .before .before .before .before .before .before .before .before .queue-at .ensures) (c .before .before .before .before .before .before .before .before .before .before .before .before .places-at .ensures) (c .before .before .before .before .before .before .before .before .before .before .before .before .before .before .if1 .left) (sym (c .before .before .before .before .before .before .before .before .before .if2 .left) ∙ c .before .before .before .before .before .before .before .before .before .before .contains .ensures) _ (c .before .before .before .before .insert .ensures), c .before .before .before .before .before .before .before .before .before .before .before .before .before .before .before .before .before .before .pre .1 .1 .0)
+point-requires c κs =
+    let entry = c .before .before .before .before .before .before .before .before .before .before .before .before .before .before .before .before .before .before .before .before in
+    let hk : entry .args .k < entry .args .hand .e = omega (arith, entry .pre .1 .within) in
+    let ha = entry .pre .1 .ends (entry .args .k) hk in (
+      push-fit (entry .args .hand .side) _ (entry .args .r) (entry .args .k) _ (entry .args .hand .z) _ _ _ _ _ (entry .pre .0 .seeking) hk ha ha _ _ (c .before .before .before .before .before .before .before .before .before .before .before .before .before .before .queue-at .ensures)
+          (c .before .before .before .before .before .before .before .before .before .before .before .before .before .places-at .ensures) (c .before .before .before .before .before .before .before .before .before .before .before .before .before .before .before .if1 .left)
+          (sym (c .before .before .before .before .before .before .before .before .before .if2 .left) ∙ c .before .before .before .before .before .before .before .before .before .before .contains .ensures)
+          _ (c .before .before .before .before .insert .ensures),
+      ha,
+    )
 
-add-t31 : tie.Need-add-t31
-add-t31 c = let l = link-room (c .before .before .before .before .before .before .before .before .before .before .before .before .before .before .before .before .before .before .before .before .before .before .before .args .side) (c .before .before .before .before .before .before .before .before .before .before .before .before .before .before .before .before .before .before .before .before .before .before .before .args .a) (c .before .before .before .before .before .before .before .before .before .before .before .before .before .before .before .before .before .before .before .before .before .before .before .args .r) (c .before .before .before .before .before .before .before .before .before .before .before .before .before .before .before .before .before .before .before .before .before .before .before .args .k) (c .before .before .before .before .before .before .before .before .before .before .before .before .before .before .before .before .before .before .before .before .before .before .before .args .a) (c .before .before .before .before .before .before .before .before .before .before .before .before .before .before .before .before .before .before .before .before .before .before .before .args .z) _ _ _ _ _ (c .before .before .before .before .before .before .before .before .before .before .before .before .before .before .before .before .before .before .before .before .before .before .before .pre .0 .0) (c .before .before .before .before .before .before .before .before .before .before .before .before .before .before .before .before .before .before .before .before .before .before .before .pre .1 .1 .1) (c .before .before .before .before .before .before .before .before .before .before .before .before .before .before .before .before .before .before .before .before .before .before .before .pre .1 .1 .0) (c .before .before .before .before .before .before .before .before .before .before .before .before .before .before .before .before .before .before .before .before .before .before .before .pre .1 .1 .0) _ _ (c .before .before .before .before .before .before .before .before .before .before .before .before .before .before .before .before .before .before .queue-at .ensures) (c .before .before .before .before .before .before .before .before .before .before .before .before .before .before .before .before .before .places-at .ensures) (c .before .before .before .before .before .before .before .before .before .before .before .before .before .before .before .before .before .before .before .if1 .left) (sym (c .before .before .before .before .before .before .before .before .before .before .before .before .before .before .if2 .left) ∙ c .before .before .before .before .before .before .before .before .before .before .before .before .before .before .before .contains .ensures) in omega (arith, l, c .before .before .before .before .before .before .before .before .before .before .before .before .before .before .before .before .before .before .before .before .before .before .before .pre .0 .0 .fit .turfs)
+add-t34 : tie.Need-add-t34
+add-t34 c =
+    let entry = c .before .before .before .before .before .before .before .before .before .before .before .before .before .before .before .before .before .before .before .before .before .before .before .before .before in
+    let hk : entry .args .k < entry .args .hand .e = omega (arith, entry .pre .1 .within) in
+    let ha = entry .pre .1 .ends (entry .args .k) hk in
+    let l = link-room (entry .args .hand .side) _ (entry .args .r) (entry .args .k) _ (entry .args .hand .z) _ _ _ _ _ (entry .pre .0 .seeking) hk ha ha _ _ (c .before .before .before .before .before .before .before .before .before .before .before .before .before .before .before .before .before .before .before .queue-at .ensures)
+    (c .before .before .before .before .before .before .before .before .before .before .before .before .before .before .before .before .before .before .places-at .ensures)
+    (c .before .before .before .before .before .before .before .before .before .before .before .before .before .before .before .before .before .before .before .before .if1 .left)
+    (sym (c .before .before .before .before .before .before .before .before .before .before .before .before .before .before .if2 .left) ∙ c .before .before .before .before .before .before .before .before .before .before .before .before .before .before .before .contains .ensures)
+    in
+    omega (arith, l, entry .pre .0 .seeking .fit .turfs)
 
 same-length-3 : tie.Need-same-length-3
 same-length-3 c = c .before .before .before .before .point .kept .1 .1 .1 .1 .0 ∙ simp length-set (c .before .before .before .before .before .before .before .before .before .insert .kept .1 .1 .1 .1 .0)
@@ -103,7 +199,19 @@ same-length-4 : tie.Need-same-length-4
 same-length-4 c = search needs
 
 returns-4 : tie.Need-returns-4
-returns-4 c = (λ q. absurd (true≢false (sym q)), λ _. pass-new (c .before .before .before .before .before .before .before .before .before .before .before .before .before .before .before .before .before .before .before .before .before .before .before .args .side) (c .before .before .before .before .before .before .before .before .before .before .before .before .before .before .before .before .before .before .before .before .before .before .before .args .r) (c .before .before .before .before .before .before .before .before .before .before .before .before .before .before .before .before .before .before .before .before .before .before .before .args .k) (c .before .before .before .before .before .before .before .before .before .before .before .before .before .before .before .before .before .before .before .before .before .before .before .args .a) (c .before .before .before .before .before .before .before .before .before .before .before .before .before .before .before .before .before .before .before .before .before .before .before .args .z) _ _ _ _ _ (c .before .before .before .before .before .before .before .before .before .before .before .before .before .before .before .before .before .before .before .before .before .before .before .pre .0 .0) (c .before .before .before .before .before .before .before .before .before .before .before .before .before .before .before .before .before .before .before .before .before .before .before .pre .1 .1 .1) (c .before .before .before .before .before .before .before .before .before .before .before .before .before .before .before .before .before .before .before .before .before .before .before .pre .1 .1 .0) _ _ (c .before .before .before .before .before .before .before .before .before .before .before .before .before .before .before .before .before .before .queue-at .ensures) (c .before .before .before .before .before .before .before .before .before .before .before .before .before .before .before .before .before .places-at .ensures) (c .before .before .before .before .before .before .before .before .before .before .before .before .before .before .before .before .before .before .before .if1 .left) (sym (c .before .before .before .before .before .before .before .before .before .before .before .before .before .before .if2 .left) ∙ c .before .before .before .before .before .before .before .before .before .before .before .before .before .before .before .contains .ensures) (sym (c .before .before .before .before .before .before .before .before .before .before .before .before .wants .ensures) ∙ c .before .before .before .before .before .before .before .before .before .before .before .if3 .left) _ (c .before .before .before .before .before .before .before .before .before .insert .ensures) _ _ (c .before .before .before .before .point .ensures))
+returns-4 c =
+    let entry = c .before .before .before .before .before .before .before .before .before .before .before .before .before .before .before .before .before .before .before .before .before .before .before .before .before in
+    let hk : entry .args .k < entry .args .hand .e = omega (arith, entry .pre .1 .within) in
+    let ha = entry .pre .1 .ends (entry .args .k) hk in (
+      λ q. absurd (true≢false (sym q)),
+      λ _. pass-new (entry .args .hand .side) (entry .args .r) (entry .args .k) (entry .args .hand .z) _ _ _ (entry .args .neighbours .now) _ _ (entry .pre .0 .seeking) hk
+          ha _ _ (c .before .before .before .before .before .before .before .before .before .before .before .before .before .before .before .before .before .before .before .queue-at .ensures)
+          (c .before .before .before .before .before .before .before .before .before .before .before .before .before .before .before .before .before .before .places-at .ensures)
+          (c .before .before .before .before .before .before .before .before .before .before .before .before .before .before .before .before .before .before .before .before .if1 .left)
+          (sym (c .before .before .before .before .before .before .before .before .before .before .before .before .before .before .if2 .left) ∙ c .before .before .before .before .before .before .before .before .before .before .before .before .before .before .before .contains .ensures)
+          (sym (c .before .before .before .before .before .before .before .before .before .before .before .before .wants .ensures) ∙ c .before .before .before .before .before .before .before .before .before .before .before .if3 .left)
+          _ (c .before .before .before .before .before .before .before .before .before .insert .ensures) _ _ (c .before .before .before .before .point .ensures),
+    )
 
 pub pass-link-spec : {M : Type 1} → statement M
 pass-link-spec =
@@ -115,9 +223,12 @@ pass-link-spec =
     returns
     queue-at-requires
     places-at-requires
+    mul-a
+    shared-slice-read-a
     contains-requires
     same-length
     returns-2
+    cast-row
     add-wants
     add-wants-2
     mul-wants
@@ -135,7 +246,7 @@ pass-link-spec =
     slice-write-words
     add-point
     point-requires
-    add-t31
+    add-t34
     same-length-3
     same-length-4
     returns-4)

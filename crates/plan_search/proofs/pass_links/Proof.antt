@@ -3,62 +3,70 @@ use Prim.Native.Nat.{_≤_, _-_}
 use native.Mathlib.Omega.{arith}
 use mathlib.Core.Path.{_≡_, refl, _∙_}
 use lib.ListN.{length}
-use borrow.Author.Needs.{needs}
-use Rattle.index_set.proofs.Queue.{Below-at}
 use Rattle.plan_state.specs.Held.{area}
 use Rattle.plan_search.proofs.Passes.{PassUpTo, passes-start, passes-still, passes-next}
 use Rattle.plan_search.proofs.pass_links.Statement.{statement}
 use Rattle.plan_search.proofs.pass_links.Tie as tie
 
 abbrev Inv-loop : tie.InvT-loop
-Inv-loop side r part at from z n e count words₀ reals₀ c₀ i₀ words reals c i =
-    ((at ≤ i) × ((i ≤ length part) × ((length words ≡ length words₀) × (length reals ≡ length reals₀))))
-    × PassUpTo side r part from z n e at c₀ i c (area words₀ reals₀) (area words reals)
+Inv-loop hand r at to count neighbours words₀ floats₀ c₀ k₀ words floats c k = ((at ≤ k) × ((k ≤ to) × ((length words ≡ length words₀) × (length floats ≡ length floats₀))))
+    × PassUpTo (hand .side) r neighbours (hand .z) (hand .n) (hand .e) at to c₀ k c (area words₀ floats₀) (area words floats)
 
 abbrev μ-loop : tie.MeasureT-loop
-μ-loop side r part at from z n e count words₀ reals₀ c₀ i₀ words reals c i = length part - i
+μ-loop hand r at to count neighbours words₀ floats₀ c₀ k₀ words floats c k = to - k
 
 loop-holds : tie.Need-loop-holds Inv-loop μ-loop
-loop-holds c = ((omega arith, (omega (arith, c .before .before .before .pre .1 .1 .1 .1), (refl, refl))), passes-start _ _ _ _ _ _ _ _ _ (c .before .before .before .pre .0 .0))
-
-add-pass-link : tie.Need-add-pass-link Inv-loop μ-loop
-add-pass-link c = omega (arith, c .before .before .before .before .before .pre .1 .1 .1 .0, c .before .before .before .before .before .pre .0 .0 .fit .links)
-
-mul-pass-link : tie.Need-mul-pass-link Inv-loop μ-loop
-mul-pass-link c = omega arith
-
-shared-slice-read-pass-link : tie.Need-shared-slice-read-pass-link Inv-loop μ-loop
-shared-slice-read-pass-link c = omega arith
+loop-holds c = ((omega arith, (omega (arith, c .before .before .before .pre .1 .1), (refl, refl))), passes-start _ _ _ _ _ _ _ _ _ (c .before .before .before .pre .0 .seeking))
 
 pass-link-requires : tie.Need-pass-link-requires Inv-loop μ-loop
-pass-link-requires c κs = ((c .before .before .before .before .loop .inv .1 .seeking, c .before .before .before .before .before .before .before .before .pre .0 .1), (c .before .before .before .before .before .before .before .before .pre .1 .0, (Below-at _ _ _ (c .before .before .before .before .before .before .before .before .pre .1 .1 .0) (c .before .before .before .loop-test .taken), omega (arith, c .before .before .before .before .before .before .before .before .pre .1 .1 .1 .0, c .before .before .before .loop-test .taken))))
+pass-link-requires c κs =
+    let entry = c .before .before .before .before .before .before .before in (
+      record { seeking = c .before .before .before .loop .inv .1 .seeking; zone = entry .pre .0 .zone; row = entry .pre .0 .row },
+      record { row = entry .pre .1 .0 .row; all = entry .pre .1 .0 .all; within = omega (arith, entry .pre .1 .0 .within, c .before .before .loop-test .taken); ends = entry .pre .1 .0 .ends },
+    )
 
 same-length : tie.Need-same-length Inv-loop μ-loop
-same-length c = c .before .before .before .before .before .pass-link .kept .1 .1 .1 .1 .1 .1 .1 .1 .0 ∙ c .before .before .before .before .before .before .before .before .before .before .loop .inv .0 .1 .1 .0
+same-length c = c .before .before .before .before .before .pass-link .kept .1 .1 .1 .1 .1 .0 ∙ c .before .before .before .before .before .before .before .before .before .loop .inv .0 .1 .1 .0
 
 same-length-2 : tie.Need-same-length-2 Inv-loop μ-loop
-same-length-2 c = c .before .before .before .before .before .pass-link .kept .1 .1 .1 .1 .1 .1 .1 .1 .1 .0 ∙ c .before .before .before .before .before .before .before .before .before .before .loop .inv .0 .1 .1 .1
+same-length-2 c = c .before .before .before .before .before .pass-link .kept .1 .1 .1 .1 .1 .1 .0 ∙ c .before .before .before .before .before .before .before .before .before .loop .inv .0 .1 .1 .1
 
 returns : tie.Need-returns Inv-loop μ-loop
-returns c = ((c .before .before .before .before .before .before .before .before .before .before .loop .inv .0 .0, c .before .before .before .before .before .before .before .before .before .before .loop .inv .0 .1 .0), passes-still (c .before .before .before .before .before .before .before .before .before .before .loop .inv .1) (c .before .before .before .before .before .pass-link .ensures .0 (c .if1 .taken)))
+returns c = (c .before .before .before .before .before .before .before .before .before .loop .inv .0 .0, (c .before .before .before .before .before .before .before .before .before .loop .inv .0 .1 .0, passes-still (c .before .before .before .before .before .before .before .before .before .loop .inv .1) (c .before .before .before .before .before .pass-link .ensures .0 (c .if1 .taken))))
 
-add-i : tie.Need-add-i Inv-loop μ-loop
-add-i c = omega (arith, c .before .before .before .before .before .before .before .before .before .loop-test .taken, c .before .before .before .before .before .before .before .before .before .before .before .before .before .before .good)
+add-k : tie.Need-add-k Inv-loop μ-loop
+add-k c = omega (arith, c .before .before .before .before .before .before .before .before .loop-test .taken, c .before .before .before .before .before .before .before .before .before .before .before .before .before .pre .1 .0 .within, c .before .before .before .before .before .before .before .before .before .before .before .before .before .pre .0 .seeking .fit .links)
 
 loop-less : tie.Need-loop-less Inv-loop μ-loop
-loop-less c = omega (arith, c .before .before .before .before .before .before .before .before .before .loop-test .taken)
+loop-less c = omega (arith, c .before .before .before .before .before .before .before .before .loop-test .taken)
 
 loop-again : tie.Need-loop-again Inv-loop μ-loop
-loop-again c = ((omega (arith, c .before .before .before .before .before .before .before .before .before .before .loop .inv .0 .0), (omega (arith, c .before .before .before .before .before .before .before .before .before .loop-test .taken), (c .before .before .before .before .before .pass-link .kept .1 .1 .1 .1 .1 .1 .1 .1 .0 ∙ c .before .before .before .before .before .before .before .before .before .before .loop .inv .0 .1 .1 .0, c .before .before .before .before .before .pass-link .kept .1 .1 .1 .1 .1 .1 .1 .1 .1 .0 ∙ c .before .before .before .before .before .before .before .before .before .before .loop .inv .0 .1 .1 .1))), passes-next _ _ _ _ _ _ _ _ _ _ (c .before .before .before .before .before .before .before .before .before .before .loop .inv .0 .0) (c .before .before .before .before .before .before .before .before .before .loop-test .taken) (c .before .before .before .before .before .before .before .before .before .before .loop .inv .1) (c .before .before .before .before .before .pass-link .ensures .1 (c .if1 .left)))
+loop-again c =
+    let loop = c .before .before .before .before .before .before .before .before .before .loop in
+    let loop-test = c .before .before .before .before .before .before .before .before .loop-test in
+    let pass-link = c .before .before .before .before .before .pass-link in (
+      (
+        omega (arith, loop .inv .0 .0),
+        (
+          omega (arith, loop-test .taken),
+          (
+            pass-link .kept .1 .1 .1 .1 .1 .0 ∙ loop .inv .0 .1 .1 .0,
+            pass-link .kept .1 .1 .1 .1 .1 .1 .0 ∙
+                loop .inv .0 .1 .1 .1,
+          ),
+        ),
+      ),
+      passes-next _ _ _ _ _ _ _ _ _ _ (loop .inv .0 .0) (loop-test .taken) (loop .inv .1) (pass-link .ensures .1 (c .if1 .left)),
+    )
 
 same-length-3 : tie.Need-same-length-3 Inv-loop μ-loop
-same-length-3 c = search needs
+same-length-3 c = c .before .loop .inv .0 .1 .1 .0
 
 same-length-4 : tie.Need-same-length-4 Inv-loop μ-loop
-same-length-4 c = search needs
+same-length-4 c = c .before .loop .inv .0 .1 .1 .1
 
 returns-2 : tie.Need-returns-2 Inv-loop μ-loop
-returns-2 c = ((c .before .loop .inv .0 .0, c .before .loop .inv .0 .1 .0), c .before .loop .inv .1)
+returns-2 c = (c .before .loop .inv .0 .0, (c .before .loop .inv .0 .1 .0, c .before .loop .inv .1))
 
 pub pass-links-spec : {M : Type 1} → statement M
 pass-links-spec =
@@ -67,14 +75,11 @@ pass-links-spec =
     Inv-loop
     μ-loop
     loop-holds
-    add-pass-link
-    mul-pass-link
-    shared-slice-read-pass-link
     pass-link-requires
     same-length
     same-length-2
     returns
-    add-i
+    add-k
     loop-less
     loop-again
     same-length-3

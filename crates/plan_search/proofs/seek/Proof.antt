@@ -3,82 +3,182 @@ use Prim.Native.Nat.{_≤_, _<_, _-_, _+_}
 use native.Mathlib.Omega.{arith}
 use mathlib.Core.Path.{_≡_, refl, _∙_, sym, ap}
 use lib.ListN.{length, getD}
-use borrow.Author.Needs.{needs}
+use Rattle.turfs.specs.Tables.{table, boardOf}
 use Rattle.process_zone.specs.Plan.{seekNext}
-use Rattle.plan_state.specs.Held.{grid, area, view}
+use Rattle.plan_state.specs.Held.{area, view}
 use Rattle.plan_trade.specs.Search.{AllMet, Idle}
+use Rattle.plan_search.proofs.Rows.{sought-as, links-are, links-lead}
 use Rattle.plan_search.proofs.Search.{Trail, trail-start, trail-next, trail-end, seen-below, turn-on, turn-settled, turn-end}
+use borrow.Author.Needs.{needs}
 use Rattle.plan_search.proofs.seek.Statement.{statement}
 use Rattle.plan_search.proofs.seek.Tie as tie
-use Rattle.index_set.proofs.queue_at.Reads as queue-at-reads
-use Rattle.plan_search.proofs.seek_turf.Reads as seek-turf-reads
-use Rattle.plan_trade.proofs.settled.Reads as settled-reads
 
 abbrev Inv-loop : tie.InvT-loop
-Inv-loop side g starts neighbours z n e words₀ reals₀ queue count₀ first₀ looked₀ words reals count first looked =
-    ((length words ≡ length words₀) × (length reals ≡ length reals₀))
-    × (Trail n e (λ o s. seekNext (grid n starts neighbours) o z side g s) 1 count looked (area words₀ reals₀) (area words reals)
-    × (AllMet n z starts neighbours (view n e (area words reals)) count × Idle (view n e (area words reals)) count first))
+Inv-loop hand rows marks gases words₀ floats₀ side g n e starts neighbours queue count₀ first₀ looked₀ words floats count first looked = ((length words ≡ length words₀) × (length floats ≡ length floats₀))
+    × (Trail (hand .n) (hand .e) (λ o s. seekNext (boardOf rows marks gases) o (hand .z) (hand .side) (hand .g) s) 1 count looked (area words₀ floats₀) (area words floats)
+    × (AllMet (hand .n) (hand .z) (table rows 2) (table rows 3) (view (hand .n) (hand .e) (area words floats)) count × Idle (view (hand .n) (hand .e) (area words floats)) count first))
 
 abbrev μ-loop : tie.MeasureT-loop
-μ-loop side g starts neighbours z n e words₀ reals₀ queue count₀ first₀ looked₀ words reals count first looked = n - looked
+μ-loop hand rows marks gases words₀ floats₀ side g n e starts neighbours queue count₀ first₀ looked₀ words floats count first looked = hand .n - looked
+
+element-copy-out-starts : tie.Need-element-copy-out-starts Inv-loop μ-loop
+element-copy-out-starts c = search needs
+
+element-copy-out-neighbours : tie.Need-element-copy-out-neighbours Inv-loop μ-loop
+element-copy-out-neighbours c = search needs
 
 queue-at-requires : tie.Need-queue-at-requires Inv-loop μ-loop
-queue-at-requires c κs = (c .before .before .before .before .pre .0 .0 .fit .links, c .before .before .before .before .pre .0 .0 .fit .turfs)
+queue-at-requires c κs = (c .before .before .before .before .pre .0 .seeking .fit .links, c .before .before .before .before .pre .0 .seeking .fit .turfs)
 
 loop-holds : tie.Need-loop-holds Inv-loop μ-loop
-loop-holds c = ((refl, refl), (trail-start _ (c .before .before .before .before .before .pre .0 .0), (c .before .before .before .before .before .pre .1 .0 .1 .1 .1, c .before .before .before .before .before .pre .1 .1)))
+loop-holds c = ((refl, refl), (trail-start _ (c .before .before .before .before .before .pre .0 .seeking), c .before .before .before .before .before .pre .1 .1))
 
 add-settled : tie.Need-add-settled Inv-loop μ-loop
-add-settled c = omega (arith, c .before .loop .inv .1 .0 .seeking .fit .words, c .before .loop .inv .1 .0 .seeking .fit .reals, c .before .loop .inv .1 .0 .seeking .fit .turfs, c .before .loop .inv .1 .0 .seeking .fit .links, c .before .loop .inv .1 .0 .seeking .line .few, c .before .before .queue-at .ensures, c .before .before .before .before .before .before .before .pre .1 .0 .0)
+add-settled c = omega (arith, c .before .loop .inv .1 .0 .seeking .fit .words, c .before .loop .inv .1 .0 .seeking .fit .floats, c .before .loop .inv .1 .0 .seeking .fit .turfs, c .before .loop .inv .1 .0 .seeking .fit .links, c .before .loop .inv .1 .0 .seeking .line .few, c .before .before .queue-at .ensures, c .before .before .before .before .before .before .before .pre .0 .row)
 
 add-settled-2 : tie.Need-add-settled-2 Inv-loop μ-loop
-add-settled-2 c = omega (arith, c .before .loop .inv .1 .0 .seeking .fit .words, c .before .loop .inv .1 .0 .seeking .fit .reals, c .before .loop .inv .1 .0 .seeking .fit .turfs, c .before .loop .inv .1 .0 .seeking .fit .links, c .before .loop .inv .1 .0 .seeking .line .few, c .before .before .queue-at .ensures, c .before .before .before .before .before .before .before .pre .1 .0 .0)
+add-settled-2 c = omega (arith, c .before .loop .inv .1 .0 .seeking .fit .words, c .before .loop .inv .1 .0 .seeking .fit .floats, c .before .loop .inv .1 .0 .seeking .fit .turfs, c .before .loop .inv .1 .0 .seeking .fit .links, c .before .loop .inv .1 .0 .seeking .line .few, c .before .before .queue-at .ensures, c .before .before .before .before .before .before .before .pre .0 .row)
 
 mul-settled : tie.Need-mul-settled Inv-loop μ-loop
-mul-settled c = omega (arith, c .before .loop .inv .1 .0 .seeking .fit .words, c .before .loop .inv .1 .0 .seeking .fit .reals, c .before .loop .inv .1 .0 .seeking .fit .turfs, c .before .loop .inv .1 .0 .seeking .fit .links, c .before .loop .inv .1 .0 .seeking .line .few, c .before .before .queue-at .ensures, c .before .before .before .before .before .before .before .pre .1 .0 .0, c .before .loop .inv .0, c .before .before .before .before .before .before .before .good)
+mul-settled c =
+    let entry = c .before .before .before .before .before .before .before in
+    omega (
+      arith,
+      c .before .loop .inv .1 .0 .seeking .fit .words,
+      c .before .loop .inv .1 .0 .seeking .fit .floats,
+      c .before .loop .inv .1 .0 .seeking .fit .turfs,
+      c .before .loop .inv .1 .0 .seeking .fit .links,
+      c .before .loop .inv .1 .0 .seeking .line .few,
+      c .before .before .queue-at .ensures,
+      entry .pre .0 .row,
+      c .before .loop .inv .0,
+      entry .good,
+    )
 
 slice-read-settled : tie.Need-slice-read-settled Inv-loop μ-loop
-slice-read-settled c = omega (arith, c .before .before .loop .inv .1 .0 .seeking .fit .words, c .before .before .loop .inv .1 .0 .seeking .fit .reals, c .before .before .loop .inv .1 .0 .seeking .fit .turfs, c .before .before .loop .inv .1 .0 .seeking .fit .links, c .before .before .loop .inv .1 .0 .seeking .line .few, c .before .before .before .queue-at .ensures, c .before .before .before .before .before .before .before .before .pre .1 .0 .0)
+slice-read-settled c =
+    let loop = c .before .before .loop in
+    omega (
+      arith,
+      loop .inv .1 .0 .seeking .fit .words,
+      loop .inv .1 .0 .seeking .fit .floats,
+      loop .inv .1 .0 .seeking .fit .turfs,
+      loop .inv .1 .0 .seeking .fit .links,
+      loop .inv .1 .0 .seeking .line .few,
+      c .before .before .before .queue-at .ensures,
+      c .before .before .before .before .before .before .before .before .pre .0 .row,
+    )
 
 settled-requires : tie.Need-settled-requires Inv-loop μ-loop
 settled-requires c κs = search needs
 
 same-length : tie.Need-same-length Inv-loop μ-loop
-same-length c = search needs
+same-length c = c .before .before .before .before .loop .inv .0 .0
 
 same-length-2 : tie.Need-same-length-2 Inv-loop μ-loop
-same-length-2 c = search needs
+same-length-2 c = c .before .before .before .before .loop .inv .0 .1
 
 returns : tie.Need-returns Inv-loop μ-loop
-returns c = (trail-end _ (c .before .before .before .before .loop .inv .1 .0) (turn-settled _ _ _ _ _ _ (c .before .before .before .before .loop .inv .1 .0 .seeking) (c .before .before .before .loop-test .taken) _ (c .before .before .before .before .before .queue-at .ensures) _ _ _ _ (c .before .before .before .before .before .before .before .before .before .before .pre .1 .0 .0) (sym (c .before .settled .ensures) ∙ c .if1 .taken)), c .before .before .before .before .loop .inv .1 .1)
+returns c =
+    let loop = c .before .before .before .before .loop in (
+      trail-end _ (loop .inv .1 .0) (turn-settled _ _ _ _ _ _ (loop .inv .1 .0 .seeking) (c .before .before .before .loop-test .taken) _ (c .before .before .before .before .before .queue-at .ensures)
+          _ _ _ _ (c .before .before .before .before .before .before .before .before .before .before .pre .0 .row) (sym (c .before .settled .ensures) ∙ c .if1 .taken)),
+      loop .inv .1 .1,
+    )
 
-add-seek-turf : tie.Need-add-seek-turf Inv-loop μ-loop
-add-seek-turf c = omega (arith, c .before .before .before .before .loop .inv .1 .0 .seeking .fit .words, c .before .before .before .before .loop .inv .1 .0 .seeking .fit .reals, c .before .before .before .before .loop .inv .1 .0 .seeking .fit .turfs, c .before .before .before .before .loop .inv .1 .0 .seeking .fit .links, c .before .before .before .before .loop .inv .1 .0 .seeking .line .few, c .before .before .before .before .before .queue-at .ensures, c .before .before .before .loop-test .taken)
+add-r : tie.Need-add-r Inv-loop μ-loop
+add-r c =
+    let loop = c .before .before .before .before .loop in
+    omega (
+      arith,
+      loop .inv .1 .0 .seeking .fit .words,
+      loop .inv .1 .0 .seeking .fit .floats,
+      loop .inv .1 .0 .seeking .fit .turfs,
+      loop .inv .1 .0 .seeking .fit .links,
+      loop .inv .1 .0 .seeking .line .few,
+      c .before .before .before .before .before .queue-at .ensures,
+      c .before .before .before .loop-test .taken,
+    )
 
-mul-seek-turf : tie.Need-mul-seek-turf Inv-loop μ-loop
-mul-seek-turf c = omega (arith, c .before .before .before .before .loop .inv .1 .0 .seeking .fit .words, c .before .before .before .before .loop .inv .1 .0 .seeking .fit .reals, c .before .before .before .before .loop .inv .1 .0 .seeking .fit .turfs, c .before .before .before .before .loop .inv .1 .0 .seeking .fit .links, c .before .before .before .before .loop .inv .1 .0 .seeking .line .few, c .before .before .before .before .before .queue-at .ensures, c .before .before .before .loop-test .taken, c .before .before .before .before .loop .inv .0, c .before .before .before .before .before .before .before .before .before .before .good)
+mul-r : tie.Need-mul-r Inv-loop μ-loop
+mul-r c =
+    let loop = c .before .before .before .before .loop in
+    omega (
+      arith,
+      loop .inv .1 .0 .seeking .fit .words,
+      loop .inv .1 .0 .seeking .fit .floats,
+      loop .inv .1 .0 .seeking .fit .turfs,
+      loop .inv .1 .0 .seeking .fit .links,
+      loop .inv .1 .0 .seeking .line .few,
+      c .before .before .before .before .before .queue-at .ensures,
+      c .before .before .before .loop-test .taken,
+      loop .inv .0,
+      c .before .before .before .before .before .before .before .before .before .before .good,
+    )
 
-slice-read-seek-turf : tie.Need-slice-read-seek-turf Inv-loop μ-loop
-slice-read-seek-turf c = omega (arith, c .before .before .before .before .before .loop .inv .1 .0 .seeking .fit .words, c .before .before .before .before .before .loop .inv .1 .0 .seeking .fit .reals, c .before .before .before .before .before .loop .inv .1 .0 .seeking .fit .turfs, c .before .before .before .before .before .loop .inv .1 .0 .seeking .fit .links, c .before .before .before .before .before .loop .inv .1 .0 .seeking .line .few, c .before .before .before .before .before .before .queue-at .ensures, c .before .before .before .before .loop-test .taken)
+slice-read-r : tie.Need-slice-read-r Inv-loop μ-loop
+slice-read-r c =
+    let loop = c .before .before .before .before .before .loop in
+    omega (
+      arith,
+      loop .inv .1 .0 .seeking .fit .words,
+      loop .inv .1 .0 .seeking .fit .floats,
+      loop .inv .1 .0 .seeking .fit .turfs,
+      loop .inv .1 .0 .seeking .fit .links,
+      loop .inv .1 .0 .seeking .line .few,
+      c .before .before .before .before .before .before .queue-at .ensures,
+      c .before .before .before .before .loop-test .taken,
+    )
 
 seek-turf-requires : tie.Need-seek-turf-requires Inv-loop μ-loop
-seek-turf-requires c κs = ((c .before .before .before .before .before .before .before .loop .inv .1 .0 .seeking, (c .before .before .before .before .before .before .before .before .before .before .before .before .before .pre .0 .1, sym (c .before .before .before .before .settled .ensures) ∙ c .before .before .before .if1 .left)), (c .before .before .before .before .before .before .before .before .before .before .before .before .before .pre .1 .0 .0, (seen-below _ _ _ _ _ _ (c .before .before .before .before .before .before .before .loop .inv .1 .0 .seeking) (c .before .before .before .before .before .before .loop-test .taken) _ (c .before .before .before .before .before .before .before .before .queue-at .ensures), (c .before .before .before .before .before .before .before .before .before .before .before .before .before .pre .1 .0 .1 .0, c .before .before .before .before .before .before .before .before .before .before .before .before .before .pre .1 .0 .1 .1 .0))))
+seek-turf-requires c κs =
+    let entry = c .before .before .before .before .before .before .before .before .before .before .before .before .before in
+    let loop = c .before .before .before .before .before .before .before .loop in (
+      record { seeking = loop .inv .1 .0 .seeking; zone = entry .pre .0 .zone; row = entry .pre .0 .row },
+      (
+        sym (c .before .before .before .before .settled .ensures) ∙ c .before .before .before .if1 .left,
+        (
+          seen-below _ _ _ _ _ _ (loop .inv .1 .0 .seeking) (c .before .before .before .before .before .before .loop-test .taken)
+              _ (c .before .before .before .before .before .before .before .before .queue-at .ensures),
+          (entry .pre .1 .0 .linked, entry .pre .1 .0 .links),
+        ),
+      ),
+    )
 
 add-looked : tie.Need-add-looked Inv-loop μ-loop
-add-looked c = omega (arith, c .before .before .before .before .before .before .before .before .before .before .before .before .loop .inv .1 .0 .seeking .line .few, c .before .before .before .before .before .before .before .before .before .before .before .before .loop .inv .1 .0 .seeking .fit .turfs, c .before .before .before .before .before .before .before .before .before .before .before .loop-test .taken)
+add-looked c =
+    let loop = c .before .before .before .before .before .before .before .before .before .before .before .before .loop in
+    omega (arith, loop .inv .1 .0 .seeking .line .few, loop .inv .1 .0 .seeking .fit .turfs, c .before .before .before .before .before .before .before .before .before .before .before .loop-test .taken)
 
 loop-less : tie.Need-loop-less Inv-loop μ-loop
 loop-less c = omega (arith, c .before .before .before .before .before .before .before .before .before .before .before .before .loop .inv .1 .0 .seeking .line .few, c .before .before .before .before .before .before .before .before .before .before .before .loop-test .taken)
 
 loop-again : tie.Need-loop-again Inv-loop μ-loop
-loop-again c = ((c .before .before .before .before .seek-turf .kept .1 .1 .1 .1 .1 .1 .1 .1 .1 .1 .0 ∙ c .before .before .before .before .before .before .before .before .before .before .before .before .loop .inv .0 .0, c .before .before .before .before .seek-turf .kept .1 .1 .1 .1 .1 .1 .1 .1 .1 .1 .1 .0 ∙ c .before .before .before .before .before .before .before .before .before .before .before .before .loop .inv .0 .1), (trail-next _ _ (c .before .before .before .before .before .before .before .before .before .before .before .before .loop .inv .1 .0) (c .before .before .before .before .seek-turf .ensures .0) (omega (arith, c .before .before .before .before .before .before .before .before .before .before .before .before .loop .inv .1 .0 .seeking .line .few, c .before .before .before .before .before .before .before .before .before .before .before .loop-test .taken)) (turn-on _ _ _ _ _ _ (c .before .before .before .before .before .before .before .before .before .before .before .before .loop .inv .1 .0 .seeking) (c .before .before .before .before .before .before .before .before .before .before .before .loop-test .taken) _ (c .before .before .before .before .before .before .before .before .before .before .before .before .before .queue-at .ensures) _ _ _ _ (c .before .before .before .before .before .before .before .before .before .before .before .before .before .before .before .before .before .before .pre .1 .0 .0) (sym (c .before .before .before .before .before .before .before .before .before .settled .ensures) ∙ c .before .before .before .before .before .before .before .before .if1 .left)), (c .before .before .before .before .seek-turf .ensures .1 .0 (c .before .before .before .before .before .before .before .before .before .before .before .before .loop .inv .1 .1 .0), c .before .before .before .before .seek-turf .ensures .1 .1 .keeps (c .before .before .before .before .before .before .before .before .before .before .before .before .loop .inv .1 .1 .1))))
+loop-again c =
+    let entry = c .before .before .before .before .before .before .before .before .before .before .before .before .before .before .before .before .before .before in
+    let queue-at = c .before .before .before .before .before .before .before .before .before .before .before .before .before .queue-at in
+    let loop = c .before .before .before .before .before .before .before .before .before .before .before .before .loop in
+    let loop-test = c .before .before .before .before .before .before .before .before .before .before .before .loop-test in
+    let seek-turf = c .before .before .before .before .seek-turf in (
+      (seek-turf .kept .1 .1 .1 .1 .1 .0 ∙ loop .inv .0 .0, seek-turf .kept .1 .1 .1 .1 .1 .1 .0 ∙ loop .inv .0 .1),
+      (
+        trail-next _ _ (loop .inv .1 .0) (sought-as (seek-turf .ensures .sought) (links-are (boardOf (entry .args .rows .now) (entry .args .marks .now) (entry .args .gases))
+            (entry .args .hand .z) (entry .args .hand .side) (entry .args .hand .g) _))
+            (omega (arith, loop .inv .1 .0 .seeking .line .few, loop-test .taken))
+            (turn-on _ _ _ _ _ _ (loop .inv .1 .0 .seeking) (loop-test .taken) _ (queue-at .ensures) (boardOf (entry .args .rows .now) (entry .args .marks .now) (entry .args .gases))
+            _ _ _ (entry .pre .0 .row) (sym (c .before .before .before .before .before .before .before .before .before .settled .ensures) ∙ c .before .before .before .before .before .before .before .before .if1 .left)),
+        (
+          seek-turf .ensures .met .keeps _ (links-lead (seen-below _ _ _ _ _ _ (loop .inv .1 .0 .seeking) (loop-test .taken) _ (queue-at .ensures))) (loop .inv .1 .1 .0),
+          seek-turf .ensures .idle .keeps (loop .inv .1 .1 .1),
+        ),
+      ),
+    )
 
 same-length-3 : tie.Need-same-length-3 Inv-loop μ-loop
-same-length-3 c = search needs
+same-length-3 c = c .before .loop .inv .0 .0
 
 same-length-4 : tie.Need-same-length-4 Inv-loop μ-loop
-same-length-4 c = search needs
+same-length-4 c = c .before .loop .inv .0 .1
 
 returns-2 : tie.Need-returns-2 Inv-loop μ-loop
 returns-2 c = (trail-end _ (c .before .loop .inv .1 .0) (turn-end _ _ _ _ _ _ (c .before .loop .inv .1 .0 .seeking) _ _ _ _ (c .loop-test .left)), c .before .loop .inv .1 .1)
@@ -89,6 +189,8 @@ seek-spec =
     (tie.spec
     Inv-loop
     μ-loop
+    element-copy-out-starts
+    element-copy-out-neighbours
     queue-at-requires
     loop-holds
     add-settled
@@ -99,9 +201,9 @@ seek-spec =
     same-length
     same-length-2
     returns
-    add-seek-turf
-    mul-seek-turf
-    slice-read-seek-turf
+    add-r
+    mul-r
+    slice-read-r
     seek-turf-requires
     add-looked
     loop-less

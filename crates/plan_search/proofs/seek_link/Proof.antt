@@ -1,18 +1,13 @@
 -- By the three ways out: not the zone's link, a row that is in the queue, a new row. Assumes nothing.
+use Prim.Native.Nat.{_<_}
 use native.Mathlib.Omega.{arith}
 use mathlib.Core.Path.{_∙_, refl, sym}
 use lib.ListN.{length-set}
+use Rattle.plan_trade.specs.Steps.{along}
 use Rattle.plan_search.proofs.Seeks.{keeps-none, idle-none, link-foreign, link-holds, link-queued, link-room, push-fit, link-new, link-keeps, link-idle, link-open}
 use borrow.Author.Needs.{needs}
 use Rattle.plan_search.proofs.seek_link.Statement.{statement}
 use Rattle.plan_search.proofs.seek_link.Tie as tie
-use Rattle.index_set.proofs.contains.Reads as contains-reads
-use Rattle.index_set.proofs.insert.Reads as insert-reads
-use Rattle.index_set.proofs.places_at.Reads as places-at-reads
-use Rattle.index_set.proofs.queue_at.Reads as queue-at-reads
-use Rattle.plan_trade.proofs.first_traded.Reads as first-traded-reads
-use Rattle.plan_trade.proofs.meet.Reads as meet-reads
-use Rattle.plan_trade.proofs.settles.Reads as settles-reads
 
 mul-if1 : tie.Need-mul-if1
 mul-if1 c = search needs
@@ -24,7 +19,12 @@ add-if1 : tie.Need-add-if1
 add-if1 c = search needs
 
 returns : tie.Need-returns
-returns c = (link-foreign (c .before .before .before .before .args .side) (c .before .before .before .before .args .g) (c .before .before .before .before .args .r) (c .before .before .before .before .args .k) (c .before .before .before .before .args .a) (c .before .before .before .before .args .z) _ _ _ _ _ (c .before .before .before .before .pre .0 .0) (c .before .before .before .before .pre .1 .1 .1 .1) (c .before .before .before .before .pre .1 .0) (c .before .before .before .before .pre .1 .1 .1 .0) (c .if1 .taken), (keeps-none, (idle-none, sym (c .before .before .before .before .pre .0 .1 .1))))
+unfolding along
+returns c =
+    let entry = c .before .before .before .before .before in
+    let hk : entry .args .k < entry .args .hand .e = omega (arith, entry .pre .1 .1 .within) in
+    let ha = entry .pre .1 .1 .ends (entry .args .k) hk in
+    (record { sought = link-foreign (entry .args .hand .side) (entry .args .hand .g) (entry .args .r) (entry .args .k) _ (entry .args .hand .z) _ _ _ _ _ (entry .pre .0 .seeking) hk (entry .pre .0 .row) ha (c .if1 .taken); met = keeps-none; idle = idle-none }, sym (entry .pre .1 .0))
 
 queue-at-requires : tie.Need-queue-at-requires
 queue-at-requires c κs = search needs
@@ -32,17 +32,65 @@ queue-at-requires c κs = search needs
 places-at-requires : tie.Need-places-at-requires
 places-at-requires c κs = search needs
 
+mul-a : tie.Need-mul-a
+mul-a c = search needs
+
+shared-slice-read-a : tie.Need-shared-slice-read-a
+shared-slice-read-a c = search needs
+
 contains-requires : tie.Need-contains-requires
-contains-requires c κs = (link-holds (c .before .before .before .before .before .before .before .args .side) (c .before .before .before .before .before .before .before .args .g) (c .before .before .before .before .before .before .before .args .r) (c .before .before .before .before .before .before .before .args .k) (c .before .before .before .before .before .before .before .args .a) (c .before .before .before .before .before .before .before .args .z) _ _ _ _ _ (c .before .before .before .before .before .before .before .pre .0 .0) (c .before .before .before .before .before .before .before .pre .1 .1 .1 .1) (c .before .before .before .before .before .before .before .pre .1 .0) (c .before .before .before .before .before .before .before .pre .1 .1 .1 .0) _ _ (c .before .before .queue-at .ensures) (c .before .places-at .ensures), c .before .before .before .before .before .before .before .pre .1 .1 .1 .0)
+contains-requires c κs =
+    let entry = c .before .before .before .before .before .before .before .before .before in
+    let hk : entry .args .k < entry .args .hand .e = omega (arith, entry .pre .1 .1 .within) in
+    let ha = entry .pre .1 .1 .ends (entry .args .k) hk in
+    (link-holds (entry .args .hand .side) (entry .args .hand .g) (entry .args .r) (entry .args .k) _ (entry .args .hand .z) _ _ _ _ _ (entry .pre .0 .seeking) hk (entry .pre .0 .row) ha _ _ (c .before .before .before .queue-at .ensures) (c .before .before .places-at .ensures), ha)
 
 same-length : tie.Need-same-length
 same-length c = search needs
 
 returns-2 : tie.Need-returns-2
-returns-2 c = (link-queued (c .before .before .before .before .before .before .before .before .before .args .side) (c .before .before .before .before .before .before .before .before .before .args .g) (c .before .before .before .before .before .before .before .before .before .args .r) (c .before .before .before .before .before .before .before .before .before .args .k) (c .before .before .before .before .before .before .before .before .before .args .a) (c .before .before .before .before .before .before .before .before .before .args .z) _ _ _ _ _ (c .before .before .before .before .before .before .before .before .before .pre .0 .0) (c .before .before .before .before .before .before .before .before .before .pre .1 .1 .1 .1) (c .before .before .before .before .before .before .before .before .before .pre .1 .0) (c .before .before .before .before .before .before .before .before .before .pre .1 .1 .1 .0) _ _ (c .before .before .before .before .queue-at .ensures) (c .before .before .before .places-at .ensures) (c .before .before .before .before .before .if1 .left) (c .before .before .before .before .before .before .before .before .before .pre .0 .1 .1) (sym (c .if2 .taken) ∙ c .before .contains .ensures), (keeps-none, (idle-none, sym (c .before .before .before .before .before .before .before .before .before .pre .0 .1 .1))))
+unfolding along
+returns-2 c =
+    let entry = c .before .before .before .before .before .before .before .before .before .before .before in
+    let hk : entry .args .k < entry .args .hand .e = omega (arith, entry .pre .1 .1 .within) in
+    let ha = entry .pre .1 .1 .ends (entry .args .k) hk in (
+      record {
+        sought = link-queued (entry .args .hand .side) (entry .args .hand .g) (entry .args .r) (entry .args .k) _ (entry .args .hand .z) _ _ _ _ _ (entry .pre .0 .seeking)
+            hk (entry .pre .0 .row) ha _ _ (c .before .before .before .before .before .queue-at .ensures) (c .before .before .before .before .places-at .ensures) (c .before .before .before .before .before .before .if1 .left)
+            (entry .pre .1 .0) (sym (c .if2 .taken) ∙ c .before .contains .ensures);
+        met = keeps-none;
+        idle = idle-none;
+      },
+      sym (entry .pre .1 .0),
+    )
 
 insert-requires : tie.Need-insert-requires
-insert-requires c κs = let l = link-room (c .before .before .before .before .before .before .before .before .before .before .args .side) (c .before .before .before .before .before .before .before .before .before .before .args .g) (c .before .before .before .before .before .before .before .before .before .before .args .r) (c .before .before .before .before .before .before .before .before .before .before .args .k) (c .before .before .before .before .before .before .before .before .before .before .args .a) (c .before .before .before .before .before .before .before .before .before .before .args .z) _ _ _ _ _ (c .before .before .before .before .before .before .before .before .before .before .pre .0 .0) (c .before .before .before .before .before .before .before .before .before .before .pre .1 .1 .1 .1) (c .before .before .before .before .before .before .before .before .before .before .pre .1 .0) (c .before .before .before .before .before .before .before .before .before .before .pre .1 .1 .1 .0) _ _ (c .before .before .before .before .before .queue-at .ensures) (c .before .before .before .before .places-at .ensures) (c .before .before .before .before .before .before .if1 .left) (sym (c .before .if2 .left) ∙ c .before .before .contains .ensures) in (omega (arith, l, c .before .before .before .before .before .queue-at .ensures, c .before .before .before .before .before .before .before .before .before .before .pre .0 .0 .fit .words), (omega (arith, l, c .before .before .before .before .places-at .ensures, c .before .before .before .before .before .before .before .before .before .before .pre .0 .0 .fit .words, c .before .before .before .before .before .before .before .before .before .before .pre .1 .1 .1 .0), omega (arith, l, c .before .before .before .before .before .before .before .before .before .before .pre .0 .0 .fit .turfs)))
+insert-requires c κs =
+    let entry = c .before .before .before .before .before .before .before .before .before .before .before .before in
+    let queue-at = c .before .before .before .before .before .before .queue-at in
+    let places-at = c .before .before .before .before .before .places-at in
+    let hk : entry .args .k < entry .args .hand .e = omega (arith, entry .pre .1 .1 .within) in
+    let ha = entry .pre .1 .1 .ends (entry .args .k) hk in
+    let l = link-room (entry .args .hand .side) (entry .args .hand .g) (entry .args .r) (entry .args .k) _ (entry .args .hand .z) _ _ _ _ _ (entry .pre .0 .seeking) hk
+    (entry .pre .0 .row) ha _ _ (queue-at .ensures) (places-at .ensures) (c .before .before .before .before .before .before .before .if1 .left) (sym (c .before .if2 .left)
+    ∙ c .before .before .contains .ensures) in (
+      omega (arith, l, queue-at .ensures, entry .pre .0 .seeking .fit .words),
+      (
+        omega (arith, l, places-at .ensures, entry .pre .0 .seeking .fit .words, ha),
+        omega (
+          arith,
+          l,
+          entry .pre .0 .seeking .fit .turfs,
+        ),
+      ),
+    )
+
+cast-row : tie.Need-cast-row
+cast-row c =
+    let entry = c .before .before .before .before .before .before .before .before .before .before .before .before .before .before .before in
+    let hk : entry .args .k < entry .args .hand .e = omega (arith, entry .pre .1 .1 .within) in
+    let ha = entry .pre .1 .1 .ends (entry .args .k) hk in
+    omega (arith, ha, entry .pre .0 .seeking .fit .links, entry .pre .0 .seeking .fit .turfs)
 
 cast-words : tie.Need-cast-words
 cast-words c = search needs
@@ -51,25 +99,69 @@ add-words : tie.Need-add-words
 add-words c = search needs
 
 add-words-2 : tie.Need-add-words-2
-add-words-2 c = search needs
+add-words-2 c =
+    let entry = c .before .before .before .before .before .before .before .before .before .before .before .before .before .before .before in
+    let hk : entry .args .k < entry .args .hand .e = omega (arith, entry .pre .1 .1 .within) in
+    let ha = entry .pre .1 .1 .ends (entry .args .k) hk in
+    omega (arith, ha, entry .pre .0 .seeking .fit .links, entry .pre .0 .seeking .fit .turfs)
 
 add-words-3 : tie.Need-add-words-3
-add-words-3 c = search needs
+add-words-3 c =
+    let entry = c .before .before .before .before .before .before .before .before .before .before .before .before .before .before .before in
+    let hk : entry .args .k < entry .args .hand .e = omega (arith, entry .pre .1 .1 .within) in
+    let ha = entry .pre .1 .1 .ends (entry .args .k) hk in
+    omega (arith, ha, entry .pre .0 .seeking .fit .links, entry .pre .0 .seeking .fit .turfs)
 
 add-words-4 : tie.Need-add-words-4
-add-words-4 c = search needs
+add-words-4 c =
+    let entry = c .before .before .before .before .before .before .before .before .before .before .before .before .before .before .before in
+    let hk : entry .args .k < entry .args .hand .e = omega (arith, entry .pre .1 .1 .within) in
+    let ha = entry .pre .1 .1 .ends (entry .args .k) hk in
+    omega (arith, ha, entry .pre .0 .seeking .fit .links, entry .pre .0 .seeking .fit .turfs)
 
 mul-words : tie.Need-mul-words
-mul-words c = search needs
+mul-words c =
+    let entry = c .before .before .before .before .before .before .before .before .before .before .before .before .before .before .before in
+    let hk : entry .args .k < entry .args .hand .e = omega (arith, entry .pre .1 .1 .within) in
+    let ha = entry .pre .1 .1 .ends (entry .args .k) hk in
+    omega (arith, ha, entry .pre .0 .seeking .fit .links, entry .pre .0 .seeking .fit .turfs)
 
 slice-write-words : tie.Need-slice-write-words
-slice-write-words c = search needs
+slice-write-words c =
+    let entry = c .before .before .before .before .before .before .before .before .before .before .before .before .before .before .before in
+    let hk : entry .args .k < entry .args .hand .e = omega (arith, entry .pre .1 .1 .within) in
+    let ha = entry .pre .1 .1 .ends (entry .args .k) hk in
+    omega (arith, ha, entry .pre .0 .seeking .fit .words, c .before .before .insert .kept .1 .1 .1 .1 .0)
 
 meet-requires : tie.Need-meet-requires
-meet-requires c κs = (push-fit (c .before .before .before .before .before .before .before .before .before .before .before .before .before .before .before .args .side) (c .before .before .before .before .before .before .before .before .before .before .before .before .before .before .before .args .g) (c .before .before .before .before .before .before .before .before .before .before .before .before .before .before .before .args .r) (c .before .before .before .before .before .before .before .before .before .before .before .before .before .before .before .args .k) (c .before .before .before .before .before .before .before .before .before .before .before .before .before .before .before .args .a) (c .before .before .before .before .before .before .before .before .before .before .before .before .before .before .before .args .z) _ _ _ _ _ (c .before .before .before .before .before .before .before .before .before .before .before .before .before .before .before .pre .0 .0) (c .before .before .before .before .before .before .before .before .before .before .before .before .before .before .before .pre .1 .1 .1 .1) (c .before .before .before .before .before .before .before .before .before .before .before .before .before .before .before .pre .1 .0) (c .before .before .before .before .before .before .before .before .before .before .before .before .before .before .before .pre .1 .1 .1 .0) _ _ (c .before .before .before .before .before .before .before .before .before .before .queue-at .ensures) (c .before .before .before .before .before .before .before .before .before .places-at .ensures) (c .before .before .before .before .before .before .before .before .before .before .before .if1 .left) (sym (c .before .before .before .before .before .before .if2 .left) ∙ c .before .before .before .before .before .before .before .contains .ensures) _ (c .before .before .before .before .insert .ensures), (c .before .before .before .before .before .before .before .before .before .before .before .before .before .before .before .pre .1 .0, (c .before .before .before .before .before .before .before .before .before .before .before .before .before .before .before .pre .1 .1 .1 .0, c .before .before .before .before .before .before .before .before .before .before .before .before .before .before .before .pre .1 .1 .0)))
+meet-requires c κs =
+    let entry = c .before .before .before .before .before .before .before .before .before .before .before .before .before .before .before .before .before in
+    let hk : entry .args .k < entry .args .hand .e = omega (arith, entry .pre .1 .1 .within) in
+    let ha = entry .pre .1 .1 .ends (entry .args .k) hk in (
+      push-fit (entry .args .hand .side) (entry .args .hand .g) (entry .args .r) (entry .args .k) _ (entry .args .hand .z) _ _ _ _ _ (entry .pre .0 .seeking) hk (entry .pre .0 .row)
+          ha _ _ (c .before .before .before .before .before .before .before .before .before .before .before .queue-at .ensures) (c .before .before .before .before .before .before .before .before .before .before .places-at .ensures)
+          (c .before .before .before .before .before .before .before .before .before .before .before .before .if1 .left) (sym (c .before .before .before .before .before .before .if2 .left)
+          ∙ c .before .before .before .before .before .before .before .contains .ensures) _ (c .before .before .before .before .insert .ensures),
+      (
+        entry .pre .0 .row,
+        (
+          ha,
+          entry .pre .1 .1 .row,
+        ),
+      ),
+    )
 
-add-t17 : tie.Need-add-t17
-add-t17 c = search needs
+add-t20 : tie.Need-add-t20
+add-t20 c =
+    let entry = c .before .before .before .before .before .before .before .before .before .before .before .before .before .before .before .before .before .before .before .before .before .before in
+    let hk : entry .args .k < entry .args .hand .e = omega (arith, entry .pre .1 .1 .within) in
+    let ha = entry .pre .1 .1 .ends (entry .args .k) hk in
+    let l = link-room (entry .args .hand .side) (entry .args .hand .g) (entry .args .r) (entry .args .k) _ (entry .args .hand .z) _ _ _ _ _ (entry .pre .0 .seeking) hk
+    (entry .pre .0 .row) ha _ _ (c .before .before .before .before .before .before .before .before .before .before .before .before .before .before .before .before .queue-at .ensures)
+    (c .before .before .before .before .before .before .before .before .before .before .before .before .before .before .before .places-at .ensures) (c .before .before .before .before .before .before .before .before .before .before .before .before .before .before .before .before .before .if1 .left)
+    (sym (c .before .before .before .before .before .before .before .before .before .before .before .if2 .left) ∙ c .before .before .before .before .before .before .before .before .before .before .before .before .contains .ensures)
+    in
+    omega (arith, l, entry .pre .0 .seeking .fit .turfs)
 
 first-traded-requires : tie.Need-first-traded-requires
 first-traded-requires c κs = search needs
@@ -96,7 +188,32 @@ same-length-3 : tie.Need-same-length-3
 same-length-3 c = search needs
 
 returns-3 : tie.Need-returns-3
-returns-3 c = (link-new (c .before .before .before .before .before .before .before .before .before .before .before .before .before .before .before .before .before .before .before .before .before .before .before .args .side) (c .before .before .before .before .before .before .before .before .before .before .before .before .before .before .before .before .before .before .before .before .before .before .before .args .g) (c .before .before .before .before .before .before .before .before .before .before .before .before .before .before .before .before .before .before .before .before .before .before .before .args .r) (c .before .before .before .before .before .before .before .before .before .before .before .before .before .before .before .before .before .before .before .before .before .before .before .args .k) (c .before .before .before .before .before .before .before .before .before .before .before .before .before .before .before .before .before .before .before .before .before .before .before .args .a) (c .before .before .before .before .before .before .before .before .before .before .before .before .before .before .before .before .before .before .before .before .before .before .before .args .z) _ _ _ _ _ (c .before .before .before .before .before .before .before .before .before .before .before .before .before .before .before .before .before .before .before .before .before .before .before .pre .0 .0) (c .before .before .before .before .before .before .before .before .before .before .before .before .before .before .before .before .before .before .before .before .before .before .before .pre .1 .1 .1 .1) (c .before .before .before .before .before .before .before .before .before .before .before .before .before .before .before .before .before .before .before .before .before .before .before .pre .1 .0) (c .before .before .before .before .before .before .before .before .before .before .before .before .before .before .before .before .before .before .before .before .before .before .before .pre .1 .1 .1 .0) _ _ (c .before .before .before .before .before .before .before .before .before .before .before .before .before .before .before .before .before .before .queue-at .ensures) (c .before .before .before .before .before .before .before .before .before .before .before .before .before .before .before .before .before .places-at .ensures) (c .before .before .before .before .before .before .before .before .before .before .before .before .before .before .before .before .before .before .before .if1 .left) (sym (c .before .before .before .before .before .before .before .before .before .before .before .before .before .before .if2 .left) ∙ c .before .before .before .before .before .before .before .before .before .before .before .before .before .before .before .contains .ensures) _ (c .before .before .before .before .before .before .before .before .before .before .before .before .insert .ensures) (c .before .before .before .before .before .before .before .meet .ensures .0) (c .before .before .before .before .before .before .before .before .before .before .before .before .before .before .before .before .before .before .before .before .before .before .before .pre .0 .1 .1), (link-keeps (c .before .before .before .before .before .before .before .before .before .before .before .before .before .before .before .before .before .before .before .before .before .before .before .args .side) (c .before .before .before .before .before .before .before .before .before .before .before .before .before .before .before .before .before .before .before .before .before .before .before .args .g) (c .before .before .before .before .before .before .before .before .before .before .before .before .before .before .before .before .before .before .before .before .before .before .before .args .r) (c .before .before .before .before .before .before .before .before .before .before .before .before .before .before .before .before .before .before .before .before .before .before .before .args .k) (c .before .before .before .before .before .before .before .before .before .before .before .before .before .before .before .before .before .before .before .before .before .before .before .args .a) (c .before .before .before .before .before .before .before .before .before .before .before .before .before .before .before .before .before .before .before .before .before .before .before .args .z) _ _ _ _ _ (c .before .before .before .before .before .before .before .before .before .before .before .before .before .before .before .before .before .before .before .before .before .before .before .pre .0 .0) (c .before .before .before .before .before .before .before .before .before .before .before .before .before .before .before .before .before .before .before .before .before .before .before .pre .1 .1 .1 .1) (c .before .before .before .before .before .before .before .before .before .before .before .before .before .before .before .before .before .before .before .before .before .before .before .pre .1 .0) (c .before .before .before .before .before .before .before .before .before .before .before .before .before .before .before .before .before .before .before .before .before .before .before .pre .1 .1 .1 .0) _ _ (c .before .before .before .before .before .before .before .before .before .before .before .before .before .before .before .before .before .before .queue-at .ensures) (c .before .before .before .before .before .before .before .before .before .before .before .before .before .before .before .before .before .places-at .ensures) (c .before .before .before .before .before .before .before .before .before .before .before .before .before .before .before .before .before .before .before .if1 .left) (sym (c .before .before .before .before .before .before .before .before .before .before .before .before .before .before .if2 .left) ∙ c .before .before .before .before .before .before .before .before .before .before .before .before .before .before .before .contains .ensures) _ (c .before .before .before .before .before .before .before .before .before .before .before .before .insert .ensures) (c .before .before .before .before .before .before .before .meet .ensures .0), (link-idle (c .before .before .before .before .before .before .before .before .before .before .before .before .before .before .before .before .before .before .before .before .before .before .before .args .side) (c .before .before .before .before .before .before .before .before .before .before .before .before .before .before .before .before .before .before .before .before .before .before .before .args .g) (c .before .before .before .before .before .before .before .before .before .before .before .before .before .before .before .before .before .before .before .before .before .before .before .args .r) (c .before .before .before .before .before .before .before .before .before .before .before .before .before .before .before .before .before .before .before .before .before .before .before .args .k) (c .before .before .before .before .before .before .before .before .before .before .before .before .before .before .before .before .before .before .before .before .before .before .before .args .a) (c .before .before .before .before .before .before .before .before .before .before .before .before .before .before .before .before .before .before .before .before .before .before .before .args .z) _ _ _ _ _ (c .before .before .before .before .before .before .before .before .before .before .before .before .before .before .before .before .before .before .before .before .before .before .before .pre .0 .0) (c .before .before .before .before .before .before .before .before .before .before .before .before .before .before .before .before .before .before .before .before .before .before .before .pre .1 .1 .1 .1) (c .before .before .before .before .before .before .before .before .before .before .before .before .before .before .before .before .before .before .before .before .before .before .before .pre .1 .0) (c .before .before .before .before .before .before .before .before .before .before .before .before .before .before .before .before .before .before .before .before .before .before .before .pre .1 .1 .1 .0) _ _ (c .before .before .before .before .before .before .before .before .before .before .before .before .before .before .before .before .before .before .queue-at .ensures) (c .before .before .before .before .before .before .before .before .before .before .before .before .before .before .before .before .before .places-at .ensures) (c .before .before .before .before .before .before .before .before .before .before .before .before .before .before .before .before .before .before .before .if1 .left) (sym (c .before .before .before .before .before .before .before .before .before .before .before .before .before .before .if2 .left) ∙ c .before .before .before .before .before .before .before .before .before .before .before .before .before .before .before .contains .ensures) _ (c .before .before .before .before .before .before .before .before .before .before .before .before .insert .ensures) (c .before .before .before .before .before .before .before .meet .ensures .0) _ _ _ (c .before .before .before .before .before .before .before .meet .ensures .1) (c .before .before .first-traded .ensures), link-open (c .before .before .before .before .before .before .before .before .before .before .before .before .before .before .before .before .before .before .before .before .before .before .before .args .side) (c .before .before .before .before .before .before .before .before .before .before .before .before .before .before .before .before .before .before .before .before .before .before .before .args .g) (c .before .before .before .before .before .before .before .before .before .before .before .before .before .before .before .before .before .before .before .before .before .before .before .args .r) (c .before .before .before .before .before .before .before .before .before .before .before .before .before .before .before .before .before .before .before .before .before .before .before .args .k) (c .before .before .before .before .before .before .before .before .before .before .before .before .before .before .before .before .before .before .before .before .before .before .before .args .a) (c .before .before .before .before .before .before .before .before .before .before .before .before .before .before .before .before .before .before .before .before .before .before .before .args .z) _ _ _ _ _ (c .before .before .before .before .before .before .before .before .before .before .before .before .before .before .before .before .before .before .before .before .before .before .before .pre .0 .0) (c .before .before .before .before .before .before .before .before .before .before .before .before .before .before .before .before .before .before .before .before .before .before .before .pre .1 .1 .1 .1) (c .before .before .before .before .before .before .before .before .before .before .before .before .before .before .before .before .before .before .before .before .before .before .before .pre .1 .0) (c .before .before .before .before .before .before .before .before .before .before .before .before .before .before .before .before .before .before .before .before .before .before .before .pre .1 .1 .1 .0) _ _ (c .before .before .before .before .before .before .before .before .before .before .before .before .before .before .before .before .before .before .queue-at .ensures) (c .before .before .before .before .before .before .before .before .before .before .before .before .before .before .before .before .before .places-at .ensures) (c .before .before .before .before .before .before .before .before .before .before .before .before .before .before .before .before .before .before .before .if1 .left) (sym (c .before .before .before .before .before .before .before .before .before .before .before .before .before .before .if2 .left) ∙ c .before .before .before .before .before .before .before .before .before .before .before .before .before .before .before .contains .ensures) _ (c .before .before .before .before .before .before .before .before .before .before .before .before .insert .ensures) (c .before .before .before .before .before .before .before .meet .ensures .0) (c .before .before .before .before .before .before .before .before .before .before .before .before .before .before .before .before .before .before .before .before .before .before .before .pre .0 .1 .1) _ (c .before .before .before .before .before .before .before .meet .ensures .1) _ _ refl _ (c .settles .ensures))))
+unfolding along
+returns-3 c =
+    let entry = c .before .before .before .before .before .before .before .before .before .before .before .before .before .before .before .before .before .before .before .before .before .before .before .before .before in
+    let if1 = c .before .before .before .before .before .before .before .before .before .before .before .before .before .before .before .before .before .before .before .before .if1 in
+    let queue-at = c .before .before .before .before .before .before .before .before .before .before .before .before .before .before .before .before .before .before .before .queue-at in
+    let places-at = c .before .before .before .before .before .before .before .before .before .before .before .before .before .before .before .before .before .before .places-at in
+    let contains = c .before .before .before .before .before .before .before .before .before .before .before .before .before .before .before .contains in
+    let if2 = c .before .before .before .before .before .before .before .before .before .before .before .before .before .before .if2 in
+    let insert = c .before .before .before .before .before .before .before .before .before .before .before .before .insert in
+    let meet = c .before .before .before .before .before .before .before .meet in
+    let hk : entry .args .k < entry .args .hand .e = omega (arith, entry .pre .1 .1 .within) in
+    let ha = entry .pre .1 .1 .ends (entry .args .k) hk in (
+      record {
+        sought = link-new (entry .args .hand .side) (entry .args .hand .g) (entry .args .r) (entry .args .k) _ (entry .args .hand .z) _ _ _ _ _ (entry .pre .0 .seeking) hk
+            (entry .pre .0 .row) ha _ _ (queue-at .ensures) (places-at .ensures) (if1 .left) (sym (if2 .left) ∙ contains .ensures) _ (insert .ensures) (meet .ensures .0) (entry .pre .1 .0);
+        met = link-keeps (entry .args .hand .side) (entry .args .hand .g) (entry .args .r) (entry .args .k) _ (entry .args .hand .z) _ _ _ _ _ (entry .pre .0 .seeking) hk
+            (entry .pre .0 .row) ha _ _ (queue-at .ensures) (places-at .ensures) (if1 .left) (sym (if2 .left) ∙ contains .ensures) _ (insert .ensures) (meet .ensures .0) (entry .args .neighbours .now)
+            refl;
+        idle = link-idle (entry .args .hand .side) (entry .args .hand .g) (entry .args .r) (entry .args .k) _ (entry .args .hand .z) _ _ _ _ _ (entry .pre .0 .seeking) hk
+            (entry .pre .0 .row) ha _ _ (queue-at .ensures) (places-at .ensures) (if1 .left) (sym (if2 .left) ∙ contains .ensures) _ (insert .ensures) (meet .ensures .0) _ _ _
+            (meet .ensures .1) (c .before .before .first-traded .ensures);
+      },
+      link-open (entry .args .hand .side) (entry .args .hand .g) (entry .args .r) (entry .args .k) _ (entry .args .hand .z) _ _ _ _ _ (entry .pre .0 .seeking) hk (entry .pre .0 .row)
+          ha _ _ (queue-at .ensures) (places-at .ensures) (if1 .left) (sym (if2 .left) ∙ contains .ensures) _ (insert .ensures) (meet .ensures .0) (entry .pre .1 .0) _ (meet .ensures .1)
+          _ _ refl _ (c .settles .ensures),
+    )
 
 pub seek-link-spec : {M : Type 1} → statement M
 seek-link-spec =
@@ -108,10 +225,13 @@ seek-link-spec =
     returns
     queue-at-requires
     places-at-requires
+    mul-a
+    shared-slice-read-a
     contains-requires
     same-length
     returns-2
     insert-requires
+    cast-row
     cast-words
     add-words
     add-words-2
@@ -120,7 +240,7 @@ seek-link-spec =
     mul-words
     slice-write-words
     meet-requires
-    add-t17
+    add-t20
     first-traded-requires
     add-settles
     add-settles-2

@@ -1,8 +1,5 @@
--- A loop over the part is a loop over the turf's edges. Assumes nothing.
+-- The links of a turf stand side by side. Assumes nothing.
 use native.Mathlib.Omega.{arith}
-use Prim.Native.Nat.{_+_}
-use Rattle.plan_state.proofs.Parts.{part-below, part-fits}
-use Rattle.plan_search.proofs.Rows.{sought-as, part-is, part-leads}
 use borrow.Author.Needs.{needs}
 use Rattle.plan_search.proofs.seek_turf.Statement.{statement}
 use Rattle.plan_search.proofs.seek_turf.Tie as tie
@@ -14,7 +11,9 @@ shared-slice-read-from : tie.Need-shared-slice-read-from
 shared-slice-read-from c = search needs
 
 cast-from : tie.Need-cast-from
-cast-from c = omega (arith, c .shared-slice-known3 .given (c .before .before .before .before .before .args .r))
+cast-from c =
+    let entry = c .before .before .before .before .before in
+    omega (arith, entry .pre .1 .1 .1 .0 .rise _ (entry .pre .1 .1 .0), entry .pre .1 .1 .1 .0 .within _ (entry .pre .1 .1 .0), entry .pre .1 .1 .1 .1, entry .pre .0 .seeking .fit .links)
 
 add-to : tie.Need-add-to
 add-to c = search needs
@@ -26,22 +25,27 @@ shared-slice-read-to : tie.Need-shared-slice-read-to
 shared-slice-read-to c = search needs
 
 cast-to : tie.Need-cast-to
-cast-to c = omega (arith, c .shared-slice-known4 .given (c .before .before .before .before .before .before .args .r + 1))
-
-mul-seek-row : tie.Need-mul-seek-row
-mul-seek-row c = omega (arith, (c .before .before .before .before .before .before .pre .1 .1 .1 .0) .rise _ (c .before .before .before .before .before .before .pre .1 .1 .0), (c .before .before .before .before .before .before .pre .1 .1 .1 .0) .within _ (c .before .before .before .before .before .before .pre .1 .1 .0), c .before .before .before .before .before .before .good)
-
-sub-seek-row : tie.Need-sub-seek-row
-sub-seek-row c = (c .before .before .before .before .before .before .pre .1 .1 .1 .0) .rise _ (c .before .before .before .before .before .before .pre .1 .1 .0)
-
-part-seek-row-start : tie.Need-part-seek-row-start
-part-seek-row-start c = (c .before .before .before .before .before .before .pre .1 .1 .1 .0) .rise _ (c .before .before .before .before .before .before .pre .1 .1 .0)
-
-part-seek-row-end : tie.Need-part-seek-row-end
-part-seek-row-end c = (c .before .before .before .before .before .before .pre .1 .1 .1 .0) .within _ (c .before .before .before .before .before .before .pre .1 .1 .0)
+cast-to c =
+    let entry = c .before .before .before .before .before .before in
+    omega (arith, entry .pre .1 .1 .1 .0 .within _ (entry .pre .1 .1 .0), entry .pre .1 .1 .1 .1, entry .pre .0 .seeking .fit .links)
 
 seek-row-requires : tie.Need-seek-row-requires
-seek-row-requires c κs = ((c .before .before .before .before .before .before .before .before .before .pre .0 .0, c .before .before .before .before .before .before .before .before .before .pre .0 .1), (c .before .before .before .before .before .before .before .before .before .pre .1 .0, (c .before .before .before .before .before .before .before .before .before .pre .1 .1 .0, (part-below _ _ _ _ (c .before .before .before .before .before .before .before .before .before .pre .1 .1 .1 .0) (c .before .before .before .before .before .before .before .before .before .pre .1 .1 .0), omega (arith, part-fits _ _ _ _ (c .before .before .before .before .before .before .before .before .before .pre .1 .1 .1 .0) (c .before .before .before .before .before .before .before .before .before .pre .1 .1 .0), c .before .before .before .before .before .before .before .before .before .pre .1 .1 .1 .1)))))
+seek-row-requires c κs =
+    let entry = c .before .before .before .before .before .before .before .before in (
+      entry .pre .0,
+      (
+        entry .pre .1 .0,
+        (
+          record {
+            row = entry .pre .1 .1 .0;
+            all = entry .pre .1 .1 .1 .1;
+            within = omega (arith, entry .pre .1 .1 .1 .0 .within _ (entry .pre .1 .1 .0), entry .pre .1 .1 .1 .1);
+            ends = λ k l. entry .pre .1 .1 .1 .0 .rows k (omega (arith, l, entry .pre .1 .1 .1 .1));
+          },
+          entry .pre .1 .1 .1 .0 .rise _ (entry .pre .1 .1 .0),
+        ),
+      ),
+    )
 
 same-length : tie.Need-same-length
 same-length c = search needs
@@ -50,7 +54,7 @@ same-length-2 : tie.Need-same-length-2
 same-length-2 c = search needs
 
 returns : tie.Need-returns
-returns c = (sought-as (c .before .before .before .before .seek-row .ensures .0) (part-is (c .before .before .before .before .before .before .before .before .before .before .before .before .before .before .args .n) _ _ _ _ _ _ (c .before .before .before .before .before .before .before .before .before .before .before .before .before .before .pre .1 .1 .1 .0) (c .before .before .before .before .before .before .before .before .before .before .before .before .before .before .pre .1 .1 .0)), (c .before .before .before .before .seek-row .ensures .1 .0 .keeps _ _ (part-leads _ _ _ _ (c .before .before .before .before .before .before .before .before .before .before .before .before .before .before .pre .1 .1 .1 .0) (c .before .before .before .before .before .before .before .before .before .before .before .before .before .before .pre .1 .1 .0)), c .before .before .before .before .seek-row .ensures .1 .1))
+returns c = search needs
 
 pub seek-turf-spec : {M : Type 1} → statement M
 seek-turf-spec =
@@ -63,10 +67,6 @@ seek-turf-spec =
     mul-to
     shared-slice-read-to
     cast-to
-    mul-seek-row
-    sub-seek-row
-    part-seek-row-start
-    part-seek-row-end
     seek-row-requires
     same-length
     same-length-2

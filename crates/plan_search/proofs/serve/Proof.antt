@@ -1,6 +1,7 @@
 -- The search keeps the link by which each row was met, and the way back over these links is the way back over the edges; rows that nothing is handed to are passed over. Assumes nothing.
 use native.Mathlib.Omega.{arith}
 use mathlib.Core.Path.{_∙_}
+use Rattle.turfs.specs.Tables.{boardOf}
 use Rattle.plan_search.proofs.Skips.{rows-later, first-few, low-few, skipped}
 use Rattle.plan_search.proofs.Serves.{points-nowhere, moves-nothing, begun, begun-met, begun-idle, searched-near, reverses-after, rows-within, drained-by-edges, served}
 use borrow.Author.Needs.{needs}
@@ -19,38 +20,115 @@ queue-at-requires c κs = search needs
 places-at-requires : tie.Need-places-at-requires
 places-at-requires c κs = search needs
 
+cast-insert : tie.Need-cast-insert
+cast-insert c = search needs
+
 insert-requires : tie.Need-insert-requires
 insert-requires c κs = search needs
 
 seek-requires : tie.Need-seek-requires
-seek-requires c κs = ((begun _ _ _ _ _ _ (c .before .before .before .before .before .before .before .before .before .before .before .before .store .ensures .fit) (c .before .before .before .before .before .before .before .before .before .before .before .before .before .before .before .before .before .before .before .before .before .before .pre .0 .1 .1 .1 .1) _ _ (c .before .before .before .before .before .before .before .queue-at .ensures) (c .before .before .before .before .before .before .places-at .ensures) (c .before .before .before .before .insert .ensures), c .before .before .before .before .before .before .before .before .before .before .before .before .before .before .before .before .before .before .before .before .before .before .pre .0 .1 .1 .1 .0), ((c .before .before .before .before .before .before .before .before .before .before .before .before .before .before .before .before .before .before .before .before .before .before .pre .0 .1 .1 .1 .1, (c .before .before .before .before .before .before .before .before .before .before .before .before .before .before .before .before .before .before .before .before .before .before .pre .0 .0, (c .before .before .before .before .before .before .before .before .before .before .before .before .before .before .before .before .before .before .before .before .before .before .pre .0 .1 .0, begun-met _ _ _ _ _ _ (c .before .before .before .before .before .before .before .before .before .before .before .before .store .ensures .fit) (c .before .before .before .before .before .before .before .before .before .before .before .before .before .before .before .before .before .before .before .before .before .before .pre .0 .1 .1 .1 .1) _ _ (c .before .before .before .before .before .before .before .queue-at .ensures) (c .before .before .before .before .before .before .places-at .ensures) (c .before .before .before .before .insert .ensures) _ _ _ (points-nowhere _ _ _ _ _ _ (c .before .before .before .before .before .before .before .before .before .before .before .before .before .before .before .before .before .before .before .before .before .before .pre .0 .1 .1 .0) (c .before .before .before .before .before .before .before .before .before .before .before .before .before .before .before .before .before .before .before .before .before .before .pre .0 .1 .1 .1 .1) (c .before .before .before .before .before .before .before .before .before .before .before .before .store .ensures))))), begun-idle _ _ _ _ _ _ (c .before .before .before .before .before .before .before .before .before .before .before .before .store .ensures .fit) (c .before .before .before .before .before .before .before .before .before .before .before .before .before .before .before .before .before .before .before .before .before .before .pre .0 .1 .1 .1 .1) _ _ (c .before .before .before .before .before .before .before .queue-at .ensures) (c .before .before .before .before .before .before .places-at .ensures) (c .before .before .before .before .insert .ensures) _ (moves-nothing _ _ _ _ _ (c .before .before .before .before .before .before .before .before .before .before .before .before .before .before .before .before .before .before .before .before .before .before .pre .0 .1 .1 .0) (c .before .before .before .before .before .before .before .before .before .before .before .before .before .before .before .before .before .before .before .before .before .before .pre .0 .1 .1 .1 .1) (c .before .before .before .before .before .before .before .before .before .before .before .before .store .ensures))))
+seek-requires c κs =
+    let entry = c .before .before .before .before .before .before .before .before .before .before .before .before .before .before .before .before .before .before .before .before in
+    let store = c .before .before .before .before .before .before .before .before .before .before .before .before .store in
+    let queue-at = c .before .before .before .before .before .before .before .queue-at in
+    let places-at = c .before .before .before .before .before .before .places-at in
+    let insert = c .before .before .before .before .insert in (
+      record {
+        seeking = begun _ _ _ _ _ _ (store .ensures .fit) (entry .pre .1) _ _ (queue-at .ensures) (places-at .ensures) (insert .ensures);
+        zone = entry .pre .0 .zone;
+        row = entry .pre .1;
+      },
+      (
+        entry .pre .0 .sized,
+        (
+          begun-met _ _ _ _ _ _ (store .ensures .fit) (entry .pre .1) _ _ (queue-at .ensures) (places-at .ensures) (insert .ensures) _ _ _ (points-nowhere _ _ _ _ _ _ (entry .pre .0 .fit)
+              (entry .pre .1) (store .ensures)),
+          begun-idle _ _ _ _ _ _ (store .ensures .fit) (entry .pre .1) _ _ (queue-at .ensures) (places-at .ensures) (insert .ensures) _ (moves-nothing _ _ _ _ _ (entry .pre .0 .fit)
+              (entry .pre .1) (store .ensures)),
+        ),
+      ),
+    )
 
 least-requires : tie.Need-least-requires
 least-requires c κs = search needs
 
 drain-requires : tie.Need-drain-requires
-drain-requires c κs = ((c .before .before .before .before .before .before .before .seek .ensures .0 .seeking .fit, (c .before .before .before .before .before .before .before .before .before .before .before .before .before .before .before .before .before .before .before .before .before .before .before .before .before .before .before .before .before .before .pre .0 .1 .1 .1 .0, c .before .before .before .before .before .before .before .seek .ensures .0 .seeking .line .few)), rows-within _ _ _ _ _ _ (c .before .before .before .before .before .before .before .before .before .before .before .before .before .before .before .before .before .before .before .before .before .before .before .before .before .before .before .before .before .before .pre .0 .0) (c .before .before .before .before .before .before .before .before .before .before .before .before .before .before .before .before .before .before .before .before .before .before .before .before .before .before .before .before .before .before .pre .0 .1 .0) (c .before .before .before .before .before .before .before .seek .ensures .0 .seeking) (c .before .before .before .before .before .before .before .seek .ensures .1 .0) (reverses-after _ _ _ _ _ _ (c .before .before .before .before .before .before .before .before .before .before .before .before .before .before .before .before .before .before .before .before .store .ensures .fit) (c .before .before .before .before .before .before .before .before .before .before .before .before .before .before .before .before .before .before .before .before .before .before .before .before .before .before .before .before .before .before .pre .0 .1 .1 .1 .1) _ _ (c .before .before .before .before .before .before .before .before .before .before .before .before .before .before .before .queue-at .ensures) (c .before .before .before .before .before .before .before .before .before .before .before .before .before .before .places-at .ensures) (c .before .before .before .before .before .before .before .before .before .before .before .before .insert .ensures) (c .before .before .before .before .before .before .before .before .before .before .before .before .before .before .before .before .before .before .before .before .before .before .before .before .before .before .before .before .before .before .pre .1) (c .before .before .before .before .before .before .before .before .before .before .before .before .before .before .before .before .before .before .before .before .store .ensures) (c .before .before .before .before .before .before .before .seek .ensures .0)))
+drain-requires c κs =
+    let entry = c .before .before .before .before .before .before .before .before .before .before .before .before .before .before .before .before .before .before .before .before .before .before .before .before .before .before .before .before in
+    let store = c .before .before .before .before .before .before .before .before .before .before .before .before .before .before .before .before .before .before .before .before .store in
+    let seek = c .before .before .before .before .before .before .before .seek in
+    let back = reverses-after _ _ _ _ _ _ (store .ensures .fit) (entry .pre .1) _ _ (c .before .before .before .before .before .before .before .before .before .before .before .before .before .before .before .queue-at .ensures)
+    (c .before .before .before .before .before .before .before .before .before .before .before .before .before .before .places-at .ensures) (c .before .before .before .before .before .before .before .before .before .before .before .before .insert .ensures)
+    (entry .pre .0 .reverses) (store .ensures) (seek .ensures .0) in (
+      seek .ensures .0 .seeking .fit,
+      (
+        entry .pre .0 .zone,
+        (
+          seek .ensures .0 .seeking .line .few,
+          rows-within _ _ _ _ (boardOf (entry .args .rows .now) (entry .args .marks .now)
+              (entry .args .gases)) (entry .pre .0 .sized .linked) (entry .pre .0 .sized .links) (seek .ensures .0 .seeking) (seek .ensures .1 .0) back,
+        ),
+      ),
+    )
 
 least-requires-2 : tie.Need-least-requires-2
 least-requires-2 c κs = search needs
 
 drain-requires-2 : tie.Need-drain-requires-2
 drain-requires-2 c κs =
-    let near = searched-near _ _ _ _ _ _ (c .before .before .before .before .before .before .before .before .before .before .before .before .before .before .before .before .before .before .before .before .before .before .before .before .before .before .store .ensures .fit) (c .before .before .before .before .before .before .before .before .before .before .before .before .before .before .before .before .before .before .before .before .before .before .before .before .before .before .before .before .before .before .before .before .before .before .before .before .pre .0 .1 .1 .1 .1) _ _ (c .before .before .before .before .before .before .before .before .before .before .before .before .before .before .before .before .before .before .before .before .before .queue-at .ensures) (c .before .before .before .before .before .before .before .before .before .before .before .before .before .before .before .before .before .before .before .before .places-at .ensures) (c .before .before .before .before .before .before .before .before .before .before .before .before .before .before .before .before .before .before .insert .ensures) _ _ _ _ _ _ (points-nowhere _ _ _ _ _ _ (c .before .before .before .before .before .before .before .before .before .before .before .before .before .before .before .before .before .before .before .before .before .before .before .before .before .before .before .before .before .before .before .before .before .before .before .before .pre .0 .1 .1 .0) (c .before .before .before .before .before .before .before .before .before .before .before .before .before .before .before .before .before .before .before .before .before .before .before .before .before .before .before .before .before .before .before .before .before .before .before .before .pre .0 .1 .1 .1 .1) (c .before .before .before .before .before .before .before .before .before .before .before .before .before .before .before .before .before .before .before .before .before .before .before .before .before .before .store .ensures)) (c .before .before .before .before .before .before .before .before .before .before .before .before .before .seek .ensures .0) in
-    let few = low-few _ _ 0 _ _ _ _ _ _ _ (c .before .before .before .before .before .before .before .before .before .before .before .before .before .seek .ensures .0 .seeking) (c .before .before .before .before .before .before .before .before .least .ensures) (c .before .before .least2 .ensures) near (c .before .before .before .before .before .before .before .before .before .before .before .before .before .seek .ensures .1 .1) in
-    ((c .before .before .before .before .before .drain .ensures .fit, (c .before .before .before .before .before .before .before .before .before .before .before .before .before .before .before .before .before .before .before .before .before .before .before .before .before .before .before .before .before .before .before .before .before .before .before .before .pre .0 .1 .1 .1 .0, omega (arith, few, c .before .before .before .before .before .before .before .before .before .before .before .before .before .seek .ensures .0 .seeking .line .few))), rows-later _ _ _ _ _ _ (rows-within _ _ _ _ _ _ (c .before .before .before .before .before .before .before .before .before .before .before .before .before .before .before .before .before .before .before .before .before .before .before .before .before .before .before .before .before .before .before .before .before .before .before .before .pre .0 .0) (c .before .before .before .before .before .before .before .before .before .before .before .before .before .before .before .before .before .before .before .before .before .before .before .before .before .before .before .before .before .before .before .before .before .before .before .before .pre .0 .1 .0) (c .before .before .before .before .before .before .before .before .before .before .before .before .before .seek .ensures .0 .seeking) (c .before .before .before .before .before .before .before .before .before .before .before .before .before .seek .ensures .1 .0) (reverses-after _ _ _ _ _ _ (c .before .before .before .before .before .before .before .before .before .before .before .before .before .before .before .before .before .before .before .before .before .before .before .before .before .before .store .ensures .fit) (c .before .before .before .before .before .before .before .before .before .before .before .before .before .before .before .before .before .before .before .before .before .before .before .before .before .before .before .before .before .before .before .before .before .before .before .before .pre .0 .1 .1 .1 .1) _ _ (c .before .before .before .before .before .before .before .before .before .before .before .before .before .before .before .before .before .before .before .before .before .queue-at .ensures) (c .before .before .before .before .before .before .before .before .before .before .before .before .before .before .before .before .before .before .before .before .places-at .ensures) (c .before .before .before .before .before .before .before .before .before .before .before .before .before .before .before .before .before .before .insert .ensures) (c .before .before .before .before .before .before .before .before .before .before .before .before .before .before .before .before .before .before .before .before .before .before .before .before .before .before .before .before .before .before .before .before .before .before .before .before .pre .1) (c .before .before .before .before .before .before .before .before .before .before .before .before .before .before .before .before .before .before .before .before .before .before .before .before .before .before .store .ensures) (c .before .before .before .before .before .before .before .before .before .before .before .before .before .seek .ensures .0))) _ few)
+    let entry = c .before .before .before .before .before .before .before .before .before .before .before .before .before .before .before .before .before .before .before .before .before .before .before .before .before .before .before .before .before .before .before .before .before .before in
+    let store = c .before .before .before .before .before .before .before .before .before .before .before .before .before .before .before .before .before .before .before .before .before .before .before .before .before .before .store in
+    let queue-at = c .before .before .before .before .before .before .before .before .before .before .before .before .before .before .before .before .before .before .before .before .before .queue-at in
+    let places-at = c .before .before .before .before .before .before .before .before .before .before .before .before .before .before .before .before .before .before .before .before .places-at in
+    let insert = c .before .before .before .before .before .before .before .before .before .before .before .before .before .before .before .before .before .before .insert in
+    let seek = c .before .before .before .before .before .before .before .before .before .before .before .before .before .seek in
+    let back = reverses-after _ _ _ _ _ _ (store .ensures .fit) (entry .pre .1) _ _ (queue-at .ensures) (places-at .ensures) (insert .ensures) (entry .pre .0 .reverses)
+    (store .ensures) (seek .ensures .0) in
+    let near = searched-near _ _ _ _ _ _ (store .ensures .fit) (entry .pre .1) _ _ (queue-at .ensures) (places-at .ensures) (insert .ensures) (boardOf (entry .args .rows .now)
+    (entry .args .marks .now) (entry .args .gases)) _ _ _ _ (points-nowhere _ _ _ _ _ _ (entry .pre .0 .fit) (entry .pre .1) (store .ensures)) (seek .ensures .0) in
+    let few = low-few _ _ 0 _ _ _ _ _ _ _ (seek .ensures .0 .seeking) (c .before .before .before .before .before .before .before .before .least .ensures) (c .before .before .least2 .ensures)
+    near (seek .ensures .1 .1) in (
+      c .before .before .before .before .before .drain .ensures .fit,
+      (
+        entry .pre .0 .zone,
+        (
+          omega (arith, few, seek .ensures .0 .seeking .line .few),
+          rows-later _ _ _ _ _ _ (rows-within _ _ _ _ (boardOf (entry .args .rows .now) (entry .args .marks .now) (entry .args .gases)) (entry .pre .0 .sized .linked) (entry .pre .0 .sized .links)
+              (seek .ensures .0 .seeking) (seek .ensures .1 .0) back) _ few,
+        ),
+      ),
+    )
 
 same-length : tie.Need-same-length
-same-length c = c .before .before .before .before .before .before .before .before .before .before .before .before .before .before .before .before .seek .kept .1 .1 .1 .1 .1 .1 .1 .0 ∙ (c .before .before .before .before .before .before .before .before .before .before .before .before .before .before .before .before .before .before .before .before .before .insert .kept .1 .1 .1 .1 .0 ∙ c .before .before .before .before .before .before .before .before .before .before .before .before .before .before .before .before .before .before .before .before .before .before .before .before .before .before .before .before .before .store .kept .1 .1 .1 .1 .0)
+same-length c =
+    c .before .before .before .before .before .before .before .before .before .before .before .before .before .before .before .before .seek .kept .1 .1 .1 .1 .0 ∙ (c .before .before .before .before .before .before .before .before .before .before .before .before .before .before .before .before .before .before .before .before .before .insert .kept .1 .1 .1 .1 .0
+    ∙ c .before .before .before .before .before .before .before .before .before .before .before .before .before .before .before .before .before .before .before .before .before .before .before .before .before .before .before .before .before .store .kept .1 .1 .1 .1 .0)
 
 same-length-2 : tie.Need-same-length-2
-same-length-2 c = c .before .before .drain2 .kept .1 .1 .1 .1 .1 .1 .0 ∙ (c .before .before .before .before .before .before .before .before .drain .kept .1 .1 .1 .1 .1 .1 .0 ∙ (c .before .before .before .before .before .before .before .before .before .before .before .before .before .before .before .before .seek .kept .1 .1 .1 .1 .1 .1 .1 .1 .0 ∙ c .before .before .before .before .before .before .before .before .before .before .before .before .before .before .before .before .before .before .before .before .before .before .before .before .before .before .before .before .before .store .kept .1 .1 .1 .1 .1 .0))
+same-length-2 c =
+    c .before .before .drain2 .kept .1 .1 .1 .1 .1 .1 .0 ∙ (c .before .before .before .before .before .before .before .before .drain .kept .1 .1 .1 .1 .1 .1 .0 ∙ (c .before .before .before .before .before .before .before .before .before .before .before .before .before .before .before .before .seek .kept .1 .1 .1 .1 .1 .0
+    ∙ c .before .before .before .before .before .before .before .before .before .before .before .before .before .before .before .before .before .before .before .before .before .before .before .before .before .before .before .before .before .store .kept .1 .1 .1 .1 .1 .0))
 
 returns : tie.Need-returns
 returns c =
-    let near = searched-near _ _ _ _ _ _ (c .before .before .before .before .before .before .before .before .before .before .before .before .before .before .before .before .before .before .before .before .before .before .before .before .before .before .before .before .before .store .ensures .fit) (c .before .before .before .before .before .before .before .before .before .before .before .before .before .before .before .before .before .before .before .before .before .before .before .before .before .before .before .before .before .before .before .before .before .before .before .before .before .before .before .pre .0 .1 .1 .1 .1) _ _ (c .before .before .before .before .before .before .before .before .before .before .before .before .before .before .before .before .before .before .before .before .before .before .before .before .queue-at .ensures) (c .before .before .before .before .before .before .before .before .before .before .before .before .before .before .before .before .before .before .before .before .before .before .before .places-at .ensures) (c .before .before .before .before .before .before .before .before .before .before .before .before .before .before .before .before .before .before .before .before .before .insert .ensures) _ _ _ _ _ _ (points-nowhere _ _ _ _ _ _ (c .before .before .before .before .before .before .before .before .before .before .before .before .before .before .before .before .before .before .before .before .before .before .before .before .before .before .before .before .before .before .before .before .before .before .before .before .before .before .before .pre .0 .1 .1 .0) (c .before .before .before .before .before .before .before .before .before .before .before .before .before .before .before .before .before .before .before .before .before .before .before .before .before .before .before .before .before .before .before .before .before .before .before .before .before .before .before .pre .0 .1 .1 .1 .1) (c .before .before .before .before .before .before .before .before .before .before .before .before .before .before .before .before .before .before .before .before .before .before .before .before .before .before .before .before .before .store .ensures)) (c .before .before .before .before .before .before .before .before .before .before .before .before .before .before .before .before .seek .ensures .0) in
-    served _ _ _ _ _ _ (c .before .before .before .before .before .before .before .before .before .before .before .before .before .before .before .before .before .before .before .before .before .before .before .before .before .before .before .before .before .store .ensures .fit) (c .before .before .before .before .before .before .before .before .before .before .before .before .before .before .before .before .before .before .before .before .before .before .before .before .before .before .before .before .before .before .before .before .before .before .before .before .before .before .before .pre .0 .1 .1 .1 .1) _ _ (c .before .before .before .before .before .before .before .before .before .before .before .before .before .before .before .before .before .before .before .before .before .before .before .before .queue-at .ensures) (c .before .before .before .before .before .before .before .before .before .before .before .before .before .before .before .before .before .before .before .before .before .before .before .places-at .ensures) (c .before .before .before .before .before .before .before .before .before .before .before .before .before .before .before .before .before .before .before .before .before .insert .ensures) _ _ _ _ _ _ _ (c .before .before .before .before .before .before .before .before .before .before .before .before .before .before .before .before .before .before .before .before .before .before .before .before .before .before .before .before .before .before .before .before .load .ensures) (c .before .before .before .before .before .before .before .before .before .before .before .before .before .before .before .before .before .before .before .before .before .before .before .before .before .before .before .before .before .store .ensures) (c .before .before .before .before .before .before .before .before .before .before .before .before .before .before .before .before .seek .ensures .0) (drained-by-edges _ _ _ _ _ _ (c .before .before .before .before .before .before .before .before .before .before .before .before .before .before .before .before .before .before .before .before .before .before .before .before .before .before .before .before .before .before .before .before .before .before .before .before .before .before .before .pre .0 .0) (c .before .before .before .before .before .before .before .before .before .before .before .before .before .before .before .before .before .before .before .before .before .before .before .before .before .before .before .before .before .before .before .before .before .before .before .before .before .before .before .pre .0 .1 .0) (c .before .before .before .before .before .before .before .before .before .before .before .before .before .before .before .before .seek .ensures .0 .seeking) (c .before .before .before .before .before .before .before .before .before .before .before .before .before .before .before .before .seek .ensures .1 .0) (reverses-after _ _ _ _ _ _ (c .before .before .before .before .before .before .before .before .before .before .before .before .before .before .before .before .before .before .before .before .before .before .before .before .before .before .before .before .before .store .ensures .fit) (c .before .before .before .before .before .before .before .before .before .before .before .before .before .before .before .before .before .before .before .before .before .before .before .before .before .before .before .before .before .before .before .before .before .before .before .before .before .before .before .pre .0 .1 .1 .1 .1) _ _ (c .before .before .before .before .before .before .before .before .before .before .before .before .before .before .before .before .before .before .before .before .before .before .before .before .queue-at .ensures) (c .before .before .before .before .before .before .before .before .before .before .before .before .before .before .before .before .before .before .before .before .before .before .before .places-at .ensures) (c .before .before .before .before .before .before .before .before .before .before .before .before .before .before .before .before .before .before .before .before .before .insert .ensures) (c .before .before .before .before .before .before .before .before .before .before .before .before .before .before .before .before .before .before .before .before .before .before .before .before .before .before .before .before .before .before .before .before .before .before .before .before .before .before .before .pre .1) (c .before .before .before .before .before .before .before .before .before .before .before .before .before .before .before .before .before .before .before .before .before .before .before .before .before .before .before .before .before .store .ensures) (c .before .before .before .before .before .before .before .before .before .before .before .before .before .before .before .before .seek .ensures .0))
-    (skipped _ _ _ _ _ _ _ _ _ _ (c .before .before .before .before .before .before .before .before .before .before .before .before .before .before .before .before .seek .ensures .0 .seeking) (c .before .before .before .before .before .before .before .before .before .before .before .least .ensures) (c .before .before .before .before .before .least2 .ensures) near (c .before .before .before .before .before .before .before .before .before .before .before .before .before .before .before .before .seek .ensures .1 .1) _ (c .before .before .before .before .before .before .before .before .drain .ensures) (c .before .before .drain2 .ensures)))
+    let entry = c .before .before .before .before .before .before .before .before .before .before .before .before .before .before .before .before .before .before .before .before .before .before .before .before .before .before .before .before .before .before .before .before .before .before .before .before .before in
+    let store = c .before .before .before .before .before .before .before .before .before .before .before .before .before .before .before .before .before .before .before .before .before .before .before .before .before .before .before .before .before .store in
+    let queue-at = c .before .before .before .before .before .before .before .before .before .before .before .before .before .before .before .before .before .before .before .before .before .before .before .before .queue-at in
+    let places-at = c .before .before .before .before .before .before .before .before .before .before .before .before .before .before .before .before .before .before .before .before .before .before .before .places-at in
+    let insert = c .before .before .before .before .before .before .before .before .before .before .before .before .before .before .before .before .before .before .before .before .before .insert in
+    let seek = c .before .before .before .before .before .before .before .before .before .before .before .before .before .before .before .before .seek in
+    let back = reverses-after _ _ _ _ _ _ (store .ensures .fit) (entry .pre .1) _ _ (queue-at .ensures) (places-at .ensures) (insert .ensures) (entry .pre .0 .reverses)
+    (store .ensures) (seek .ensures .0) in
+    let near = searched-near _ _ _ _ _ _ (store .ensures .fit) (entry .pre .1) _ _ (queue-at .ensures) (places-at .ensures) (insert .ensures) (boardOf (entry .args .rows .now)
+    (entry .args .marks .now) (entry .args .gases)) _ _ _ _ (points-nowhere _ _ _ _ _ _ (entry .pre .0 .fit) (entry .pre .1) (store .ensures)) (seek .ensures .0) in
+    served _ _ _ _ _ _ (store .ensures .fit) (entry .pre .1) _ _ (queue-at .ensures) (places-at .ensures) (insert .ensures) (boardOf (entry .args .rows .now) (entry .args .marks .now)
+    (entry .args .gases)) (entry .pre .0 .sized .turfs) _ _ _ _ _ (c .before .before .before .before .before .before .before .before .before .before .before .before .before .before .before .before .before .before .before .before .before .before .before .before .before .before .before .before .before .before .before .before .load .ensures)
+    (store .ensures) (seek .ensures .0)
+    (drained-by-edges _ _ _ _ (boardOf (entry .args .rows .now) (entry .args .marks .now) (entry .args .gases)) (entry .pre .0 .sized .linked) (entry .pre .0 .sized .links)
+    (seek .ensures .0 .seeking) (seek .ensures .1 .0) back
+    (skipped _ _ _ _ _ _ _ _ _ _ (seek .ensures .0 .seeking) (c .before .before .before .before .before .before .before .before .before .before .before .least .ensures)
+    (c .before .before .before .before .before .least2 .ensures) near (seek .ensures .1 .1) _ (c .before .before .before .before .before .before .before .before .drain .ensures)
+    (c .before .before .drain2 .ensures)))
 
 pub serve-spec : {M : Type 1} → statement M
 serve-spec =
@@ -60,6 +138,7 @@ serve-spec =
     store-requires
     queue-at-requires
     places-at-requires
+    cast-insert
     insert-requires
     seek-requires
     least-requires

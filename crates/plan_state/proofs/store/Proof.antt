@@ -6,32 +6,32 @@ use borrow.Author.Needs.{needs}
 use Rattle.plan_state.proofs.store.Statement.{statement}
 use Rattle.plan_state.proofs.store.Tie as tie
 
-add-reals : tie.Need-add-reals
-add-reals c = search needs
+add-floats : tie.Need-add-floats
+add-floats c = search needs
 
-add-reals-2 : tie.Need-add-reals-2
-add-reals-2 c = search needs
+add-floats-2 : tie.Need-add-floats-2
+add-floats-2 c = search needs
 
-mul-reals : tie.Need-mul-reals
-mul-reals c = search needs
+mul-floats : tie.Need-mul-floats
+mul-floats c = search needs
 
-slice-write-reals : tie.Need-slice-write-reals
-slice-write-reals c = search needs
+slice-write-floats : tie.Need-slice-write-floats
+slice-write-floats c = search needs
 
-add-reals-3 : tie.Need-add-reals-3
-add-reals-3 c = search needs
+add-floats-3 : tie.Need-add-floats-3
+add-floats-3 c = search needs
 
-add-reals-4 : tie.Need-add-reals-4
-add-reals-4 c = search needs
+add-floats-4 : tie.Need-add-floats-4
+add-floats-4 c = search needs
 
-add-reals-5 : tie.Need-add-reals-5
-add-reals-5 c = search needs
+add-floats-5 : tie.Need-add-floats-5
+add-floats-5 c = search needs
 
-mul-reals-2 : tie.Need-mul-reals-2
-mul-reals-2 c = search needs
+mul-floats-2 : tie.Need-mul-floats-2
+mul-floats-2 c = search needs
 
-slice-write-reals-2 : tie.Need-slice-write-reals-2
-slice-write-reals-2 c = simp length-set (omega arith)
+slice-write-floats-2 : tie.Need-slice-write-floats-2
+slice-write-floats-2 c = simp length-set (omega arith)
 
 add-words : tie.Need-add-words
 add-words c = search needs
@@ -79,15 +79,15 @@ pub store-spec : {M : Type 1} → statement M
 store-spec =
     tie.close
     (tie.spec
-    add-reals
-    add-reals-2
-    mul-reals
-    slice-write-reals
-    add-reals-3
-    add-reals-4
-    add-reals-5
-    mul-reals-2
-    slice-write-reals-2
+    add-floats
+    add-floats-2
+    mul-floats
+    slice-write-floats
+    add-floats-3
+    add-floats-4
+    add-floats-5
+    mul-floats-2
+    slice-write-floats-2
     add-words
     add-words-2
     add-words-3

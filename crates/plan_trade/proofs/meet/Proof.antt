@@ -6,7 +6,7 @@ use Rattle.plan_trade.proofs.meet.Statement.{statement}
 use Rattle.plan_trade.proofs.meet.Tie as tie
 use Rattle.plan_trade.proofs.point.Reads as point-reads
 use Rattle.plan_trade.proofs.trade.Reads as trade-reads
-use Rattle.plan_trade.proofs.wants.Reads as wants-reads
+use Rattle.plan_tests.proofs.wants.Reads as wants-reads
 
 add-point : tie.Need-add-point
 add-point c = search needs
@@ -39,7 +39,13 @@ same-length-2 : tie.Need-same-length-2
 same-length-2 c = search needs
 
 returns : tie.Need-returns
-returns c = (met-some _ _ _ _ _ _ (c .before .before .before .before .before .before .before .before .before .before .before .before .before .before .before .before .before .before .before .pre .1 .1 .0) (c .before .before .before .before .before .before .before .before .before .before .before .before .before .before .point .ensures) (c .before .before .before .before .trade .ensures), wanted _ _ (c .before .before .before .before .before .before .before .before .before .before .before .before .before .before .before .before .before .before .before .args .g) (c .before .before .before .before .before .before .before .before .before .before .before .before .before .before .before .before .before .before .before .args .r) _ (c .before .before .before .before .before .before .before .before .before .before .before .before .before .before .before .before .before .before .before .args .side) (c .before .before .before .before .before .before .before .before .before .before .before .before .before .before .before .before .before .before .before .pre .1 .1 .0) (c .before .before .before .before .before .before .before .before .before .before .before .before .before .before .point .ensures) (c .before .before .before .before .before .before .before .before .wants .ensures))
+returns c =
+    let entry = c .before .before .before .before .before .before .before .before .before .before .before .before .before .before .before .before .before .before .before in
+    let point = c .before .before .before .before .before .before .before .before .before .before .before .before .before .before .point in (
+      met-some _ _ _ _ _ _ (entry .pre .1 .1 .0) (point .ensures) (c .before .before .before .before .trade .ensures),
+      wanted _ _ (entry .args .g) (entry .args .r) _
+          (entry .args .side) (entry .pre .1 .1 .0) (point .ensures) (c .before .before .before .before .before .before .before .before .wants .ensures),
+    )
 
 same-length-3 : tie.Need-same-length-3
 same-length-3 c = search needs
@@ -48,7 +54,13 @@ same-length-4 : tie.Need-same-length-4
 same-length-4 c = search needs
 
 returns-2 : tie.Need-returns-2
-returns-2 c = (met-none _ _ _ _ _ _ (c .before .before .before .before .before .before .before .before .before .before .before .before .pre .1 .1 .0) (c .before .before .before .before .before .before .before .point .ensures) (sym (c .before .wants .ensures) ∙ c .if1 .left), wanted _ _ (c .before .before .before .before .before .before .before .before .before .before .before .before .args .g) (c .before .before .before .before .before .before .before .before .before .before .before .before .args .r) _ (c .before .before .before .before .before .before .before .before .before .before .before .before .args .side) (c .before .before .before .before .before .before .before .before .before .before .before .before .pre .1 .1 .0) (c .before .before .before .before .before .before .before .point .ensures) (c .before .wants .ensures))
+returns-2 c =
+    let entry = c .before .before .before .before .before .before .before .before .before .before .before .before in
+    let point = c .before .before .before .before .before .before .before .point in (
+      met-none _ _ _ _ _ _ (entry .pre .1 .1 .0) (point .ensures) (sym (c .before .wants .ensures) ∙ c .if1 .left),
+      wanted _ _ (entry .args .g) (entry .args .r) _ (entry .args .side)
+          (entry .pre .1 .1 .0) (point .ensures) (c .before .wants .ensures),
+    )
 
 pub meet-spec : {M : Type 1} → statement M
 meet-spec =

@@ -19,20 +19,20 @@ mul-words c = search needs
 slice-write-words : tie.Need-slice-write-words
 slice-write-words c = search needs
 
-add-reals : tie.Need-add-reals
-add-reals c = search needs
+add-floats : tie.Need-add-floats
+add-floats c = search needs
 
-add-reals-2 : tie.Need-add-reals-2
-add-reals-2 c = search needs
+add-floats-2 : tie.Need-add-floats-2
+add-floats-2 c = search needs
 
-add-reals-3 : tie.Need-add-reals-3
-add-reals-3 c = search needs
+add-floats-3 : tie.Need-add-floats-3
+add-floats-3 c = search needs
 
-mul-reals : tie.Need-mul-reals
-mul-reals c = search needs
+mul-floats : tie.Need-mul-floats
+mul-floats c = search needs
 
-slice-write-reals : tie.Need-slice-write-reals
-slice-write-reals c = search needs
+slice-write-floats : tie.Need-slice-write-floats
+slice-write-floats c = search needs
 
 same-length : tie.Need-same-length
 same-length c = search needs
@@ -52,11 +52,11 @@ point-spec =
     add-words-3
     mul-words
     slice-write-words
-    add-reals
-    add-reals-2
-    add-reals-3
-    mul-reals
-    slice-write-reals
+    add-floats
+    add-floats-2
+    add-floats-3
+    mul-floats
+    slice-write-floats
     same-length
     same-length-2
     returns)

@@ -1,5 +1,5 @@
--- Three steps of the plan, one after the other, over the tables that the plan looks at. Assumes nothing.
-use native.Mathlib.Omega.{arith}
+-- Three steps of the plan, one after the other. Assumes nothing.
+use Rattle.turfs.specs.Tables.{boardOf}
 use Rattle.plan_state.proofs.Stores.{does-frame}
 use Rattle.plan_state.proofs.Nodes.{nodes-kept, reverses-kept}
 use Rattle.plan_zone.proofs.Whole.{processed}
@@ -7,20 +7,34 @@ use borrow.Author.Needs.{needs}
 use Rattle.plan_zone.proofs.process_zone.Statement.{statement}
 use Rattle.plan_zone.proofs.process_zone.Tie as tie
 
-cast-size : tie.Need-cast-size
-cast-size c = search needs
-
-int-to-float-average : tie.Need-int-to-float-average
-int-to-float-average c = search needs
-
 all-deltas-requires : tie.Need-all-deltas-requires
 all-deltas-requires c κs = search needs
 
 fast-pass-requires : tie.Need-fast-pass-requires
-fast-pass-requires c κs = ((c .before .before .before .before .before .before .before .before .before .before .before .before .before .before .before .before .pre .0 .1 .0, (c .before .before .before .before .before .before .before .before .before .before .before .before .before .before .before .before .pre .0 .1 .1 .0, (c .before .before .before .before .before .before .all-deltas .ensures .fit, c .before .before .before .before .before .before .before .before .before .before .before .before .before .before .before .before .pre .0 .1 .1 .1 .1))), ((reverses-kept (c .before .before .before .before .before .before .before .before .before .before .before .before .before .before .before .before .pre .1 .0) (does-frame (c .before .before .before .before .before .before .all-deltas .ensures))), ((nodes-kept (c .before .before .before .before .before .before .before .before .before .before .before .before .before .before .before .before .pre .1 .1 .0) (does-frame (c .before .before .before .before .before .before .all-deltas .ensures)) (c .before .before .before .before .before .before .all-deltas .kept .1 .1 .1 .1 .1 .1 .1 .1 .0)), (c .before .before .before .before .before .before .before .before .before .before .before .before .before .before .before .before .pre .1 .1 .1 .0, omega (arith, c .before .before .before .before .before .before .before .before .before .before .before .before .before .before .before .before .pre .1 .1 .1 .1, c .before .before .before .before .before .before .before .before .before .before .before .before .before .before .before .before .pre .0 .1 .1 .1 .0 .turfs)))))
+fast-pass-requires c κs =
+    let entry = c .before .before .before .before .before .before .before .before .before .before .before .before in (
+      record {
+        sized = entry .pre .1 .0 .sized;
+        fit = c .before .before .before .before .before .before .all-deltas .ensures .fit;
+        zone = entry .pre .1 .0 .zone;
+        reverses = reverses-kept (entry .pre .1 .0 .reverses) (does-frame (c .before .before .before .before .before .before .all-deltas .ensures));
+      },
+      nodes-kept (entry .pre .1 .1) (does-frame (c .before .before .before .before .before .before .all-deltas .ensures)) (c .before .before .before .before .before .before .all-deltas .kept .1 .1 .1 .1 .1 .0),
+    )
 
 share-out-requires : tie.Need-share-out-requires
-share-out-requires c κs = ((c .before .before .before .before .before .before .before .before .before .before .before .before .before .before .before .before .before .before .before .before .before .before .before .pre .0 .1 .0, (c .before .before .before .before .before .before .before .before .before .before .before .before .before .before .before .before .before .before .before .before .before .before .before .pre .0 .1 .1 .0, (c .before .before .before .before .before .before .fast-pass .ensures .fit, c .before .before .before .before .before .before .before .before .before .before .before .before .before .before .before .before .before .before .before .before .before .before .before .pre .0 .1 .1 .1 .1))), (reverses-kept (reverses-kept (c .before .before .before .before .before .before .before .before .before .before .before .before .before .before .before .before .before .before .before .before .before .before .before .pre .1 .0) (does-frame (c .before .before .before .before .before .before .before .before .before .before .before .before .before .all-deltas .ensures))) (does-frame (c .before .before .before .before .before .before .fast-pass .ensures)), (nodes-kept (nodes-kept (c .before .before .before .before .before .before .before .before .before .before .before .before .before .before .before .before .before .before .before .before .before .before .before .pre .1 .1 .0) (does-frame (c .before .before .before .before .before .before .before .before .before .before .before .before .before .all-deltas .ensures)) (c .before .before .before .before .before .before .before .before .before .before .before .before .before .all-deltas .kept .1 .1 .1 .1 .1 .1 .1 .1 .0)) (does-frame (c .before .before .before .before .before .before .fast-pass .ensures)) (c .before .before .before .before .before .before .fast-pass .kept .1 .1 .1 .1 .1 .1 .1 .0), c .before .before .before .before .before .before .before .before .before .before .before .before .before .before .before .before .before .before .before .before .before .before .before .pre .1 .1 .1 .1)))
+share-out-requires c κs =
+    let entry = c .before .before .before .before .before .before .before .before .before .before .before .before .before .before .before .before .before .before .before in
+    let all-deltas = c .before .before .before .before .before .before .before .before .before .before .before .before .before .all-deltas in
+    let fast-pass = c .before .before .before .before .before .before .fast-pass in (
+      record {
+        sized = entry .pre .1 .0 .sized;
+        fit = fast-pass .ensures .fit;
+        zone = entry .pre .1 .0 .zone;
+        reverses = reverses-kept (reverses-kept (entry .pre .1 .0 .reverses) (does-frame (all-deltas .ensures))) (does-frame (fast-pass .ensures));
+      },
+      nodes-kept (nodes-kept (entry .pre .1 .1) (does-frame (all-deltas .ensures)) (all-deltas .kept .1 .1 .1 .1 .1 .0)) (does-frame (fast-pass .ensures)) (fast-pass .kept .1 .1 .1 .1 .0),
+    )
 
 same-length : tie.Need-same-length
 same-length c = search needs
@@ -29,14 +43,16 @@ same-length-2 : tie.Need-same-length-2
 same-length-2 c = search needs
 
 returns : tie.Need-returns
-returns c = processed _ _ (c .before .before .before .before .before .before .before .before .before .before .before .before .before .before .before .before .before .before .before .before .before .before .before .before .before .before .before .before .args .first) (c .before .before .before .before .before .before .before .before .before .before .before .before .before .before .before .before .before .before .before .before .before .before .before .before .before .before .before .before .args .count) _ _ _ _ _ _ _ (c .before .before .before .before .before .before .before .before .before .before .before .before .before .before .before .before .before .before .before .before .before .before .before .before .before .before .before .before .pre .1 .1 .0) (c .before .before .before .before .before .before .before .before .before .before .before .before .before .before .before .before .before .before .all-deltas .ensures) (c .before .before .before .before .before .before .before .before .before .before .before .fast-pass .ensures) (c .before .before .before .before .share-out .ensures)
+returns c =
+    let entry = c .before .before .before .before .before .before .before .before .before .before .before .before .before .before .before .before .before .before .before .before .before .before .before .before in
+    processed (boardOf (entry .args .rows .now) (entry .args .marks .now) (entry .args .gases)) _ _ (entry .args .zone .first) (entry .args .zone .count) _ _ _ (entry .pre .1 .1)
+    (c .before .before .before .before .before .before .before .before .before .before .before .before .before .before .before .before .before .before .all-deltas .ensures)
+    (c .before .before .before .before .before .before .before .before .before .before .before .fast-pass .ensures) (c .before .before .before .before .share-out .ensures)
 
 pub process-zone-spec : {M : Type 1} → statement M
 process-zone-spec =
     tie.close
     (tie.spec
-    cast-size
-    int-to-float-average
     all-deltas-requires
     fast-pass-requires
     share-out-requires

@@ -1,4 +1,5 @@
 -- Who doesn't give takes, so one count decides the side. Assumes nothing.
+use Rattle.turfs.specs.Tables.{boardOf}
 use Rattle.plan_state.proofs.Nodes.{reverses-kept}
 use Rattle.plan_zone.proofs.Counts.{givers-le}
 use Rattle.plan_zone.proofs.Lists.{chosen-below, shared-out}
@@ -10,7 +11,7 @@ count-givers-requires : tie.Need-count-givers-requires
 count-givers-requires c κs = search needs
 
 sub-side-of : tie.Need-sub-side-of
-sub-side-of c = givers-le _ (c .before .before .before .before .before .before .before .pre .1 .1 .0) (c .count-givers .ensures)
+sub-side-of c = givers-le _ (c .before .before .before .before .before .pre .1) (c .count-givers .ensures)
 
 side-of-requires : tie.Need-side-of-requires
 side-of-requires c κs = search needs
@@ -19,7 +20,16 @@ gather-requires : tie.Need-gather-requires
 gather-requires c κs = search needs
 
 serve-all-requires : tie.Need-serve-all-requires
-serve-all-requires c κs = ((c .before .before .before .before .before .before .before .before .before .before .before .before .before .before .before .pre .0 .0, (c .before .before .before .before .before .before .before .before .before .before .before .before .before .before .before .pre .0 .1 .0, (c .before .before .before .before .gather .ensures .fit, c .before .before .before .before .before .before .before .before .before .before .before .before .before .before .before .pre .0 .1 .1 .1))), (reverses-kept (c .before .before .before .before .before .before .before .before .before .before .before .before .before .before .before .pre .1 .0) (c .before .before .before .before .gather .ensures .frame), (c .before .before .before .before .gather .ensures .few, chosen-below _ _ (c .before .before .before .before .before .before .before .before .before .before .before .before .before .before .before .pre .1 .1 .0) (c .before .before .before .before .gather .ensures))))
+serve-all-requires c κs =
+    let entry = c .before .before .before .before .before .before .before .before .before .before .before .before .before in (
+      record {
+        sized = entry .pre .0 .sized;
+        fit = c .before .before .before .before .gather .ensures .fit;
+        zone = entry .pre .0 .zone;
+        reverses = reverses-kept (entry .pre .0 .reverses) (c .before .before .before .before .gather .ensures .frame);
+      },
+      (c .before .before .before .before .gather .ensures .few, chosen-below _ _ (entry .pre .1) (c .before .before .before .before .gather .ensures)),
+    )
 
 same-length : tie.Need-same-length
 same-length c = search needs
@@ -28,7 +38,11 @@ same-length-2 : tie.Need-same-length-2
 same-length-2 c = search needs
 
 returns : tie.Need-returns
-returns c = shared-out _ _ _ _ _ (c .before .before .before .before .before .before .before .before .before .before .before .before .before .before .before .before .before .before .before .before .pre .1 .1 .0) (c .before .before .before .before .before .before .before .before .before .before .before .before .before .count-givers .ensures) (c .before .before .before .before .before .before .before .before .before .before .before .before .side-of .ensures) (c .before .before .before .before .before .before .before .before .before .gather .ensures) (c .before .before .before .before .serve-all .ensures)
+returns c =
+    let entry = c .before .before .before .before .before .before .before .before .before .before .before .before .before .before .before .before .before .before in
+    shared-out (boardOf (entry .args .rows .now) (entry .args .marks .now) (entry .args .gases)) _ _ _ _ (entry .pre .1) (c .before .before .before .before .before .before .before .before .before .before .before .before .before .count-givers .ensures)
+    (c .before .before .before .before .before .before .before .before .before .before .before .before .side-of .ensures) (c .before .before .before .before .before .before .before .before .before .gather .ensures)
+    (c .before .before .before .before .serve-all .ensures)
 
 pub share-out-spec : {M : Type 1} → statement M
 share-out-spec =

@@ -10,73 +10,125 @@ use Rattle.reverse_links.proofs.pair.Statement.{statement}
 use Rattle.reverse_links.proofs.pair.Tie as tie
 
 add-if1 : tie.Need-add-if1
-add-if1 c = omega (arith, link-below (c .before .before .before .pre .0 .0) _ _ (c .before .before .before .pre .1 .0 .0) (c .before .before .before .pre .1 .0 .1 .0), c .before .before .before .pre .0 .1)
+add-if1 c = omega (arith, link-below (c .before .before .before .pre .0 .linked) _ _ (c .before .before .before .pre .1 .0 .row) (c .before .before .before .pre .1 .0 .link), c .before .before .before .pre .0)
 
 mul-if1 : tie.Need-mul-if1
-mul-if1 c = omega (arith, link-below (c .before .before .before .pre .0 .0) _ _ (c .before .before .before .pre .1 .0 .0) (c .before .before .before .pre .1 .0 .1 .0), c .before .before .before .pre .0 .1)
+mul-if1 c = omega (arith, link-below (c .before .before .before .pre .0 .linked) _ _ (c .before .before .before .pre .1 .0 .row) (c .before .before .before .pre .1 .0 .link), c .before .before .before .pre .0)
 
 slice-read-if1 : tie.Need-slice-read-if1
-slice-read-if1 c = omega (arith, link-below (c .before .before .before .before .pre .0 .0) _ _ (c .before .before .before .before .pre .1 .0 .0) (c .before .before .before .before .pre .1 .0 .1 .0), c .before .before .before .before .pre .0 .1)
+slice-read-if1 c = omega (arith, link-below (c .before .before .before .before .pre .0 .linked) _ _ (c .before .before .before .before .pre .1 .0 .row) (c .before .before .before .before .pre .1 .0 .link), c .before .before .before .before .pre .0)
 
 returns : tie.Need-returns
-returns c = (but-none, paired-same (c .before .before .before .before .before .pre .0 .0) _ _ _ _ (c .before .before .before .before .before .pre .1 .0 .0) (c .before .before .before .before .before .pre .1 .0 .1 .0) (λ s. c .before .before .before .before .before .pre .1 .1 .right _ _ (c .before .before .before .before .before .pre .1 .0 .0) (c .before .before .before .before .before .pre .1 .0 .1 .0) (c .if1 .taken)) (c .before .before .before .before .before .pre .1 .1))
+returns c =
+    let entry = c .before .before .before .before .before in (
+      but-none,
+      paired-same (entry .pre .0 .linked) _ _ _ _ (entry .pre .1 .0 .row) (entry .pre .1 .0 .link) (λ s. entry .pre .1 .1 .right _ _ (entry .pre .1 .0 .row)
+          (entry .pre .1 .0 .link) (c .if1 .taken)) (entry .pre .1 .1),
+    )
 
 mul-a : tie.Need-mul-a
-mul-a c = omega (arith, link-below (c .before .before .before .before .before .pre .0 .0) _ _ (c .before .before .before .before .before .pre .1 .0 .0) (c .before .before .before .before .before .pre .1 .0 .1 .0), c .before .before .before .before .before .pre .0 .1)
+mul-a c = omega (arith, link-below (c .before .before .before .before .before .pre .0 .linked) _ _ (c .before .before .before .before .before .pre .1 .0 .row) (c .before .before .before .before .before .pre .1 .0 .link), c .before .before .before .before .before .pre .0)
 
 shared-slice-read-a : tie.Need-shared-slice-read-a
-shared-slice-read-a c = link-below (c .before .before .before .before .before .before .pre .0 .0) _ _ (c .before .before .before .before .before .before .pre .1 .0 .0) (c .before .before .before .before .before .before .pre .1 .0 .1 .0)
+shared-slice-read-a c = link-below (c .before .before .before .before .before .before .pre .0 .linked) _ _ (c .before .before .before .before .before .before .pre .1 .0 .row) (c .before .before .before .before .before .before .pre .1 .0 .link)
 
 cast-a : tie.Need-cast-a
-cast-a c = omega (arith, end-below (c .before .before .before .before .before .before .pre .0 .0) _ _ (c .before .before .before .before .before .before .pre .1 .0 .0) (c .before .before .before .before .before .before .pre .1 .0 .1 .0), c .before .before .before .before .before .before .pre .0 .1)
+cast-a c = omega (arith, end-below (c .before .before .before .before .before .before .pre .0 .linked) _ _ (c .before .before .before .before .before .before .pre .1 .0 .row) (c .before .before .before .before .before .before .pre .1 .0 .link), c .before .before .before .before .before .before .pre .0)
 
 mul-from : tie.Need-mul-from
-mul-from c = omega (arith, end-below (c .before .before .before .before .before .before .pre .0 .0) _ _ (c .before .before .before .before .before .before .pre .1 .0 .0) (c .before .before .before .before .before .before .pre .1 .0 .1 .0), c .before .before .before .before .before .before .pre .0 .1)
+mul-from c = omega (arith, end-below (c .before .before .before .before .before .before .pre .0 .linked) _ _ (c .before .before .before .before .before .before .pre .1 .0 .row) (c .before .before .before .before .before .before .pre .1 .0 .link), c .before .before .before .before .before .before .pre .0)
 
 shared-slice-read-from : tie.Need-shared-slice-read-from
-shared-slice-read-from c = omega (arith, end-below (c .before .before .before .before .before .before .before .pre .0 .0) _ _ (c .before .before .before .before .before .before .before .pre .1 .0 .0) (c .before .before .before .before .before .before .before .pre .1 .0 .1 .0), c .before .before .before .before .before .before .before .pre .0 .0 .starts-n)
+shared-slice-read-from c = omega (arith, end-below (c .before .before .before .before .before .before .before .pre .0 .linked) _ _ (c .before .before .before .before .before .before .before .pre .1 .0 .row) (c .before .before .before .before .before .before .before .pre .1 .0 .link), c .before .before .before .before .before .before .before .pre .0 .linked .starts-n)
 
 cast-from : tie.Need-cast-from
-cast-from c = omega (arith, c .before .before .before .before .before .before .before .pre .0 .0 .rise (getD (c .before .before .before .before .before .before .before .args .neighbours .now) (c .before .before .before .before .before .before .before .args .k) 0) (end-below (c .before .before .before .before .before .before .before .pre .0 .0) _ _ (c .before .before .before .before .before .before .before .pre .1 .0 .0) (c .before .before .before .before .before .before .before .pre .1 .0 .1 .0)), c .before .before .before .before .before .before .before .pre .0 .0 .within (getD (c .before .before .before .before .before .before .before .args .neighbours .now) (c .before .before .before .before .before .before .before .args .k) 0) (end-below (c .before .before .before .before .before .before .before .pre .0 .0) _ _ (c .before .before .before .before .before .before .before .pre .1 .0 .0) (c .before .before .before .before .before .before .before .pre .1 .0 .1 .0)), c .before .before .before .before .before .before .before .pre .0 .1)
+cast-from c =
+    let entry = c .before .before .before .before .before .before .before in
+    omega (
+      arith,
+      entry .pre .0 .linked .rise (getD (entry .args .neighbours .now) (entry .args .k) 0) (end-below (entry .pre .0 .linked) _ _ (entry .pre .1 .0 .row)
+          (entry .pre .1 .0 .link)),
+      entry .pre .0 .linked .within (getD (entry .args .neighbours .now) (entry .args .k) 0) (end-below (entry .pre .0 .linked) _ _ (entry .pre .1 .0 .row)
+          (entry .pre .1 .0 .link)),
+      entry .pre .0,
+    )
 
 add-to : tie.Need-add-to
-add-to c = omega (arith, end-below (c .before .before .before .before .before .before .before .pre .0 .0) _ _ (c .before .before .before .before .before .before .before .pre .1 .0 .0) (c .before .before .before .before .before .before .before .pre .1 .0 .1 .0), c .before .before .before .before .before .before .before .pre .0 .1)
+add-to c = omega (arith, end-below (c .before .before .before .before .before .before .before .pre .0 .linked) _ _ (c .before .before .before .before .before .before .before .pre .1 .0 .row) (c .before .before .before .before .before .before .before .pre .1 .0 .link), c .before .before .before .before .before .before .before .pre .0)
 
 mul-to : tie.Need-mul-to
-mul-to c = omega (arith, end-below (c .before .before .before .before .before .before .before .pre .0 .0) _ _ (c .before .before .before .before .before .before .before .pre .1 .0 .0) (c .before .before .before .before .before .before .before .pre .1 .0 .1 .0), c .before .before .before .before .before .before .before .pre .0 .1)
+mul-to c = omega (arith, end-below (c .before .before .before .before .before .before .before .pre .0 .linked) _ _ (c .before .before .before .before .before .before .before .pre .1 .0 .row) (c .before .before .before .before .before .before .before .pre .1 .0 .link), c .before .before .before .before .before .before .before .pre .0)
 
 shared-slice-read-to : tie.Need-shared-slice-read-to
-shared-slice-read-to c = omega (arith, end-below (c .before .before .before .before .before .before .before .before .pre .0 .0) _ _ (c .before .before .before .before .before .before .before .before .pre .1 .0 .0) (c .before .before .before .before .before .before .before .before .pre .1 .0 .1 .0), c .before .before .before .before .before .before .before .before .pre .0 .0 .starts-n)
+shared-slice-read-to c = omega (arith, end-below (c .before .before .before .before .before .before .before .before .pre .0 .linked) _ _ (c .before .before .before .before .before .before .before .before .pre .1 .0 .row) (c .before .before .before .before .before .before .before .before .pre .1 .0 .link), c .before .before .before .before .before .before .before .before .pre .0 .linked .starts-n)
 
 cast-to : tie.Need-cast-to
-cast-to c = omega (arith, c .before .before .before .before .before .before .before .before .pre .0 .0 .within (getD (c .before .before .before .before .before .before .before .before .args .neighbours .now) (c .before .before .before .before .before .before .before .before .args .k) 0) (end-below (c .before .before .before .before .before .before .before .before .pre .0 .0) _ _ (c .before .before .before .before .before .before .before .before .pre .1 .0 .0) (c .before .before .before .before .before .before .before .before .pre .1 .0 .1 .0)), c .before .before .before .before .before .before .before .before .pre .0 .1)
+cast-to c =
+    let entry = c .before .before .before .before .before .before .before .before in
+    omega (
+      arith,
+      entry .pre .0 .linked .within (getD (entry .args .neighbours .now) (entry .args .k) 0) (end-below (entry .pre .0 .linked) _ _ (entry .pre .1 .0 .row)
+          (entry .pre .1 .0 .link)),
+      entry .pre .0,
+    )
 
 sub-if2 : tie.Need-sub-if2
-sub-if2 c = c .before .before .before .before .before .before .before .before .pre .0 .0 .rise (getD (c .before .before .before .before .before .before .before .before .args .neighbours .now) (c .before .before .before .before .before .before .before .before .args .k) 0) (end-below (c .before .before .before .before .before .before .before .before .pre .0 .0) _ _ (c .before .before .before .before .before .before .before .before .pre .1 .0 .0) (c .before .before .before .before .before .before .before .before .pre .1 .0 .1 .0))
+sub-if2 c =
+    let entry = c .before .before .before .before .before .before .before .before in
+    entry .pre .0 .linked .rise (getD (entry .args .neighbours .now) (entry .args .k) 0) (end-below (entry .pre .0 .linked) _ _ (entry .pre .1 .0 .row) (entry .pre .1 .0 .link))
 
 returns-2 : tie.Need-returns-2
-returns-2 c = (but-none, paired-same (c .before .before .before .before .before .before .before .before .before .pre .0 .0) _ _ _ _ (c .before .before .before .before .before .before .before .before .before .pre .1 .0 .0) (c .before .before .before .before .before .before .before .before .before .pre .1 .0 .1 .0) (λ s. absurd (omega (arith, s, c .if2 .taken, c .before .before .before .before .before .before .before .before .before .pre .1 .0 .1 .1))) (c .before .before .before .before .before .before .before .before .before .pre .1 .1))
+returns-2 c =
+    let entry = c .before .before .before .before .before .before .before .before .before in (
+      but-none,
+      paired-same (entry .pre .0 .linked) _ _ _ _ (entry .pre .1 .0 .row) (entry .pre .1 .0 .link) (λ s. absurd (omega (arith, s, c .if2 .taken, entry .pre .1 .0 .links)))
+          (entry .pre .1 .1),
+    )
 
 look-back-requires : tie.Need-look-back-requires
-look-back-requires c κs = (c .before .before .before .before .before .before .before .before .before .pre .0 .0 .within (getD (c .before .before .before .before .before .before .before .before .before .args .neighbours .now) (c .before .before .before .before .before .before .before .before .before .args .k) 0) (end-below (c .before .before .before .before .before .before .before .before .before .pre .0 .0) _ _ (c .before .before .before .before .before .before .before .before .before .pre .1 .0 .0) (c .before .before .before .before .before .before .before .before .before .pre .1 .0 .1 .0)), omega (arith, c .before .before .before .before .before .before .before .before .before .pre .0 .0 .within (getD (c .before .before .before .before .before .before .before .before .before .args .neighbours .now) (c .before .before .before .before .before .before .before .before .before .args .k) 0) (end-below (c .before .before .before .before .before .before .before .before .before .pre .0 .0) _ _ (c .before .before .before .before .before .before .before .before .before .pre .1 .0 .0) (c .before .before .before .before .before .before .before .before .before .pre .1 .0 .1 .0)), c .before .before .before .before .before .before .before .before .before .pre .0 .1))
+look-back-requires c κs =
+    let entry = c .before .before .before .before .before .before .before .before .before in (
+      entry .pre .0 .linked .within (getD (entry .args .neighbours .now) (entry .args .k) 0) (end-below (entry .pre .0 .linked) _ _ (entry .pre .1 .0 .row) (entry .pre .1 .0 .link)),
+      omega (
+        arith,
+        entry .pre .0 .linked .within (getD (entry .args .neighbours .now) (entry .args .k) 0) (end-below (entry .pre .0 .linked) _ _ (entry .pre .1 .0 .row)
+            (entry .pre .1 .0 .link)),
+        entry .pre .0,
+      ),
+    )
 
 returns-3 : tie.Need-returns-3
-returns-3 c = (but-none, paired-same (c .before .before .before .before .before .before .before .before .before .before .before .pre .0 .0) _ _ _ _ (c .before .before .before .before .before .before .before .before .before .before .before .pre .1 .0 .0) (c .before .before .before .before .before .before .before .before .before .before .before .pre .1 .0 .1 .0) (λ s. c .before .before .before .before .before .before .if1 .left ∙ sym (c .if3 .taken) ∙ c .before .look-back .ensures) (c .before .before .before .before .before .before .before .before .before .before .before .pre .1 .1))
+returns-3 c =
+    let entry = c .before .before .before .before .before .before .before .before .before .before .before in (
+      but-none,
+      paired-same (entry .pre .0 .linked) _ _ _ _ (entry .pre .1 .0 .row) (entry .pre .1 .0 .link) (λ s. c .before .before .before .before .before .before .if1 .left
+          ∙ sym (c .if3 .taken) ∙ c .before .look-back .ensures) (entry .pre .1 .1),
+    )
 
 add-words : tie.Need-add-words
-add-words c = omega (arith, link-below (c .before .before .before .before .before .before .before .before .before .before .before .pre .0 .0) _ _ (c .before .before .before .before .before .before .before .before .before .before .before .pre .1 .0 .0) (c .before .before .before .before .before .before .before .before .before .before .before .pre .1 .0 .1 .0), c .before .before .before .before .before .before .before .before .before .before .before .pre .0 .1)
+add-words c =
+    let entry = c .before .before .before .before .before .before .before .before .before .before .before in
+    omega (arith, link-below (entry .pre .0 .linked) _ _ (entry .pre .1 .0 .row) (entry .pre .1 .0 .link), entry .pre .0)
 
 mul-words : tie.Need-mul-words
-mul-words c = omega (arith, link-below (c .before .before .before .before .before .before .before .before .before .before .before .pre .0 .0) _ _ (c .before .before .before .before .before .before .before .before .before .before .before .pre .1 .0 .0) (c .before .before .before .before .before .before .before .before .before .before .before .pre .1 .0 .1 .0), c .before .before .before .before .before .before .before .before .before .before .before .pre .0 .1)
+mul-words c =
+    let entry = c .before .before .before .before .before .before .before .before .before .before .before in
+    omega (arith, link-below (entry .pre .0 .linked) _ _ (entry .pre .1 .0 .row) (entry .pre .1 .0 .link), entry .pre .0)
 
 slice-write-words : tie.Need-slice-write-words
-slice-write-words c = omega (arith, link-below (c .before .before .before .before .before .before .before .before .before .before .before .pre .0 .0) _ _ (c .before .before .before .before .before .before .before .before .before .before .before .pre .1 .0 .0) (c .before .before .before .before .before .before .before .before .before .before .before .pre .1 .0 .1 .0), c .before .before .before .before .before .before .before .before .before .before .before .pre .0 .1)
+slice-write-words c =
+    let entry = c .before .before .before .before .before .before .before .before .before .before .before in
+    omega (arith, link-below (entry .pre .0 .linked) _ _ (entry .pre .1 .0 .row) (entry .pre .1 .0 .link), entry .pre .0)
 
 cast-words : tie.Need-cast-words
-cast-words c = omega (arith, link-below (c .before .before .before .before .before .before .before .before .before .before .before .pre .0 .0) _ _ (c .before .before .before .before .before .before .before .before .before .before .before .pre .1 .0 .0) (c .before .before .before .before .before .before .before .before .before .before .before .pre .1 .0 .1 .0), c .before .before .before .before .before .before .before .before .before .before .before .pre .0 .1)
+cast-words c =
+    let entry = c .before .before .before .before .before .before .before .before .before .before .before in
+    omega (arith, link-below (entry .pre .0 .linked) _ _ (entry .pre .1 .0 .row) (entry .pre .1 .0 .link), entry .pre .0)
 
 add-words-2 : tie.Need-add-words-2
-add-words-2 c = omega (arith, link-below (c .before .before .before .before .before .before .before .before .before .before .before .pre .0 .0) _ _ (c .before .before .before .before .before .before .before .before .before .before .before .pre .1 .0 .0) (c .before .before .before .before .before .before .before .before .before .before .before .pre .1 .0 .1 .0), c .before .before .before .before .before .before .before .before .before .before .before .pre .0 .1)
+add-words-2 c =
+    let entry = c .before .before .before .before .before .before .before .before .before .before .before in
+    omega (arith, link-below (entry .pre .0 .linked) _ _ (entry .pre .1 .0 .row) (entry .pre .1 .0 .link), entry .pre .0)
 
 cast-words-2 : tie.Need-cast-words-2
 cast-words-2 c = search needs
@@ -91,13 +143,24 @@ mul-words-2 : tie.Need-mul-words-2
 mul-words-2 c = search needs
 
 slice-write-words-2 : tie.Need-slice-write-words-2
-slice-write-words-2 c = omega (arith, back-low (c .before .before .before .before .before .before .before .before .before .before .before .pre .0 .0) _ _ (c .before .look-back .result) (c .before .before .before .before .before .before .before .before .before .before .before .pre .1 .0 .0) (c .before .before .before .before .before .before .before .before .before .before .before .pre .1 .0 .1 .0) (c .before .look-back .ensures), c .if3 .left, c .before .before .before .before .before .before .before .before .before .before .before .pre .0 .1, length-set (c .before .before .before .before .before .before .before .before .before .before .before .args .words .now) (c .before .before .before .before .before .before .before .before .before .before .before .args .e + c .before .before .before .before .before .before .before .before .before .before .before .args .k) (c .before .look-back .result))
+slice-write-words-2 c =
+    let entry = c .before .before .before .before .before .before .before .before .before .before .before in
+    omega (
+      arith,
+      back-low (entry .pre .0 .linked) _ _ (c .before .look-back .result) (entry .pre .1 .0 .row) (entry .pre .1 .0 .link) (c .before .look-back .ensures),
+      c .if3 .left,
+      entry .pre .0,
+      length-set (entry .args .words .now) (entry .args .e + entry .args .k) (c .before .look-back .result),
+    )
 
 same-length : tie.Need-same-length
 same-length c = search needs
 
 returns-4 : tie.Need-returns-4
-returns-4 c = paired-word (c .before .before .before .before .before .before .before .before .before .before .before .pre .0 .0) _ _ _ (c .before .look-back .result) _ (c .before .before .before .before .before .before .before .before .before .before .before .pre .0 .1 .0) (c .before .before .before .before .before .before .before .before .before .before .before .pre .0 .1 .1 .1 .1) (c .before .before .before .before .before .before .before .before .before .before .before .pre .1 .0 .0) (c .before .before .before .before .before .before .before .before .before .before .before .pre .1 .0 .1 .0) (c .if3 .left) (c .before .look-back .ensures) (c .before .before .before .before .before .before .before .before .before .before .before .pre .1 .1)
+returns-4 c =
+    let entry = c .before .before .before .before .before .before .before .before .before .before .before in
+    paired-word (entry .pre .0 .linked) _ _ _ (c .before .look-back .result) _ (entry .pre .0 .all) (entry .pre .0 .room) (entry .pre .1 .0 .row) (entry .pre .1 .0 .link)
+    (c .if3 .left) (c .before .look-back .ensures) (entry .pre .1 .1)
 
 pub pair-spec : {M : Type 1} → statement M
 pair-spec =

@@ -16,40 +16,44 @@ abbrev μ-loop : tie.MeasureT-loop
 μ-loop r starts neighbours n e words₀ from to k₀ words k = getD starts (r + 1) 0 - k
 
 mul-from : tie.Need-mul-from Inv-loop μ-loop
-mul-from c = omega (arith, c .before .before .before .pre .1 .0, c .before .before .before .pre .0 .1)
+mul-from c = omega (arith, c .before .before .before .pre .1 .0, c .before .before .before .pre .0)
 
 shared-slice-read-from : tie.Need-shared-slice-read-from Inv-loop μ-loop
-shared-slice-read-from c = omega (arith, c .before .before .before .before .pre .1 .0, c .before .before .before .before .pre .0 .0 .starts-n)
+shared-slice-read-from c = omega (arith, c .before .before .before .before .pre .1 .0, c .before .before .before .before .pre .0 .linked .starts-n)
 
 cast-from : tie.Need-cast-from Inv-loop μ-loop
-cast-from c = omega (arith, c .before .before .before .before .pre .0 .0 .rise _ (c .before .before .before .before .pre .1 .0), c .before .before .before .before .pre .0 .0 .within _ (c .before .before .before .before .pre .1 .0), c .before .before .before .before .pre .0 .1)
+cast-from c = omega (arith, c .before .before .before .before .pre .0 .linked .rise _ (c .before .before .before .before .pre .1 .0), c .before .before .before .before .pre .0 .linked .within _ (c .before .before .before .before .pre .1 .0), c .before .before .before .before .pre .0)
 
 add-to : tie.Need-add-to Inv-loop μ-loop
-add-to c = omega (arith, c .before .before .before .before .pre .1 .0, c .before .before .before .before .pre .0 .1)
+add-to c = omega (arith, c .before .before .before .before .pre .1 .0, c .before .before .before .before .pre .0)
 
 mul-to : tie.Need-mul-to Inv-loop μ-loop
-mul-to c = omega (arith, c .before .before .before .before .pre .1 .0, c .before .before .before .before .pre .0 .1)
+mul-to c = omega (arith, c .before .before .before .before .pre .1 .0, c .before .before .before .before .pre .0)
 
 shared-slice-read-to : tie.Need-shared-slice-read-to Inv-loop μ-loop
-shared-slice-read-to c = omega (arith, c .before .before .before .before .before .pre .1 .0, c .before .before .before .before .before .pre .0 .0 .starts-n)
+shared-slice-read-to c = omega (arith, c .before .before .before .before .before .pre .1 .0, c .before .before .before .before .before .pre .0 .linked .starts-n)
 
 cast-to : tie.Need-cast-to Inv-loop μ-loop
-cast-to c = omega (arith, c .before .before .before .before .before .pre .0 .0 .within _ (c .before .before .before .before .before .pre .1 .0), c .before .before .before .before .before .pre .0 .1)
+cast-to c = omega (arith, c .before .before .before .before .before .pre .0 .linked .within _ (c .before .before .before .before .before .pre .1 .0), c .before .before .before .before .before .pre .0)
 
 loop-holds : tie.Need-loop-holds Inv-loop μ-loop
-loop-holds c = ((omega arith, c .before .before .before .before .before .pre .0 .0 .rise _ (c .before .before .before .before .before .pre .1 .0)), (but-none, c .before .before .before .before .before .pre .1 .1))
+loop-holds c = ((omega arith, c .before .before .before .before .before .pre .0 .linked .rise _ (c .before .before .before .before .before .pre .1 .0)), (but-none, c .before .before .before .before .before .pre .1 .1))
 
 cast-pair : tie.Need-cast-pair Inv-loop μ-loop
-cast-pair c = omega (arith, c .before .before .before .before .before .before .before .pre .1 .0, c .before .before .before .before .before .before .before .pre .0 .1)
+cast-pair c = omega (arith, c .before .before .before .before .before .before .before .pre .1 .0, c .before .before .before .before .before .before .before .pre .0)
 
 sub-pair : tie.Need-sub-pair Inv-loop μ-loop
-sub-pair c = c .before .before .before .before .before .before .before .pre .0 .0 .rise _ (c .before .before .before .before .before .before .before .pre .1 .0)
+sub-pair c = c .before .before .before .before .before .before .before .pre .0 .linked .rise _ (c .before .before .before .before .before .before .before .pre .1 .0)
 
 pair-requires : tie.Need-pair-requires Inv-loop μ-loop
-pair-requires c κs = ((c .before .before .before .before .before .before .before .before .pre .0 .0, (c .before .before .before .before .before .before .before .before .pre .0 .1 .0, (c .before .before .before .before .before .before .before .before .pre .0 .1 .1 .0, (c .before .before .before .before .before .before .before .before .pre .0 .1 .1 .1 .0, omega (arith, c .before .before .before .before .before .before .before .before .pre .0 .1, c .before .before .loop .inv .1 .0 .len))))), ((c .before .before .before .before .before .before .before .before .pre .1 .0, (record { from = c .before .before .loop .inv .0 .0; to = c .before .loop-test .taken }, refl)), c .before .before .loop .inv .1 .1))
+pair-requires c κs =
+    let entry = c .before .before .before .before .before .before .before .before in (
+      record { linked = entry .pre .0 .linked; all = entry .pre .0 .all; links = entry .pre .0 .links; turfs = entry .pre .0 .turfs; room = omega (arith, entry .pre .0, c .before .before .loop .inv .1 .0 .len) },
+      (record { row = entry .pre .1 .0; link = record { from = c .before .before .loop .inv .0 .0; to = c .before .loop-test .taken }; links = refl }, c .before .before .loop .inv .1 .1),
+    )
 
 add-k : tie.Need-add-k Inv-loop μ-loop
-add-k c = omega (arith, c .before .before .before .before .loop-test .taken, c .before .before .before .before .before .before .before .before .before .before .before .pre .0 .0 .within _ (c .before .before .before .before .before .before .before .before .before .before .before .pre .1 .0), c .before .before .before .before .before .before .before .before .before .before .before .pre .0 .1)
+add-k c = omega (arith, c .before .before .before .before .loop-test .taken, c .before .before .before .before .before .before .before .before .before .before .before .pre .0 .linked .within _ (c .before .before .before .before .before .before .before .before .before .before .before .pre .1 .0), c .before .before .before .before .before .before .before .before .before .before .before .pre .0)
 
 loop-less : tie.Need-loop-less Inv-loop μ-loop
 loop-less c = omega (arith, c .before .before .before .before .loop-test .taken)

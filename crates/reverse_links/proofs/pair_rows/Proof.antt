@@ -16,13 +16,17 @@ abbrev μ-loop : tie.MeasureT-loop
 μ-loop starts neighbours n e words₀ r₀ words r = n - r
 
 loop-holds : tie.Need-loop-holds Inv-loop μ-loop
-loop-holds c = (omega arith, (but-none, paired-upto (sym (c .before .before .before .pre .0 .0 .zero)) (c .before .before .before .pre .1)))
+loop-holds c = (omega arith, (but-none, paired-upto (sym (c .before .before .before .pre .0 .linked .zero)) (c .before .before .before .pre .1)))
 
 pair-row-requires : tie.Need-pair-row-requires Inv-loop μ-loop
-pair-row-requires c κs = ((c .before .before .before .before .before .before .pre .0 .0, (c .before .before .before .before .before .before .pre .0 .1 .0, (c .before .before .before .before .before .before .pre .0 .1 .1 .0, (c .before .before .before .before .before .before .pre .0 .1 .1 .1 .0, omega (arith, c .before .before .before .before .before .before .pre .0 .1, c .before .before .loop .inv .1 .0 .len))))), (c .before .loop-test .taken, c .before .before .loop .inv .1 .1))
+pair-row-requires c κs =
+    let entry = c .before .before .before .before .before .before in (
+      record { linked = entry .pre .0 .linked; all = entry .pre .0 .all; links = entry .pre .0 .links; turfs = entry .pre .0 .turfs; room = omega (arith, entry .pre .0, c .before .before .loop .inv .1 .0 .len) },
+      (c .before .loop-test .taken, c .before .before .loop .inv .1 .1),
+    )
 
 add-r : tie.Need-add-r Inv-loop μ-loop
-add-r c = omega (arith, c .before .before .before .before .loop-test .taken, c .before .before .before .before .before .before .before .before .before .pre .0 .1)
+add-r c = omega (arith, c .before .before .before .before .loop-test .taken, c .before .before .before .before .before .before .before .before .before .pre .0)
 
 loop-less : tie.Need-loop-less Inv-loop μ-loop
 loop-less c = omega (arith, c .before .before .before .before .loop-test .taken)
@@ -34,7 +38,7 @@ same-length : tie.Need-same-length Inv-loop μ-loop
 same-length c = c .before .loop .inv .1 .0 .len
 
 returns : tie.Need-returns Inv-loop μ-loop
-returns c = (c .before .loop .inv .1 .0, paired-upto (rows-end (c .before .before .before .before .before .pre .0 .0) _ (c .before .loop .inv .0) (c .loop-test .left) ∙ c .before .before .before .before .before .pre .0 .1 .0) (c .before .loop .inv .1 .1))
+returns c = (c .before .loop .inv .1 .0, paired-upto (rows-end (c .before .before .before .before .before .pre .0 .linked) _ (c .before .loop .inv .0) (c .loop-test .left) ∙ c .before .before .before .before .before .pre .0 .all) (c .before .loop .inv .1 .1))
 
 pub pair-rows-spec : {M : Type 1} → statement M
 pair-rows-spec =

@@ -4,6 +4,7 @@ use native.Mathlib.Omega.{arith}
 use mathlib.Core.Path.{_∙_, sym}
 use Rattle.events.proofs.Areas.{one-added}
 use Rattle.walks.proofs.Links.{count-less, link-old, link-open, link-locked, lock-room}
+use Rattle.walks.proofs.LinksOf.{leads-below}
 use borrow.Author.Needs.{needs}
 use Rattle.walks.proofs.walk_link.Statement.{statement}
 use Rattle.walks.proofs.walk_link.Tie as tie
@@ -11,80 +12,78 @@ use Rattle.walks.proofs.walk_link.Tie as tie
 element-copy-out-ids : tie.Need-element-copy-out-ids
 element-copy-out-ids c = search needs
 
-element-copy-out-neighbours : tie.Need-element-copy-out-neighbours
-element-copy-out-neighbours c = search needs
-
-mul-a : tie.Need-mul-a
-mul-a c = search needs
-
-shared-slice-read-a : tie.Need-shared-slice-read-a
-shared-slice-read-a c = search needs
-
 contains-requires : tie.Need-contains-requires
-contains-requires c κs = let p = c .before .before .before .before .before .before .pre in (record { room = (omega (arith, p .0 .fit .words), omega (arith, p .0 .fit .words)); line = p .0 .fit .line }, p .0 .ground .neighbour _ (p .1))
+contains-requires c κs = let p = c .before .before .before .before .pre in (record { room = (omega (arith, p .0 .fit .words), omega (arith, p .0 .fit .words)); line = p .0 .fit .line }, leads-below (p .0 .ground) (p .1))
 
 same-length : tie.Need-same-length
 same-length c = search needs
 
 returns : tie.Need-returns
-returns c = link-old _ _ _ _ _ _ (c .before .before .before .before .before .before .before .before .pre .0 .fit) (sym (c .if1 .taken) ∙ c .before .contains .ensures)
+returns c = let p = c .before .before .before .before .before .before .pre in link-old _ _ _ _ (p .1) _ _ _ (p .0 .fit) (sym (c .if1 .taken) ∙ c .before .contains .ensures)
 
 insert-requires : tie.Need-insert-requires
 insert-requires c κs =
-    let p = c .before .before .before .before .before .before .before .before .before .pre in
-    let below = p .0 .ground .neighbour _ (p .1) in
+    let p = c .before .before .before .before .before .before .before .pre in
+    let below = leads-below (p .0 .ground) (p .1) in
     let less = count-less _ _ _ _ _ (p .0 .fit) below (sym (c .before .if1 .left) ∙ c .before .before .contains .ensures) in
     (omega (arith, less, p .0 .fit .words), (omega (arith, below, p .0 .fit .words), omega (arith, less, p .0 .fit .small)))
 
 element-copy-out-locks : tie.Need-element-copy-out-locks
 element-copy-out-locks c = search needs
 
-shared-slice-read-t35 : tie.Need-shared-slice-read-t35
-shared-slice-read-t35 c = search needs
+shared-slice-read-t29 : tie.Need-shared-slice-read-t29
+shared-slice-read-t29 c = search needs
 
 firelock-requires : tie.Need-firelock-requires
 firelock-requires c κs = search needs
 
 joined-requires : tie.Need-joined-requires
 joined-requires c κs =
-    let p = c .before .before .before .before .before .before .before .before .before .before .before .before .before .before .before .before .pre in
-    omega (arith, count-less _ _ _ _ _ (p .0 .fit) (p .0 .ground .neighbour _ (p .1)) (sym (c .before .before .before .before .before .before .before .before .if1 .left) ∙ c .before .before .before .before .before .before .before .before .before .contains .ensures), p .0 .fit .small)
+    let p = c .before .before .before .before .before .before .before .before .before .before .before .before .before .before .pre in
+    let below = leads-below (p .0 .ground) (p .1) in
+    let if1 = c .before .before .before .before .before .before .before .before .if1 in
+    let contains = c .before .before .before .before .before .before .before .before .before .contains in
+    omega (arith, count-less _ _ _ _ _ (p .0 .fit) below (sym (if1 .left) ∙ contains .ensures), p .0 .fit .small)
 
 same-length-2 : tie.Need-same-length-2
 same-length-2 c = search needs
 
 returns-2 : tie.Need-returns-2
 returns-2 c =
-    let p = c .before .before .before .before .before .before .before .before .before .before .before .before .before .before .before .before .before .pre in
-    link-open _ _ _ _ _ _ (p .0 .fit) (p .0 .ground .neighbour _ (p .1)) (sym (c .before .before .before .before .before .before .before .before .before .if1 .left) ∙ c .before .before .before .before .before .before .before .before .before .before .contains .ensures)
+    let p = c .before .before .before .before .before .before .before .before .before .before .before .before .before .before .before .pre in
+    let below = leads-below (p .0 .ground) (p .1) in
+    let if1 = c .before .before .before .before .before .before .before .before .before .if1 in
+    let contains = c .before .before .before .before .before .before .before .before .before .before .contains in
+    link-open _ _ _ _ (p .1) _ _ _ (p .0 .fit) below (sym (if1 .left) ∙ contains .ensures)
     (sym (not-true _ (c .before .if2 .taken)) ∙ c .before .before .firelock .ensures) _ _ (c .joined .ensures) (c .before .before .before .before .before .before .before .insert .ensures)
 
-mul-t21 : tie.Need-mul-t21
-mul-t21 c = search needs
+mul-t32 : tie.Need-mul-t32
+mul-t32 c = search needs
 
-shared-slice-read-t23 : tie.Need-shared-slice-read-t23
-shared-slice-read-t23 c = search needs
+shared-slice-read-t34 : tie.Need-shared-slice-read-t34
+shared-slice-read-t34 c = search needs
 
-cast-t39 : tie.Need-cast-t39
-cast-t39 c = let p = c .before .before .before .before .before .before .before .before .before .before .before .before .before .before .before .before .before .pre in omega (arith, p .0 .ground .neighbour _ (p .1), p .0 .fit .small)
+mul-t36 : tie.Need-mul-t36
+mul-t36 c = search needs
 
-mul-t40 : tie.Need-mul-t40
-mul-t40 c = let p = c .before .before .before .before .before .before .before .before .before .before .before .before .before .before .before .before .before .pre in omega (arith, p .0 .ground .neighbour _ (p .1), p .0 .fit .small)
-
-shared-slice-read-t42 : tie.Need-shared-slice-read-t42
-shared-slice-read-t42 c = let p = c .before .before .before .before .before .before .before .before .before .before .before .before .before .before .before .before .before .before .pre in p .0 .ground .neighbour _ (p .1)
+shared-slice-read-t38 : tie.Need-shared-slice-read-t38
+shared-slice-read-t38 c = let p = c .before .before .before .before .before .before .before .before .before .before .before .before .before .before .before .before .pre in leads-below (p .0 .ground) (p .1)
 
 append-requires : tie.Need-append-requires
 append-requires c κs =
-    let p = c .before .before .before .before .before .before .before .before .before .before .before .before .before .before .before .before .before .before .before .pre in
-    (tt, lock-room _ _ _ _ _ (p .0 .fit) (p .0 .ground .neighbour _ (p .1)) (sym (c .before .before .before .before .before .before .before .before .before .before .before .if1 .left) ∙ c .before .before .before .before .before .before .before .before .before .before .before .before .contains .ensures))
+    let p = c .before .before .before .before .before .before .before .before .before .before .before .before .before .before .before .before .before .pre in
+    let below = leads-below (p .0 .ground) (p .1) in
+    let if1 = c .before .before .before .before .before .before .before .before .before .before .before .if1 in
+    let contains = c .before .before .before .before .before .before .before .before .before .before .before .before .contains in
+    (tt, lock-room _ _ _ _ _ (p .0 .fit) below (sym (if1 .left) ∙ contains .ensures))
 
 joined-requires-2 : tie.Need-joined-requires-2
 joined-requires-2 c κs =
-    let p = c .before .before .before .before .before .before .before .before .before .before .before .before .before .before .before .before .before .before .before .before .before .before .pre in
+    let p = c .before .before .before .before .before .before .before .before .before .before .before .before .before .before .before .before .before .before .before .before .pre in
+    let below = leads-below (p .0 .ground) (p .1) in
     let if1 = c .before .before .before .before .before .before .before .before .before .before .before .before .before .before .if1 in
     let contains = c .before .before .before .before .before .before .before .before .before .before .before .before .before .before .before .contains in
-    omega (arith, count-less _ _ _ _ _ (p .0 .fit) (p .0 .ground .neighbour _ (p .1)) (sym (if1 .left) ∙ contains .ensures), p .0 .fit .small)
+    omega (arith, count-less _ _ _ _ _ (p .0 .fit) below (sym (if1 .left) ∙ contains .ensures), p .0 .fit .small)
 
 same-length-3 : tie.Need-same-length-3
 same-length-3 c = search needs
@@ -94,14 +93,15 @@ same-length-4 c = search needs
 
 returns-3 : tie.Need-returns-3
 returns-3 c =
-    let p = c .before .before .before .before .before .before .before .before .before .before .before .before .before .before .before .before .before .before .before .before .before .before .before .pre in
+    let p = c .before .before .before .before .before .before .before .before .before .before .before .before .before .before .before .before .before .before .before .before .before .pre in
+    let below = leads-below (p .0 .ground) (p .1) in
     let if1 = c .before .before .before .before .before .before .before .before .before .before .before .before .before .before .before .if1 in
     let contains = c .before .before .before .before .before .before .before .before .before .before .before .before .before .before .before .before .contains in
     let if2 = c .before .before .before .before .before .before .before .if2 in
     let firelock = c .before .before .before .before .before .before .before .before .firelock in
     let insert = c .before .before .before .before .before .before .before .before .before .before .before .before .before .insert in
     let append = c .before .before .before .append in
-    link-locked _ _ _ _ _ _ (p .0 .fit) (p .0 .ground .neighbour _ (p .1)) (sym (if1 .left) ∙ contains .ensures)
+    link-locked _ _ _ _ (p .1) _ _ _ (p .0 .fit) below (sym (if1 .left) ∙ contains .ensures)
     (sym (not-false _ (if2 .left)) ∙ firelock .ensures) _ _ _ _ (c .joined2 .ensures) (insert .ensures) (one-added _ (append .ensures))
 
 pub walk-link-spec : {M : Type 1} → statement M
@@ -109,24 +109,20 @@ walk-link-spec =
     tie.close
     (tie.spec
     element-copy-out-ids
-    element-copy-out-neighbours
-    mul-a
-    shared-slice-read-a
     contains-requires
     same-length
     returns
     insert-requires
     element-copy-out-locks
-    shared-slice-read-t35
+    shared-slice-read-t29
     firelock-requires
     joined-requires
     same-length-2
     returns-2
-    mul-t21
-    shared-slice-read-t23
-    cast-t39
-    mul-t40
-    shared-slice-read-t42
+    mul-t32
+    shared-slice-read-t34
+    mul-t36
+    shared-slice-read-t38
     append-requires
     joined-requires-2
     same-length-3

@@ -1,5 +1,4 @@
 -- A turf that is immutable or in the order stays out of it; any other joins. Assumes nothing.
-use native.Mathlib.Omega.{arith}
 use mathlib.Core.Path.{_∙_, sym, refl}
 use denote.Ref.{now}
 use Rattle.board_rules.specs.Board.{turfCount}
@@ -12,60 +11,44 @@ use Rattle.way_out.proofs.out_link.Tie as tie
 element-copy-out-ids : tie.Need-element-copy-out-ids
 element-copy-out-ids c = search needs
 
-element-copy-out-neighbours : tie.Need-element-copy-out-neighbours
-element-copy-out-neighbours c = search needs
-
-mul-a : tie.Need-mul-a
-mul-a c = search needs
-
-shared-slice-read-a : tie.Need-shared-slice-read-a
-shared-slice-read-a c = search needs
-
 element-copy-out-is-immutable : tie.Need-element-copy-out-is-immutable
 element-copy-out-is-immutable c = search needs
 
 element-copy-out-is-immutable-2 : tie.Need-element-copy-out-is-immutable-2
 element-copy-out-is-immutable-2 c = search needs
 
-cast-is-immutable : tie.Need-cast-is-immutable
-cast-is-immutable c = let p = c .before .before .before .before .before .before .before .pre in omega (arith, p .0 .ground .neighbour _ (p .1), p .0 .fit .small)
-
 is-immutable-requires : tie.Need-is-immutable-requires
-is-immutable-requires c κs =
-    let p = c .before .before .before .before .before .before .before .pre in
-    let below = p .0 .ground .neighbour _ (p .1) in
-    (rw (p .0 .ground .mixtures) below, p .0 .ground .mixture _ below)
+is-immutable-requires c κs = let p = c .before .before .before .before .before .pre in (rw (p .0 .ground .mixtures) (p .1), p .0 .ground .mixture _ (p .1))
 
 returns : tie.Need-returns
-returns c = link-immutable _ _ _ _ _ _ (c .before .before .before .before .before .before .before .before .before .pre .0 .fit) (sym (c .if1 .taken) ∙ c .before .is-immutable .ensures _ refl refl)
+returns c = λ k q. link-immutable _ _ k _ q _ _ _ (c .before .before .before .before .before .before .before .pre .0 .fit) (sym (c .if1 .taken) ∙ c .before .is-immutable .ensures _ refl refl)
 
 mul-contains : tie.Need-mul-contains
 mul-contains c = search needs
 
 contains-requires : tie.Need-contains-requires
-contains-requires c κs = let p = c .before .before .before .before .before .before .before .before .before .before .pre in (order-set _ _ _ _ (p .0 .fit), p .0 .ground .neighbour _ (p .1))
+contains-requires c κs = let p = c .before .before .before .before .before .before .before .before .pre in (order-set _ _ _ _ (p .0 .fit), p .1)
 
 same-length : tie.Need-same-length
 same-length c = search needs
 
 returns-2 : tie.Need-returns-2
 returns-2 c =
-    let args = c .before .before .before .before .before .before .before .before .before .before .before .before .args in
+    let args = c .before .before .before .before .before .before .before .before .before .before .args in
     let n = turfCount (boardAt (args .rows) (args .marks) 0) in
-    link-old _ _ _ _ _ _ (c .before .before .before .before .before .before .before .before .before .before .before .before .pre .0 .fit) (sym (c .before .before .before .if1 .left) ∙ c .before .before .before .before .is-immutable .ensures _ refl refl)
-    (order-member n (args .s) (now (args .words)) _ _ (sym (c .if2 .taken) ∙ c .before .contains .ensures))
+    let pre = c .before .before .before .before .before .before .before .before .before .before .pre in
+    let if1 = c .before .before .before .if1 in
+    let is-immutable = c .before .before .before .before .is-immutable in
+    let contains = c .before .contains in
+    λ k q. link-old _ _ k _ q _ _ _ (pre .0 .fit) (sym (if1 .left) ∙ is-immutable .ensures _ refl refl)
+    (order-member n (args .s) (now (args .words)) _ _ (sym (c .if2 .taken) ∙ contains .ensures))
 
 out-to-requires : tie.Need-out-to-requires
 out-to-requires c κs =
-    let p = c .before .before .before .before .before .before .before .before .before .before .before .before .before .before .pre in
-    let args = c .before .before .before .before .before .before .before .before .before .before .before .before .before .before .args in
+    let p = c .before .before .before .before .before .before .before .before .before .before .before .before .pre in
+    let args = c .before .before .before .before .before .before .before .before .before .before .before .before .args in
     let n = turfCount (boardAt (args .rows) (args .marks) 0) in
-    record {
-      fit = p .0 .fit;
-      from = p .0 .inside;
-      inside = p .0 .ground .neighbour _ (p .1);
-      new = sym (order-member n (args .s) (now (args .words)) _ _ (sym (c .before .before .if2 .left) ∙ c .before .before .before .contains .ensures));
-    }
+    record { fit = p .0 .fit; from = p .0 .inside; inside = p .1; new = sym (order-member n (args .s) (now (args .words)) _ _ (sym (c .before .before .if2 .left) ∙ c .before .before .before .contains .ensures)) }
 
 same-length-2 : tie.Need-same-length-2
 same-length-2 c = search needs
@@ -75,15 +58,15 @@ same-length-3 c = search needs
 
 returns-3 : tie.Need-returns-3
 returns-3 c =
-    let args = c .before .before .before .before .before .before .before .before .before .before .before .before .before .before .before .before .before .before .before .args in
-    let pre = c .before .before .before .before .before .before .before .before .before .before .before .before .before .before .before .before .before .before .before .pre in
+    let args = c .before .before .before .before .before .before .before .before .before .before .before .before .before .before .before .before .before .args in
+    let n = turfCount (boardAt (args .rows) (args .marks) 0) in
+    let pre = c .before .before .before .before .before .before .before .before .before .before .before .before .before .before .before .before .before .pre in
     let if1 = c .before .before .before .before .before .before .before .before .before .before .if1 in
     let is-immutable = c .before .before .before .before .before .before .before .before .before .before .before .is-immutable in
     let if2 = c .before .before .before .before .before .before .before .if2 in
     let contains = c .before .before .before .before .before .before .before .before .contains in
     let out-to = c .before .before .before .before .out-to in
-    let n = turfCount (boardAt (args .rows) (args .marks) 0) in
-    link-new _ _ _ _ _ _ (pre .0 .fit) (sym (if1 .left) ∙ is-immutable .ensures _ refl refl)
+    λ k q. link-new _ _ k _ q _ _ _ (pre .0 .fit) (sym (if1 .left) ∙ is-immutable .ensures _ refl refl)
     (order-member n (args .s) (now (args .words)) _ _ (sym (if2 .left) ∙ contains .ensures)) (out-to .ensures)
 
 pub out-link-spec : {M : Type 1} → statement M
@@ -91,12 +74,8 @@ out-link-spec =
     tie.close
     (tie.spec
     element-copy-out-ids
-    element-copy-out-neighbours
-    mul-a
-    shared-slice-read-a
     element-copy-out-is-immutable
     element-copy-out-is-immutable-2
-    cast-is-immutable
     is-immutable-requires
     returns
     mul-contains

@@ -1,53 +1,53 @@
--- A loop over the turf's links: what is left of them, and each turn one link. Assumes nothing.
+-- A loop over the turf's part of the link list: what is left of it, and each turn one link. Assumes nothing.
 use borrow.Author.Needs.{needs}
-use Prim.Native.Nat.{_-_}
-use native.Mathlib.Omega.{arith}
+use Prim.Native.Nat.{_+_, _-_}
+use lib.ListN.{length, getD}
 use Rattle.basics.specs.Loops.{run, upFrom}
-use Rattle.basics.proofs.Loops.{run-up, run-up-end}
 use Rattle.board_rules.specs.Board.{turfCount, linksOf}
 use Rattle.turfs.specs.Tables.{boardOf}
 use Rattle.walks.proofs.Does.{Going, going-start, going-next, going-end}
-use Rattle.walks.proofs.LinksOf.{links-run, links-end}
+use Rattle.walks.proofs.LinksOf.{leads-below, near-run, near-leads, near-next, near-end}
 use Rattle.out_rules.specs.Out.{outLink}
 use Rattle.way_out.specs.Outed.{at, outing}
-use Rattle.way_out.proofs.Joins.{written-room, kept-words, kept-area}
+use Rattle.way_out.proofs.Joins.{written-room, kept-words, kept-area, near-here}
 use Rattle.way_out.proofs.out_links.Statement.{statement}
 use Rattle.way_out.proofs.out_links.Tie as tie
 
 abbrev Inv-loop : tie.InvT-loop
-Inv-loop row rows marks words₀ events₀ to t₀ k₀ words events t k =
+Inv-loop row near rows marks words₀ events₀ t₀ i₀ words events t i =
     let b = boardOf rows marks 0 in
-    Going (outing (turfCount b)) (run (outLink b row) (upFrom k (to - k))) (run (outLink b row) (linksOf b row)) (at t₀ words₀ events₀) (at t words events)
+    Going (outing (turfCount b)) (run (outLink b row) (upFrom (getD (b .starts) row 0 + i) (length near - i))) (run (outLink b row) (linksOf b row)) (at t₀ words₀ events₀) (at t words events)
 
 abbrev μ-loop : tie.MeasureT-loop
-μ-loop row rows marks words₀ events₀ to t₀ k₀ words events t k = to - k
-
-element-copy-out-links-of : tie.Need-element-copy-out-links-of Inv-loop μ-loop
-element-copy-out-links-of c = search needs
-
-links-of-requires : tie.Need-links-of-requires Inv-loop μ-loop
-links-of-requires c κs = let p = c .before .before .before .pre in omega (arith, p .inside, p .ground .parts .count)
+μ-loop row near rows marks words₀ events₀ t₀ i₀ words events t i = length near - i
 
 loop-holds : tie.Need-loop-holds Inv-loop μ-loop
 loop-holds c =
-    let p = c .before .before .before .before .pre in
-    let l = c .links-of .ensures in
-    going-start (outing _) (p .fit) (written-room _ _ (p .fit)) (λ v. links-run _ _ _ _ (l .0) (l .1) _ v)
+    let p = c .before .before .before .pre in
+    going-start (outing _) (p .0 .fit) (written-room _ _ (p .0 .fit)) (λ v. near-run _ _ _ _ (p .0 .ground) (p .0 .inside) (near-here (p .1)) _ v)
+
+mul-out-link : tie.Need-mul-out-link Inv-loop μ-loop
+mul-out-link c = search needs
+
+shared-slice-read-out-link : tie.Need-shared-slice-read-out-link Inv-loop μ-loop
+shared-slice-read-out-link c = search needs
 
 out-link-requires : tie.Need-out-link-requires Inv-loop μ-loop
 out-link-requires c κs =
     let p = c .before .before .before .before .before .before .before .before .pre in
-    let l = c .before .before .before .before .links-of .ensures in
-    (record { ground = p .ground; fit = c .before .before .before .loop .inv .fit; inside = p .inside }, omega (arith, links-end _ _ _ _ (l .0) (l .1) (p .ground) (p .inside), c .before .before .loop-test .taken))
+    (record { ground = p .0 .ground; fit = c .before .before .before .before .loop .inv .fit; inside = p .0 .inside }, leads-below (p .0 .ground) (near-leads _ _ _ _ (p .0 .ground) (p .0 .inside) (near-here (p .1)) _ (c .before .before .before .loop-test .taken)))
 
-add-k : tie.Need-add-k Inv-loop μ-loop
-add-k c = search needs
+add-i : tie.Need-add-i Inv-loop μ-loop
+add-i c = search needs
 
 loop-less : tie.Need-loop-less Inv-loop μ-loop
 loop-less c = search needs
 
 loop-again : tie.Need-loop-again Inv-loop μ-loop
-loop-again c = going-next (outing _) _ _ (c .before .before .before .before .before .before .before .before .loop .inv) (c .before .before .before .before .out-link .ensures) (λ es. run-up _ _ _ _ (c .before .before .before .before .before .before .before .loop-test .taken))
+loop-again c =
+    let p = c .before .before .before .before .before .before .before .before .before .before .before .before .before .pre in
+    let taken = c .before .before .before .before .before .before .before .before .loop-test .taken in
+    going-next (outing _) _ _ (c .before .before .before .before .before .before .before .before .before .loop .inv) (c .before .before .before .before .out-link .ensures _ (near-leads _ _ _ _ (p .0 .ground) (p .0 .inside) (near-here (p .1)) _ taken .end)) (λ es. near-next _ _ _ _ _ taken)
 
 same-length : tie.Need-same-length Inv-loop μ-loop
 same-length c = kept-words (c .before .loop .inv)
@@ -56,7 +56,7 @@ same-length-2 : tie.Need-same-length-2 Inv-loop μ-loop
 same-length-2 c = kept-area (c .before .loop .inv)
 
 returns : tie.Need-returns Inv-loop μ-loop
-returns c = going-end (outing _) (c .before .loop .inv) (λ es. run-up-end _ _ _ _ (c .loop-test .left))
+returns c = going-end (outing _) (c .before .loop .inv) (λ es. near-end _ _ _ _ _ (c .loop-test .left))
 
 pub out-links-spec : {M : Type 1} → statement M
 out-links-spec =
@@ -64,11 +64,11 @@ out-links-spec =
     (tie.spec
     Inv-loop
     μ-loop
-    element-copy-out-links-of
-    links-of-requires
     loop-holds
+    mul-out-link
+    shared-slice-read-out-link
     out-link-requires
-    add-k
+    add-i
     loop-less
     loop-again
     same-length

@@ -1,4 +1,6 @@
--- A turf that is late is passed; any other has its links passed. Assumes nothing.
+-- A turf that is late is passed; any other has its part of the link list passed. Assumes nothing.
+use native.Mathlib.Omega.{arith}
+use Rattle.walks.proofs.LinksOf.{part-order, part-end, part-near}
 use Rattle.way_out.proofs.Rows.{next-row, passed-fit, row-late, row-on}
 use borrow.Author.Needs.{needs}
 use Rattle.way_out.proofs.out_row.Statement.{statement}
@@ -19,16 +21,64 @@ mul-row-2 c = search needs
 slice-read-row : tie.Need-slice-read-row
 slice-read-row c = search needs
 
-add-t13 : tie.Need-add-t13
-add-t13 c = search needs
+add-links-of : tie.Need-add-links-of
+add-links-of c = search needs
 
 returns : tie.Need-returns
 returns c = let p = c .before .before .before .before .before .before .before .before .pre in row-late _ _ _ _ (p .0 .fit) (p .1) _ _ (c .if1 .taken)
 
+element-copy-out-neighbours : tie.Need-element-copy-out-neighbours
+element-copy-out-neighbours c = search needs
+
+element-copy-out-links-of : tie.Need-element-copy-out-links-of
+element-copy-out-links-of c = search needs
+
+cast-links-of : tie.Need-cast-links-of
+cast-links-of c =
+    let p = c .before .before .before .before .before .before .before .before .before .before .pre in
+    let r = next-row _ _ _ _ (p .0 .fit) (p .1) in
+    omega (arith, r, p .0 .fit .small)
+
+links-of-requires : tie.Need-links-of-requires
+links-of-requires c κs =
+    let p = c .before .before .before .before .before .before .before .before .before .before .pre in
+    let r = next-row _ _ _ _ (p .0 .fit) (p .1) in
+    omega (arith, r, p .0 .ground .parts .count)
+
+mul-near : tie.Need-mul-near
+mul-near c =
+    let p = c .before .before .before .before .before .before .before .before .before .before .before .pre in
+    let r = next-row _ _ _ _ (p .0 .fit) (p .1) in
+    let l = c .links-of .ensures in
+    omega (arith, part-order _ _ (p .0 .ground) r _ _ (l .0) (l .1), part-end _ _ (p .0 .ground) r _ _ (l .0) (l .1), p .0 .ground .small .links)
+
+sub-near : tie.Need-sub-near
+sub-near c =
+    let p = c .before .before .before .before .before .before .before .before .before .before .before .pre in
+    let r = next-row _ _ _ _ (p .0 .fit) (p .1) in
+    let l = c .links-of .ensures in
+    part-order _ _ (p .0 .ground) r _ _ (l .0) (l .1)
+
+part-near-start : tie.Need-part-near-start
+part-near-start c =
+    let p = c .before .before .before .before .before .before .before .before .before .before .before .pre in
+    let r = next-row _ _ _ _ (p .0 .fit) (p .1) in
+    let l = c .links-of .ensures in
+    part-order _ _ (p .0 .ground) r _ _ (l .0) (l .1)
+
+part-near-end : tie.Need-part-near-end
+part-near-end c =
+    let p = c .before .before .before .before .before .before .before .before .before .before .before .pre in
+    let r = next-row _ _ _ _ (p .0 .fit) (p .1) in
+    let l = c .links-of .ensures in
+    part-end _ _ (p .0 .ground) r _ _ (l .0) (l .1)
+
 out-links-requires : tie.Need-out-links-requires
 out-links-requires c κs =
-    let p = c .before .before .before .before .before .before .before .before .before .before .pre in
-    record { ground = p .0 .ground; fit = passed-fit _ _ _ _ (p .0 .fit) (p .1); inside = next-row _ _ _ _ (p .0 .fit) (p .1) }
+    let p = c .before .before .before .before .before .before .before .before .before .before .before .before .before .before .pre in
+    let r = next-row _ _ _ _ (p .0 .fit) (p .1) in
+    let l = c .before .before .before .links-of .ensures in
+    (record { ground = p .0 .ground; fit = passed-fit _ _ _ _ (p .0 .fit) (p .1); inside = r }, part-near _ _ (p .0 .ground) r _ _ (l .0) (l .1) .part)
 
 same-length : tie.Need-same-length
 same-length c = search needs
@@ -37,7 +87,9 @@ same-length-2 : tie.Need-same-length-2
 same-length-2 c = search needs
 
 returns-2 : tie.Need-returns-2
-returns-2 c = let p = c .before .before .before .before .before .before .before .before .before .before .before .before .before .before .before .pre in row-on _ _ _ _ (p .0 .fit) (p .1) _ _ (c .before .before .before .before .before .before .before .if1 .left) (c .before .before .before .before .out-links .ensures)
+returns-2 c =
+    let p = c .before .before .before .before .before .before .before .before .before .before .before .before .before .before .before .before .before .before .before .pre in
+    row-on _ _ _ _ (p .0 .fit) (p .1) _ _ (c .before .before .before .before .before .before .before .before .before .before .before .if1 .left) (c .before .before .before .before .out-links .ensures)
 
 pub out-row-spec : {M : Type 1} → statement M
 out-row-spec =
@@ -48,8 +100,16 @@ out-row-spec =
     add-row
     mul-row-2
     slice-read-row
-    add-t13
+    add-links-of
     returns
+    element-copy-out-neighbours
+    element-copy-out-links-of
+    cast-links-of
+    links-of-requires
+    mul-near
+    sub-near
+    part-near-start
+    part-near-end
     out-links-requires
     same-length
     same-length-2
