@@ -1,6 +1,12 @@
 // Replays stored vectors of the public calls: each is a case with what a call of the Rust answered and left, as oracle/boards/src/vectors.rs
 // writes them. What is found is printed. Then, to show that a replay can fail, vectors are changed and torn, and how many of these are found
 // is printed too.
+ghost use mathlib.Core.Path.{_≡_};
+ghost use mathlib.Core.Bool.{true};
+ghost use Prim.Native.Nat.{_≤_, _<_};
+ghost use lib.ListN.{length};
+ghost use Rattle.vectors.specs.Vectors.{Reads};
+ghost use Rattle.replay.specs.Room.{Fits};
 use fill_rules::Settings;
 use libc::STDOUT_FILENO;
 use turfs::Marks;
@@ -146,7 +152,11 @@ fn make(
     words: &mut [u32],
     floats: &mut [f32],
     events: &mut [u8],
-) -> Vector {
+) -> Vector
+    requires { ⌜ Reads (now numbers) c ⌝ }
+    requires { ⌜ c .immutable .to ≤ length (now numbers) ⌝ }
+    requires { ⌜ c .immutable .to ≤ length (now bytes) ⌝ }
+{
     let ids_from = c.ids.from;
     let ids_to = c.ids.to;
     let flags_from = c.flags.from;
@@ -215,7 +225,10 @@ fn make(
 }
 
 // Whether a vector's case is whole, and the arrays of `replay` have room for it.
-fn fits(c: Case, count: usize) -> bool {
+fn fits(c: Case, count: usize) -> bool
+    requires { ⌜ c .gas .from ≤ c .gas .to ⌝ }
+    ensures { λ r. ⌜ (r ≡ true → Fits c count) ⌝ }
+{
     if count < c.gas.to {
         return false;
     }
@@ -234,6 +247,30 @@ fn fits(c: Case, count: usize) -> bool {
     c.floats <= 2_000
 }
 
+// Fills what a case lends, and makes its call.
+fn play(
+    c: Case,
+    numbers: &[u32],
+    bytes: &mut [u8],
+    gas: &mut [f32],
+    words: &mut [u32],
+    floats: &mut [f32],
+    events: &mut [u8],
+) -> Vector
+    requires { ⌜ Reads (now numbers) c ⌝ }
+    requires { ⌜ c .gas .to ≤ length (now numbers) ⌝ }
+    requires { ⌜ c .immutable .to ≤ length (now bytes) ⌝ }
+{
+    let from = c.gas.from;
+    let to = c.gas.to;
+    put_bytes(numbers, bytes);
+    put_amounts(&numbers[from..to], gas);
+    lend_words(words);
+    lend_floats(floats);
+    lend_events(events);
+    make(c, numbers, bytes, gas, words, floats, events)
+}
+
 // Replays the vector that the numbers begin with.
 fn replay(numbers: &[u32]) -> Vector {
     let mut bytes = [0u8; 1_429];
@@ -245,21 +282,14 @@ fn replay(numbers: &[u32]) -> Vector {
     if !fits(c, numbers.len()) {
         return torn(c.call);
     }
-    let gas_from = c.gas.from;
-    let gas_to = c.gas.to;
-    let gas_count = gas_to - gas_from;
+    let gas_count = c.gas.to - c.gas.from;
     let event_count = c.events;
     let word_count = c.words;
     let float_count = c.floats;
-    put_bytes(numbers, &mut bytes);
-    put_amounts(&numbers[gas_from..gas_to], &mut gas[..gas_count]);
-    lend_words(&mut words[..word_count]);
-    lend_floats(&mut floats[..float_count]);
-    lend_events(&mut events[..event_count]);
-    make(
+    play(
         c,
         numbers,
-        &bytes,
+        &mut bytes,
         &mut gas[..gas_count],
         &mut words[..word_count],
         &mut floats[..float_count],
@@ -309,7 +339,9 @@ fn show_count(n: u32, what: &[u8]) {
 }
 
 // A line for a call: how many were done, and how many refused by each number.
-fn show_call(name: &[u8], counts: &[u32; 32], call: usize) {
+fn show_call(name: &[u8], counts: &[u32; 32], call: usize)
+    requires { ⌜ call < 4 ⌝ }
+{
     show(name);
     show_count(counts[call * 8], b" done, refused by 1 to 7:");
     let mut i = 1;
@@ -331,6 +363,17 @@ fn show_total(t: Total) {
     }
 }
 
+// Where the vector behind one at a place begins; a vector takes some room.
+fn past(at: usize, length: usize) -> usize
+    requires { ⌜ at < 0xffff_ffff_ffff_ffff ⌝ }
+    ensures { λ r. ⌜ at < r ⌝ }
+{
+    if length == 0 {
+        return 0xffff_ffff_ffff_ffff;
+    }
+    further(at, length)
+}
+
 // Replays every vector and prints what came of it; at one that isn't whole it stops.
 fn print(numbers: &[u32]) {
     let mut counts = [0u32; 32];
@@ -342,7 +385,7 @@ fn print(numbers: &[u32]) {
     let mut at = 0;
     while at < numbers.len() {
         let r = replay(&numbers[at..]);
-        at = further(at, r.next);
+        at = past(at, r.next);
         if at <= numbers.len() {
             tally(&mut counts, r.call, r.number);
             t = counted(t, r.met);
@@ -378,18 +421,11 @@ fn one_more(t: Tried, found: bool) -> Tried {
     }
 }
 
-// A number with another hexadecimal digit at a power of 16: a 0, and a 1 for a 0.
-fn other(n: u32, power: u32) -> u32 {
-    let digit = n / power % 16;
-    if digit == 0 {
-        return n + power;
-    }
-    n - digit * power
-}
-
 // Replays a vector with another number at a place, which it must notice, and puts the number back. A NaN for a NaN isn't tried: one is as good
 // as another.
-fn change(vector: &mut [u32], at: usize, n: u32, t: Tried) -> Tried {
+fn change(vector: &mut [u32], at: usize, n: u32, t: Tried) -> Tried
+    requires { ⌜ at < length (now vector) ⌝ }
+{
     let was = vector[at];
     if nan_bits(was) {
         if nan_bits(n) {
@@ -402,23 +438,27 @@ fn change(vector: &mut [u32], at: usize, n: u32, t: Tried) -> Tried {
     one_more(t, !r.met)
 }
 
-// Changes each digit of the number at a place.
-fn change_digits(vector: &mut [u32], at: usize, before: Tried) -> Tried {
+// Changes each hexadecimal digit of the number at a place, in its lowest bit.
+fn change_digits(vector: &mut [u32], at: usize, before: Tried) -> Tried
+    requires { ⌜ at < length (now vector) ⌝ }
+{
     let n = vector[at];
-    let mut t = change(vector, at, other(n, 1), before);
+    let mut t = change(vector, at, n ^ 1, before);
     let mut power = 1;
-    while 15 < n / power {
-        power = power * 16;
-        t = change(vector, at, other(n, power), t);
+    let mut rest = n / 16;
+    while 0 < rest {
+        power = power % 0x1000_0000 * 16;
+        t = change(vector, at, n ^ power, t);
+        rest = rest / 16;
     }
     t
 }
 
-// Changes each digit of the numbers between two places.
-fn changes(vector: &mut [u32], from: usize, to: usize, before: Tried) -> Tried {
+// Changes each digit of the numbers from a place on.
+fn changes(vector: &mut [u32], from: usize, before: Tried) -> Tried {
     let mut t = before;
     let mut at = from;
-    while at < to {
+    while at < vector.len() {
         t = change_digits(vector, at, t);
         at += 1;
     }
@@ -450,9 +490,9 @@ fn try_all(numbers: &mut [u32]) {
     let mut at = 0;
     while at < numbers.len() {
         let r = replay(&numbers[at..]);
-        let next = further(at, r.next);
+        let next = past(at, r.next);
         if next <= numbers.len() {
-            changed = changes(&mut numbers[at..next], r.expected, r.next, changed);
+            changed = changes(&mut numbers[at..next], r.expected, changed);
             torn = tears(&numbers[at..next], torn);
         }
         at = next;
@@ -462,10 +502,12 @@ fn try_all(numbers: &mut [u32]) {
 }
 
 // Reads vectors from standard input, at most 2 MiB in pieces; says how many numbers there are, or that there is no room for more.
-fn read(numbers: &mut [u32]) -> usize {
+fn read(numbers: &mut [u32]) -> usize
+    ensures { λ r. ⌜ r ≤ length (now (numbers .exit)) ⌝ }
+{
     let mut piece = io::buffer();
     let mut r = text::begin();
-    let mut left = 512;
+    let mut left: usize = 512;
     while 0 < left {
         let n = io::read_full(libc::STDIN_FILENO, &mut piece);
         r = text::feed(&piece[..n], r, numbers);
@@ -477,13 +519,19 @@ fn read(numbers: &mut [u32]) -> usize {
     numbers.len()
 }
 
-// Prints what is said of vectors of which the first has another number in its answer.
-fn print_changed(numbers: &mut [u32]) {
+// Changes the first number that the first vector expects of its answer.
+fn spoil(numbers: &mut [u32]) {
     let r = replay(numbers);
     let at = further(r.expected, 1);
-    if at < numbers.len() {
-        numbers[at] = other(numbers[at], 1);
+    if numbers.len() <= at {
+        return;
     }
+    numbers[at] = numbers[at] ^ 1;
+}
+
+// Prints what is said of vectors with one number changed.
+fn print_changed(numbers: &mut [u32]) {
+    spoil(numbers);
     show(b"with one number changed:\n");
     print(numbers);
 }
@@ -504,17 +552,22 @@ fn print_long() {
     print(&numbers);
 }
 
+// All runs, one after the other, of at most 140,000 numbers.
+fn run_all(numbers: &mut [u32]) {
+    if 140_000 < numbers.len() {
+        show(b"too long\n");
+        return;
+    }
+    print(numbers);
+    try_all(numbers);
+    print_changed(numbers);
+    print_half(numbers);
+    print_long();
+}
+
 // One number more than is taken tells that there are too many.
 fn main() {
     let mut numbers = [0u32; 140_001];
     let n = read(&mut numbers);
-    if 140_000 < n {
-        show(b"too long\n");
-        return;
-    }
-    print(&numbers[..n]);
-    try_all(&mut numbers[..n]);
-    print_changed(&mut numbers[..n]);
-    print_half(&numbers[..n]);
-    print_long();
+    run_all(&mut numbers[..n]);
 }
