@@ -4,7 +4,7 @@ use mathlib.Core.List.{List, [], _∷_}
 use Prim.Native.Nat.{ℕ}
 use lib.ListN.{getD}
 use Rattle.lent_rules.specs.Lent.{Lent, Result}
-use Rattle.equalize.specs.declared.EqualizeAnswer.{EqualizeAnswer}
+use Rattle.equalize_rules.specs.declared.EqualizeAnswer.{EqualizeAnswer}
 use Rattle.planet_rules.specs.declared.PlanetAnswer.{PlanetAnswer}
 use Rattle.depressurize_rules.specs.declared.DepressurizeAnswer.{DepressurizeAnswer}
 

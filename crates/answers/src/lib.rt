@@ -1,6 +1,6 @@
 // The answers as the numbers of the C interface, in its order.
 use depressurize_rules::DepressurizeAnswer;
-use equalize::EqualizeAnswer;
+use equalize_rules::EqualizeAnswer;
 use planet_rules::PlanetAnswer;
 ghost use mathlib.Core.Path.{_≡_};
 ghost use Rattle.answers.specs.Answers.{equalizeNumbers, planetNumbers, depressurizeNumbers};

@@ -19,8 +19,8 @@ use Rattle.board_rules.specs.Board.{Board, turfCount, linkCount, mixtureCount, 
 use Rattle.turfs.specs.Tables.{Slices, boardOf}
 use Rattle.reverse_links.specs.Words.{But}
 use Rattle.reverse_links.proofs.Places.{but-set, but-then}
-use Rattle.finalize_eq.specs.Turns.{Zone, zoneAt, nodesAt}
-use Rattle.equalize.specs.Equalize.{hasMix, apart}
+use Rattle.finish_rules.specs.Turns.{Zone, zoneAt, nodesAt}
+use Rattle.equalize_rules.specs.Equalize.{hasMix, apart}
 use Rattle.flood_fill.specs.Held.{startsAt}
 use Rattle.flood_fill.specs.Held as words
 use Rattle.apart.specs.Marks.{marksAt, PassFits, ApartFits, Marked, Laid, Stands, hasFirst, Met, Marks, Shared, Passed, Tells}

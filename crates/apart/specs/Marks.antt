@@ -11,8 +11,8 @@ use Rattle.board_rules.specs.Board.{Board, turfCount, linkCount, mixtureCount, 
 use Rattle.reverse_links.specs.Words.{But}
 use Rattle.flood_fill.specs.Held.{startsAt, Sizes}
 use Rattle.flood_fill.specs.Held as words
-use Rattle.finalize_eq.specs.Turns.{Zone, nodesAt}
-use Rattle.equalize.specs.Equalize.{apart}
+use Rattle.finish_rules.specs.Turns.{Zone, nodesAt}
+use Rattle.equalize_rules.specs.Equalize.{apart}
 
 -- where the mixtures' marks start: after the nodes of all zones
 abbrev pub marksAt : ℕ → ℕ → ℕ

@@ -13,7 +13,7 @@ ghost use Rattle.board_rules.specs.Board.{turfCount, linkCount, mixtureCount, m
 ghost use Rattle.turfs.specs.Tables.{boardAt};
 ghost use Rattle.reverse_links.specs.Words.{But};
 ghost use Rattle.flood_fill.specs.Held.{startsAt, nodesAt};
-ghost use Rattle.finalize_eq.specs.Turns.{Zone};
+ghost use Rattle.finish_rules.specs.Turns.{Zone};
 ghost use Rattle.apart.specs.Marks.{marksAt, Marked, Laid, PassFits, ApartFits, Passed, Tells};
 
 // A node of the zone: its mixture is marked with it, unless it is immutable or marked already. False: another zone has it.

@@ -16,12 +16,12 @@ use Rattle.basics.proofs.Loops.{All-map, All-getD, All-any, every-all}
 use Rattle.basics.proofs.Lists.{All-unmap, or-cases, members, member-has, upFrom-at, upFrom-length}
 use Rattle.board_rules.specs.Board.{Board, mixtureCount, mixOf, immutableMix, end}
 use Rattle.mixture.proofs.Parts.{Fits}
-use Rattle.finalize_eq.specs.Finish.{Done}
-use Rattle.finalize_eq.specs.Turns.{Zone, zoneAt, nodesAt, turnOrder, finishAll}
-use Rattle.finalize_eq.proofs.Jobs.{Agrees, agree}
-use Rattle.finalize_eq.proofs.Order.{order-in, turn-rows}
-use Rattle.equalize.specs.Equalize.{hasMix, apart}
-use Rattle.equalize.specs.Worked as worked  -- checked before the laws
+use Rattle.finish_rules.specs.Finish.{Done}
+use Rattle.finish_rules.specs.Turns.{Zone, zoneAt, nodesAt, turnOrder, finishAll}
+use Rattle.finish_laws.proofs.Jobs.{Agrees, agree}
+use Rattle.finish_laws.proofs.Order.{order-in, turn-rows}
+use Rattle.equalize_rules.specs.Equalize.{hasMix, apart}
+use Rattle.equalize_rules.specs.Worked as worked  -- checked before the laws
 
 -- ---- how many pass a test
 

@@ -20,10 +20,10 @@ use Rattle.lent_rules.specs.Lent.{Lent, Result, after}
 use Rattle.lent.proofs.Passed.{passed}
 use Rattle.basics.specs.Lists.{All}
 use Rattle.basics.proofs.Lists.{member-map}
-use Rattle.finalize_eq.specs.Turns.{nodesAt, nodeCount}
-use Rattle.equalize.specs.Equalize.{Ask, Filled, Equalized, hasMix, apart, bit, fillAll, cancel, planned, played, equalize}
-use Rattle.equalize.specs.Result.{equalizeRoom, equalizeNumber, equalizeDone, equalizeResult}
-use Rattle.equalize.specs.declared.EqualizeAnswer.{EqualizeAnswer}
+use Rattle.finish_rules.specs.Turns.{nodesAt, nodeCount}
+use Rattle.equalize_rules.specs.Equalize.{Ask, Filled, Equalized, hasMix, apart, bit, fillAll, cancel, planned, played, equalize}
+use Rattle.equalize_rules.specs.Result.{equalizeRoom, equalizeNumber, equalizeDone, equalizeResult}
+use Rattle.equalize_rules.specs.declared.EqualizeAnswer.{EqualizeAnswer}
 use Rattle.equalize.proofs.Apart.{WellFormed, turns-agree}
 use Rattle.equalize.proofs.Ends.{fill-ends}
 

@@ -16,8 +16,8 @@ use Rattle.basics.proofs.Lists.{replicate-at}
 use Rattle.board_rules.specs.Board.{Board, linkCount, end}
 use Rattle.fill_rules.specs.Fill.{Reach, Fill}
 use Rattle.flood_fill.proofs.Joins.{Has, Joins, fill-joins}
-use Rattle.finalize_eq.specs.Turns.{Zone, nodesAt}
-use Rattle.equalize.specs.Equalize.{Ask, Filled, afterFill, fillFrom, fillAll}
+use Rattle.finish_rules.specs.Turns.{Zone, nodesAt}
+use Rattle.equalize_rules.specs.Equalize.{Ask, Filled, afterFill, fillFrom, fillAll}
 use Rattle.equalize.proofs.Hot.{Starts, fill-all-keeps}
 
 module _ (b : Board) where

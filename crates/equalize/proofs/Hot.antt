@@ -12,8 +12,8 @@ use Rattle.basics.specs.Lists.{Found}
 use Rattle.basics.proofs.Loops.{All-any, run-keeps}
 use Rattle.board_rules.specs.Board.{Board, turfCount, linkCount, enabled, rowOf}
 use Rattle.turfs.proofs.Accepted.{row-below}
-use Rattle.equalize.specs.Equalize.{Ask, Filled, passedOver, fillFrom, hotRow, hotId, fillAll}
-use Rattle.equalize.specs.Worked as worked  -- checked before the laws
+use Rattle.equalize_rules.specs.Equalize.{Ask, Filled, passedOver, fillFrom, hotRow, hotId, fillAll}
+use Rattle.equalize_rules.specs.Worked as worked  -- checked before the laws
 
 -- where filling starts
 abbrev pub startFilled : Board → Filled

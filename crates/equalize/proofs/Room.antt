@@ -15,11 +15,11 @@ use Rattle.turfs.specs.Tables.{Accepted}
 use Rattle.events.proofs.Sizes.{size, requests-size}
 use Rattle.lent_rules.specs.Lent.{Lent}
 use Rattle.lent.proofs.Passed.{passed}
-use Rattle.process_zone.proofs.Sizes.{plan-sized}
-use Rattle.finalize_eq.specs.Turns.{zoneAt, nodesAt, nodeCount}
-use Rattle.finalize_eq.proofs.Room.{records-room}
-use Rattle.equalize.specs.Equalize.{Ask, Filled, Equalized, fillAll, planAll, planned, cancel, played, equalize}
-use Rattle.equalize.specs.Result.{equalizeRoom, equalizeNumber}
+use Rattle.plan_laws.proofs.Sizes.{plan-sized}
+use Rattle.finish_rules.specs.Turns.{zoneAt, nodesAt, nodeCount}
+use Rattle.finish_laws.proofs.Room.{records-room}
+use Rattle.equalize_rules.specs.Equalize.{Ask, Filled, Equalized, fillAll, planAll, planned, cancel, played, equalize}
+use Rattle.equalize_rules.specs.Result.{equalizeRoom, equalizeNumber}
 use Rattle.equalize.proofs.Zones.{zoned, request-room}
 
 pub weights-sized : (b : Board) (gas : List Float) (s : Filled) → length (planAll b gas s .weight) ≡ linkCount b

@@ -18,8 +18,8 @@ use Rattle.board_rules.specs.Board.{Board, rowOf}
 use Rattle.turfs.specs.Tables.{Accepted}
 use Rattle.fill_rules.specs.Fill.{Fill, fill}
 use Rattle.flood_fill.proofs.Rest.{fill-tests}
-use Rattle.finalize_eq.specs.Turns.{nodeCount}
-use Rattle.equalize.specs.Equalize.{Ask, Filled, Equalized, afterFill, passedOver, fillFrom, hotRow, hotId, fillAll, cancel, played, equalize}
+use Rattle.finish_rules.specs.Turns.{nodeCount}
+use Rattle.equalize_rules.specs.Equalize.{Ask, Filled, Equalized, afterFill, passedOver, fillFrom, hotRow, hotId, fillAll, cancel, played, equalize}
 use Rattle.equalize.proofs.Hot.{startFilled}
 use Rattle.equalize.proofs.Zones.{Zoned, zoned}
 

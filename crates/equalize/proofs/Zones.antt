@@ -22,8 +22,8 @@ use Rattle.flood_fill.proofs.Counts.{marked, marked-length, mark-new, was-new, 
 use Rattle.flood_fill.proofs.Joins.{Rows, fill-rows}
 use Rattle.flood_fill.proofs.Owned.{Fresh, fill-fresh}
 use Rattle.flood_fill.proofs.Rest.{Clocked, fill-tests, fill-line, fill-clocked}
-use Rattle.finalize_eq.specs.Turns.{Zone, nodesAt, nodeCount}
-use Rattle.equalize.specs.Equalize.{Ask, Filled, afterFill, fillFrom, fillAll}
+use Rattle.finish_rules.specs.Turns.{Zone, nodesAt, nodeCount}
+use Rattle.equalize_rules.specs.Equalize.{Ask, Filled, afterFill, fillFrom, fillAll}
 use Rattle.equalize.proofs.Hot.{Starts, fill-all-keeps}
 
 pub count-snoc : (zs : List Zone) (z : Zone) → nodeCount (snoc zs z) ≡ nodeCount zs + length (z .nodes)

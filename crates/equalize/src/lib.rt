@@ -1,4 +1,4 @@
-// `equalize`: fill from the hot turfs, plan every zone, finish by turns. Its definition stands in specs/.
+// What only equalize is lent, tested; and the laws of its definition (`equalize_rules`): demand 3, room, clock tests.
 use lent::ExtraTests;
 ghost use mathlib.Core.Path.{_≡_};
 ghost use mathlib.Core.Bool.{_&&_};
@@ -7,18 +7,7 @@ ghost use lib.ListN.{length};
 ghost use Rattle.basics.specs.Floats.{finiteSignClear};
 ghost use Rattle.board_rules.specs.Refuse.{ascending};
 ghost use Rattle.lent.specs.Given.{extraOf};
-ghost use Rattle.equalize.specs.Equalize.{bit};
-
-// What the call answers.
-pub struct EqualizeAnswer {
-    pub number: u32,
-    pub cancelled: u32,
-    pub processed: u32,
-    pub tests: u32,
-    pub zones: u32,
-    pub apart: u32,
-    pub bytes: u32,
-}
+ghost use Rattle.equalize_rules.specs.Equalize.{bit};
 
 // A mark as a number.
 pub fn bit(mark: bool) -> u32

@@ -24,7 +24,7 @@ use Rattle.events.proofs.Areas.{wrote-length}
 use Rattle.lent_rules.specs.Lent.{Lent, wordsRoom, floatsRoom}
 use Rattle.lent.proofs.Numbers.{bare}
 use Rattle.flood_fill.specs.Held.{sizes, startsAt, nodesAt}
-use Rattle.process_zone.specs.Plan.{Plan}
+use Rattle.plan_rules.specs.Plan.{Plan}
 use Rattle.reverse_links.specs.Reverse.{Linked, Reverses}
 use Rattle.reverse_links.specs.Words.{But}
 use Rattle.reverse_links.proofs.Accepted.{linked}
@@ -36,17 +36,17 @@ use Rattle.fill_all.specs.Held.{floatSizes, View, FillsAll}
 use Rattle.fill_all.specs.Held as fill
 use Rattle.fill_all.specs.declared.Filling.{Filling}
 use Rattle.fill_all.proofs.Words.{at, rowsOf, starts-word, starts-rise, starts-below, nodes-few, zones-count, zones-are, rows-are, rows-length, rows-line, owners-are, tests-are}
-use Rattle.finalize_eq.specs.Finish.{Done}
-use Rattle.finalize_eq.specs.Turns.{Zone, zoneAt, nodeCount, finishAll}
-use Rattle.finalize_eq.specs.Turns as turns
+use Rattle.finish_rules.specs.Finish.{Done}
+use Rattle.finish_rules.specs.Turns.{Zone, zoneAt, nodeCount, finishAll}
+use Rattle.finish_rules.specs.Turns as turns
 use Rattle.finish_send.specs.Areas.{Areas, areas, fsizes, others, reverseIn, ownerIn, weightIn}
 use Rattle.finish_send.proofs.Shown.{holds-written}
 use Rattle.finish_turns.specs.Zones.{startOf, zoneNodes}
 use Rattle.finish_turns.specs.Zones as words
 use Rattle.finish_turns.specs.Turning.{cursorAt, Same, Planned, FinishesAll}
 use Rattle.finish_turns.proofs.Whole.{Ends, finished}
-use Rattle.equalize.specs.Equalize.{Ask, fillAll, planAll, planned, played, hasMix, apart, bit}
-use Rattle.equalize.specs.Result.{equalizeRoom}
+use Rattle.equalize_rules.specs.Equalize.{Ask, fillAll, planAll, planned, played, hasMix, apart, bit}
+use Rattle.equalize_rules.specs.Result.{equalizeRoom}
 use Rattle.equalize.proofs.Zones.{test-room}
 use Rattle.equalize.proofs.Room.{requests-bytes}
 use Rattle.apart.specs.Marks.{marksAt, ApartFits, Laid, Stands, Tells}

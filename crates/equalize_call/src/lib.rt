@@ -1,6 +1,6 @@
 // `equalize` as a whole call: refusals, filling, planning, finishing by turns, the answer. Its definition is `equalizeResult` of crate equalize.
-use equalize::EqualizeAnswer;
 use equalize::bit;
+use equalize_rules::EqualizeAnswer;
 use fill_all::Filling;
 use fill_rules::Settings;
 use lent::Room;
@@ -11,8 +11,8 @@ ghost use Rattle.turfs.specs.Tables.{boardAt};
 ghost use Rattle.lent_rules.specs.Lent.{Lent};
 ghost use Rattle.lent.specs.Given.{lentAt};
 ghost use Rattle.fill_all.specs.Held.{asked};
-ghost use Rattle.equalize.specs.Equalize.{Ask, fillAll, played, equalize};
-ghost use Rattle.equalize.specs.Result.{refusedEqualize, equalizeNumber, equalizeResult};
+ghost use Rattle.equalize_rules.specs.Equalize.{Ask, fillAll, played, equalize};
+ghost use Rattle.equalize_rules.specs.Result.{refusedEqualize, equalizeNumber, equalizeResult};
 ghost use Rattle.equalize_call.specs.Parts.{cancelledAt, Fills, Filled, Comes};
 
 // The event bytes that a call may write: two requests for each turf, one pressure record for each link.

@@ -28,8 +28,8 @@ use Rattle.flood_fill.proofs.Links.{nodes-length}
 use Rattle.fill_zone.specs.Held.{FillView, fillView, Begins, Ready}
 use Rattle.fill_zone.specs.declared.Flood.{Flood}
 use Rattle.fill_zone.proofs.Boards.{parts}
-use Rattle.finalize_eq.specs.Turns.{Zone}
-use Rattle.equalize.specs.Equalize.{Ask, Filled, afterFill, passedOver, fillFrom, hotRow}
+use Rattle.finish_rules.specs.Turns.{Zone}
+use Rattle.equalize_rules.specs.Equalize.{Ask, Filled, afterFill, passedOver, fillFrom, hotRow}
 use Rattle.fill_all.specs.Held.{floatSizes, molesAt, zoneIn, viewIn, view, onFilled, startsIn, Stored, Open, Fills, giveBack, pushed, Keeps, Drops}
 use Rattle.fill_all.specs.Asked.{Spans, PushedFits, KeepFits}
 use Rattle.fill_all.specs.declared.Filling.{Filling}

@@ -15,8 +15,8 @@ use Rattle.lent_rules.specs.Lent.{Lent, Extra, wordsRoom, floatsRoom, refusal}
 use Rattle.lent.specs.Given.{Given}
 use Rattle.lent.proofs.Passed.{Passed, passed, links-pass}
 use Rattle.lent.proofs.Numbers.{given}
-use Rattle.equalize.specs.Equalize.{Ask}
-use Rattle.equalize.specs.Result.{equalizeRoom, equalizeNumber}
+use Rattle.equalize_rules.specs.Equalize.{Ask}
+use Rattle.equalize_rules.specs.Result.{equalizeRoom, equalizeNumber}
 use Rattle.fill_all.specs.Asked.{FillFits}
 
 module _ (b : Board) (q : Ask) (turns : List ℕ) (l : Lent) where

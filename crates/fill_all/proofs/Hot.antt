@@ -25,7 +25,7 @@ use Rattle.flood_fill.proofs.Does.{does-as}
 use Rattle.flood_fill.proofs.Stores.{found-at}
 use Rattle.fill_zone.specs.Held.{Begins}
 use Rattle.fill_zone.specs.declared.Flood.{Flood}
-use Rattle.equalize.specs.Equalize.{Ask, Filled, 10f, near, passedOver, hotRow, hotId}
+use Rattle.equalize_rules.specs.Equalize.{Ask, Filled, 10f, near, passedOver, hotRow, hotId}
 use Rattle.fill_all.specs.Held.{view, onFilled, foundIn, Stored, Open, Fills, After}
 use Rattle.fill_all.specs.Asked.{FoundFits}
 use Rattle.fill_all.specs.declared.Filling.{Filling}

@@ -26,7 +26,7 @@ use Rattle.flood_fill.specs.Held.{sizes, zeros}
 use Rattle.flood_fill.proofs.Does.{does-plain, does-then, does-as}
 use Rattle.flood_fill.proofs.Bounds.{zeros-most}
 use Rattle.flood_fill.proofs.Counts.{marked}
-use Rattle.equalize.specs.Equalize.{Ask, Filled, near, passedOver, fillFrom, hotRow, hotId, fillAll}
+use Rattle.equalize_rules.specs.Equalize.{Ask, Filled, near, passedOver, fillFrom, hotRow, hotId, fillAll}
 use Rattle.equalize.proofs.Hot.{startFilled}
 use Rattle.equalize.proofs.Zones.{Zoned, zoned}
 use Rattle.fill_all.specs.Held.{ask, floatSizes, zoneIn, View, view, aroundIn, onFilled, startsIn, Stored, Open, Fills, start, Begun, Cleared, FillsAll}

@@ -14,7 +14,7 @@ use Rattle.basics.proofs.Tests.{differ}
 use Rattle.basics.proofs.Lists.{upFrom-length}
 use Rattle.board_rules.specs.Board.{Board, end, linksOf}
 use Rattle.mixture_rules.specs.Mixture.{total}
-use Rattle.equalize.specs.Equalize.{Ask, 10f, near}
+use Rattle.equalize_rules.specs.Equalize.{Ask, 10f, near}
 
 -- ---- |d| < t
 

@@ -18,8 +18,8 @@ use Rattle.board_rules.specs.Board.{Board, turfCount, linkCount}
 use Rattle.turfs.specs.Tables.{Accepted}
 use Rattle.turfs.proofs.Line.{Line}
 use Rattle.flood_fill.specs.Held.{sizes, startsAt, nodesAt}
-use Rattle.finalize_eq.specs.Turns.{Zone, zoneAt}
-use Rattle.equalize.specs.Equalize.{Ask, Filled, fillAll}
+use Rattle.finish_rules.specs.Turns.{Zone, zoneAt}
+use Rattle.equalize_rules.specs.Equalize.{Ask, Filled, fillAll}
 use Rattle.equalize.proofs.Zones.{zone-has}
 use Rattle.fill_all.specs.Held.{floatSizes, molesAt, zoneIn, View, view, startsIn, FillsAll}
 use Rattle.fill_all.specs.declared.Filling.{Filling}

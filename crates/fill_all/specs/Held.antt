@@ -16,8 +16,8 @@ use Rattle.fill_rules.specs.Fill.{isOver}
 use Rattle.fill_rules.specs.declared.Settings.{Settings}
 use Rattle.flood_fill.specs.Held.{sizes, startsAt, nodesAt, Sizes, zeros, Does}
 use Rattle.fill_zone.specs.declared.Flood.{Flood}
-use Rattle.finalize_eq.specs.Turns.{Zone}
-use Rattle.equalize.specs.Equalize.{Ask, Filled}
+use Rattle.finish_rules.specs.Turns.{Zone}
+use Rattle.equalize_rules.specs.Equalize.{Ask, Filled}
 use Rattle.fill_all.specs.declared.Filling.{Filling}
 
 -- what only equalize is asked

@@ -28,7 +28,7 @@ ghost use Rattle.turfs.specs.Tables.{boardAt, Accepted};
 ghost use Rattle.mixture_rules.specs.Mixture.{total};
 ghost use Rattle.fill_rules.specs.Fill.{isOver};
 ghost use Rattle.flood_fill.specs.Held.{nodesAt, Sizes};
-ghost use Rattle.equalize.specs.Equalize.{Ask, 10f, near, passedOver, hotRow, hotId, fillAll};
+ghost use Rattle.equalize_rules.specs.Equalize.{Ask, 10f, near, passedOver, hotRow, hotId, fillAll};
 ghost use Rattle.fill_all.specs.Held.{asked, molesAt, foundIn, Stored, Fills, giveBack, GaveBack, Keeps, After, start, Begun, Cleared, FillsAll};
 ghost use Rattle.fill_all.specs.Asked.{FoundFits, Spans, PushedFits, KeepFits, HotFits, FillFits};
 

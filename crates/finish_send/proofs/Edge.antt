@@ -21,7 +21,7 @@ use Rattle.event_rules.specs.declared.Event.the-variants.{Pressure}
 use Rattle.events.proofs.Sizes.{encode-size}
 use Rattle.plan_state.specs.Steps.{ownedBy, backLink}
 use Rattle.plan_state.proofs.Weights.{found-more}
-use Rattle.finalize_eq.specs.Lifted.{above}
+use Rattle.finish_rules.specs.Lifted.{above}
 use Rattle.finish_send.specs.Areas.{Areas}
 use Rattle.finish_send.specs.Sending.{Next, saveAt, zeroAt, shared, Sends}
 

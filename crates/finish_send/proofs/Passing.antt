@@ -19,12 +19,12 @@ use Rattle.mixture_rules.specs.Mixture.{total}
 use Rattle.mixture.specs.Moves.{Holds}
 use Rattle.mixture.proofs.Parts.{holds-of}
 use Rattle.reverse_links.specs.Reverse.{InRow}
-use Rattle.process_zone.specs.Edges.{owned}
-use Rattle.process_zone.proofs.Sizes.{alter-size}
+use Rattle.plan_rules.specs.Edges.{owned}
+use Rattle.plan_laws.proofs.Sizes.{alter-size}
 use Rattle.plan_state.specs.Steps.{backLink}
 use Rattle.plan_state.proofs.Links.{reverse-within}
-use Rattle.finalize_eq.specs.Lifted.{above, pending, Held, sendHeld, giversHeld}
-use Rattle.finalize_eq.proofs.Weights.{alter-less}
+use Rattle.finish_rules.specs.Lifted.{above, pending, Held, sendHeld, giversHeld}
+use Rattle.finish_laws.proofs.Weights.{alter-less}
 use Rattle.finish_send.specs.Areas.{Areas, ownerIn, reverseIn, liftedAt, weightIn, liftedIn, Shows, Ready, Kept}
 use Rattle.finish_send.specs.Sending.{Counted, isMarked, Next, SendFits, Sends, pairAs, toSend, Going, Progress, SentTo}
 use Rattle.finish_send.proofs.Ranges.{run-parts, run-last, run-none, run-idle}

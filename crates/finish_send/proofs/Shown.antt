@@ -23,13 +23,13 @@ use Rattle.events.specs.Area.{Wrote, Holds}
 use Rattle.event_rules.specs.declared.Event.the-variants.{Pressure}
 use Rattle.event_rules.specs.declared.Event.{Event}
 use Rattle.events.proofs.Areas.{wrote-length, wrote-rest, adds-one, adds-adds}
-use Rattle.process_zone.specs.Edges.{alter}
-use Rattle.process_zone.proofs.Sizes.{alter-size}
+use Rattle.plan_rules.specs.Edges.{alter}
+use Rattle.plan_laws.proofs.Sizes.{alter-size}
 use Rattle.reverse_links.specs.Reverse.{InRow}
 use Rattle.plan_state.specs.Steps.{backLink}
 use Rattle.plan_state.proofs.Links.{edge-back, reverse-within}
-use Rattle.finalize_eq.specs.Finish.{send}
-use Rattle.finalize_eq.specs.Lifted.{Held, sendHeld}
+use Rattle.finish_rules.specs.Finish.{send}
+use Rattle.finish_rules.specs.Lifted.{Held, sendHeld}
 use Rattle.finish_send.specs.Areas.{Areas, Written, ownerIn, reverseIn, fsizes, liftedAt, weightIn, liftedIn, others, Shows, Ready, Kept}
 use Rattle.finish_send.specs.Sending.{shared, Sends}
 use Rattle.finish_send.proofs.Edge.{back-below, pressure-size}

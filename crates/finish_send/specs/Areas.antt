@@ -13,7 +13,7 @@ use Rattle.scratch.specs.Layout.{floatSizes}
 use Rattle.events.specs.Area.{Holds}
 use Rattle.event_rules.specs.declared.Event.{Event}
 use Rattle.reverse_links.specs.Reverse.{Linked, Reverses}
-use Rattle.finalize_eq.specs.Lifted.{Held}
+use Rattle.finish_rules.specs.Lifted.{Held}
 
 -- the first `used` bytes of the area are these events
 abbrev pub Written : List Event → ℕ → List ℕ → Type 0

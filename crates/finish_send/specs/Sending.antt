@@ -15,9 +15,9 @@ use Rattle.mixture.specs.Moves.{Holds}
 use Rattle.event_rules.specs.Events.{encode}
 use Rattle.events.specs.Area.{Wrote}
 use Rattle.event_rules.specs.declared.Event.the-variants.{Pressure}
-use Rattle.process_zone.specs.Edges.{alter, owned}
+use Rattle.plan_rules.specs.Edges.{alter, owned}
 use Rattle.plan_state.specs.Steps.{backLink}
-use Rattle.finalize_eq.specs.Lifted.{Held, sendHeld, giversHeld, above, pending}
+use Rattle.finish_rules.specs.Lifted.{Held, sendHeld, giversHeld, above, pending}
 use Rattle.finish_send.specs.declared.Turf.{Turf}
 use Rattle.finish_send.specs.declared.Span.{Span}
 use Rattle.finish_send.specs.Areas.{Areas, Shows, Ready, Kept, ownerIn, reverseIn, weightIn, liftedIn, liftedAt}

@@ -17,7 +17,7 @@ ghost use Rattle.basics.specs.Loops.{run, upFrom};
 ghost use Rattle.basics.specs.Floats.{0f};
 ghost use Rattle.basics.specs.Lists.{Found};
 ghost use Rattle.mixture_rules.specs.Mixture.{total};
-ghost use Rattle.process_zone.specs.Edges.{alter};
+ghost use Rattle.plan_rules.specs.Edges.{alter};
 ghost use Rattle.turfs.specs.Tables.{boardAt};
 ghost use Rattle.finish_send.specs.Areas.{areasAt, liftedAt};
 ghost use Rattle.finish_send.specs.Sending.{sideOf, isMarked, Next, saveAt, zeroAt, shared, Counted, MoveFits, SendFits, Sends, Going, SentOver};

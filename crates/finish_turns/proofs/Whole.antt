@@ -10,8 +10,8 @@ use Rattle.event_rules.specs.Events.{encodeAll}
 use Rattle.events.specs.Area.{Holds}
 use Rattle.event_rules.specs.declared.Event.{Event}
 use Rattle.events.proofs.Areas.{wrote-rest, wrote-length}
-use Rattle.finalize_eq.specs.Finish.{Done}
-use Rattle.finalize_eq.specs.Turns.{Zone, finishAll}
+use Rattle.finish_rules.specs.Finish.{Done}
+use Rattle.finish_rules.specs.Turns.{Zone, finishAll}
 use Rattle.finish_send.specs.Areas.{Areas, Written, ownerIn, weightIn}
 use Rattle.finish_send.proofs.Shown.{holds-written}
 use Rattle.finish_turns.specs.Turning.{cursorAt, Same, FinishesAll}

@@ -8,9 +8,9 @@ use Rattle.basics.specs.Loops.{allOf, upFrom, same}
 use Rattle.basics.specs.Floats.{ofWord, bits, exact}
 use Rattle.board_rules.specs.Board.{Board}
 use Rattle.lent_rules.specs.Lent.{Lent}
-use Rattle.equalize.specs.Equalize.{Ask}
-use Rattle.equalize.specs.Result.{equalizeResult}
-use Rattle.equalize.specs.Worked.{numbers}
+use Rattle.equalize_rules.specs.Equalize.{Ask}
+use Rattle.equalize_rules.specs.Result.{equalizeResult}
+use Rattle.equalize_rules.specs.Worked.{numbers}
 use Rattle.depressurize_rules.specs.Depressurize.{depressurizeResult}
 use Rattle.planet_rules.specs.Planet.{planetResult}
 

@@ -6,7 +6,7 @@ ghost use Rattle.turfs.specs.Tables.{board};
 ghost use Rattle.events.specs.Interface.{readEvent, writeEvent};
 ghost use Rattle.lent.specs.Given.{lentAt};
 ghost use Rattle.fill_all.specs.Held.{ask};
-ghost use Rattle.equalize.specs.Result.{equalizeResult};
+ghost use Rattle.equalize_rules.specs.Result.{equalizeResult};
 ghost use Rattle.planet_rules.specs.Planet.{planetResult};
 ghost use Rattle.depressurize_rules.specs.Depressurize.{depressurizeResult};
 ghost use Rattle.answers.specs.Answers.{Answers, equalizeNumbers, planetNumbers, depressurizeNumbers};

@@ -1,7 +1,7 @@
 -- What filling leaves on accepted tables is what planning asks for. Assumes nothing.
 use Prim.Native.Nat.{ℕ, _+_, _≤_}
 use native.Mathlib.Omega.{arith}
-use mathlib.Core.Path.{_≡_, refl}
+use mathlib.Core.Path.{refl}
 use mathlib.Core.List.{List}
 use lib.Dec.{T}
 use lib.ListN.{length}
@@ -11,7 +11,7 @@ use Rattle.board_rules.specs.Refuse.{linksFit}
 use Rattle.turfs.specs.Tables.{Accepted}
 use Rattle.lent_rules.specs.Lent.{wordsRoom, floatsRoom}
 use Rattle.fill_zone.proofs.Boards.{gas-holds}
-use Rattle.equalize.specs.Equalize.{Ask, fillAll}
+use Rattle.equalize_rules.specs.Equalize.{Ask, fillAll}
 use Rattle.equalize.proofs.Zones.{zone-has}
 use Rattle.fill_all.specs.Held.{FillsAll}
 use Rattle.fill_all.specs.declared.Filling.{Filling}

@@ -3,7 +3,7 @@ use Prim.Native.Nat.{ℕ, _+_, _-_, _≤_, _<_}
 use native.Mathlib.Omega.{arith}
 use mathlib.Core.Path.{_≡_, ap, ap₂, _∙_, sym, subst}
 use mathlib.Core.List.{List, map}
-use lib.ListN.{length, take, drop, length-drop, length-map}
+use lib.ListN.{length, drop, length-drop, length-map}
 use lib.Seq.{length-take-le}
 use lib.Ieee.{Float}
 use Rattle.basics.specs.Loops.{run, upFrom}
@@ -14,10 +14,10 @@ use Rattle.board_rules.specs.Board.{Board, turfCount, linkCount}
 use Rattle.turfs.proofs.Line.{Line, line-short}
 use Rattle.index_set.specs.Line.{Below}
 use Rattle.index_set.proofs.Queue.{all-below}
-use Rattle.flood_fill.specs.Held.{sizes, nodesAt}
-use Rattle.process_zone.specs.Plan.{planZone}
-use Rattle.finalize_eq.specs.Turns.{Zone, zoneAt}
-use Rattle.equalize.specs.Equalize.{Filled, planAll}
+use Rattle.flood_fill.specs.Held.{sizes}
+use Rattle.plan_rules.specs.Plan.{planZone}
+use Rattle.finish_rules.specs.Turns.{Zone, zoneAt}
+use Rattle.equalize_rules.specs.Equalize.{Filled, planAll}
 use Rattle.plan_state.specs.Held.{area, view}
 use Rattle.plan_all.specs.Zones.{zoneOf, startOf, Room, Zoned, blank, PlansAll}
 use Rattle.plan_all.proofs.Plans.{zone-is}

@@ -15,10 +15,10 @@ use Rattle.basics.proofs.Loops.{run-both, run-up, run-up-end}
 use Rattle.basics.proofs.Lists.{upFrom-length, upFrom-below, map-up}
 use Rattle.basics.proofs.Regions.{cut-part, cut-clear, cut-rest}
 use Rattle.board_rules.specs.Board.{Board, turfCount, linkCount}
-use Rattle.process_zone.specs.Plan.{Plan, planZone}
+use Rattle.plan_rules.specs.Plan.{Plan, planZone}
 use Rattle.flood_fill.specs.Held.{sizes, startsAt, nodesAt}
-use Rattle.finalize_eq.specs.Turns.{Zone, zoneAt}
-use Rattle.equalize.specs.Equalize.{Filled, planAll}
+use Rattle.finish_rules.specs.Turns.{Zone, zoneAt}
+use Rattle.equalize_rules.specs.Equalize.{planAll}
 use Rattle.reverse_links.specs.Reverse.{Reverses}
 use Rattle.reverse_links.specs.Words.{Outside, But}
 use Rattle.plan_state.specs.Held.{Area, area, wsizes, fsizes, viewIn, View, view, Fit, Frame, top, nodesOf}

@@ -11,7 +11,7 @@ use Rattle.basics.proofs.Regions.{cut-get, region-part, later-same}
 use Rattle.basics.proofs.Parts.{part-alike, take-in}
 use Rattle.index_set.specs.Line.{Below}
 use Rattle.flood_fill.specs.Held.{sizes, startsAt, nodesAt}
-use Rattle.finalize_eq.specs.Turns.{Zone}
+use Rattle.finish_rules.specs.Turns.{Zone}
 use Rattle.reverse_links.specs.Words.{Outside, But}
 use Rattle.plan_state.specs.Held.{Area, area, wsizes, fsizes, view, Fit, Frame, top, Nodes, nodesOf}
 use Rattle.plan_state.proofs.Nodes.{rest-is}

@@ -11,9 +11,9 @@ use Rattle.basics.specs.Regions.{region}
 use Rattle.board_rules.specs.Board.{Board, turfCount, linkCount}
 use Rattle.index_set.specs.Line.{Below}
 use Rattle.flood_fill.specs.Held.{sizes, nodesAt, Sizes}
-use Rattle.process_zone.specs.Plan.{Plan, planZone}
-use Rattle.finalize_eq.specs.Turns.{Zone}
-use Rattle.equalize.specs.Equalize.{Filled, planAll}
+use Rattle.plan_rules.specs.Plan.{Plan, planZone}
+use Rattle.finish_rules.specs.Turns.{Zone}
+use Rattle.equalize_rules.specs.Equalize.{Filled, planAll}
 use Rattle.fill_all.specs.Held.{floatSizes, molesAt, zoneIn}
 use Rattle.reverse_links.specs.Reverse.{Linked, Reverses}
 use Rattle.reverse_links.specs.Words.{But}

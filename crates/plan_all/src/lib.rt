@@ -3,7 +3,7 @@ ghost use Prim.Native.Nat.{_<_};
 ghost use Rattle.basics.specs.Loops.{upFrom};
 ghost use Rattle.board_rules.specs.Board.{turfCount, linkCount};
 ghost use Rattle.turfs.specs.Tables.{boardAt};
-ghost use Rattle.process_zone.specs.Plan.{planZone};
+ghost use Rattle.plan_rules.specs.Plan.{planZone};
 ghost use Rattle.reverse_links.specs.Reverse.{Reverses};
 ghost use Rattle.plan_state.specs.Held.{areaAt, view, Fit};
 ghost use Rattle.plan_zone.specs.Zone.{Plans};

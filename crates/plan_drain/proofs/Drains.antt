@@ -1,13 +1,11 @@
 -- The way back: what the code adds and clears is what the definition stores, but for numbers that stay. Assumes nothing.
 use Prim.Native.Nat.{ℕ, zero, suc, _+_, _-_, _≤_, _<_}
 use native.Mathlib.Omega.{arith}
-use mathlib.Core.Path.{_≡_, refl, ap, _∙_, sym, subst}
-use mathlib.Core.Logic.{_≢_}
-use mathlib.Core.List.{List, [], _∷_, _++_, reverse, reverseAux}
-use mathlib.Core.Bool.{Bool, true, false, not, _&&_, cond}
-use lib.Dec.{eqb}
+use mathlib.Core.Path.{_≡_, ap, _∙_, sym}
+use mathlib.Core.List.{List, [], _∷_, reverse, reverseAux}
+use mathlib.Core.Bool.{true, false}
 use lib.ListN.{length, getD, set, take, drop, length-drop}
-use lib.Seq.{take-suc, getD-take, getD-drop, length-take-le}
+use lib.Seq.{getD-take, getD-drop}
 use lib.Ieee.{Float, nan, ne}
 use borrow.Author.Tests.{eq-eqb, ne-eqb}
 use Rattle.basics.specs.Floats.{0f, _+f_}
@@ -17,13 +15,13 @@ use Rattle.basics.specs.declared.Spot.the-variants.{At}
 use Rattle.basics.specs.Lists.{All, Found}
 use Rattle.basics.proofs.Loops.{run-back, run-back-end}
 use Rattle.basics.proofs.Regions.{cut-length}
-use Rattle.process_zone.specs.Plan.{Plan, load, reweigh}
-use Rattle.process_zone.specs.declared.MonstermosInfo.{MonstermosInfo}
-use Rattle.plan_state.specs.Held.{Area, area, wsizes, View, view, Fit, onPlan, Does}
+use Rattle.plan_rules.specs.Plan.{Plan, load}
+use Rattle.plan_rules.specs.declared.MonstermosInfo.{MonstermosInfo}
+use Rattle.plan_state.specs.Held.{Area, area, wsizes, View, view, Fit, Does}
 use Rattle.plan_state.specs.Steps.{backLink, adjustAt}
-use Rattle.plan_state.proofs.Stores.{setAmount, does-as, does-then, does-none, amount-at, amount-set, via-at, queue-at, reverse-at}
+use Rattle.plan_state.proofs.Stores.{does-as, does-then, does-none, amount-at, amount-set, via-at, queue-at, reverse-at}
 use Rattle.plan_state.proofs.Weights.{adjusted, back-found}
-use Rattle.plan_trade.specs.Search.{Seeking, Within}
+use Rattle.plan_trade.specs.Search.{Within}
 use Rattle.plan_trade.specs.Steps.{handOn, drainVia}
 
 -- ---- one turf

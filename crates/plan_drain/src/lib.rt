@@ -1,5 +1,4 @@
 // The way back of a search: each turf hands its amount on to the turf from which it was met.
-ghost use mathlib.Core.Path.{_≡_};
 ghost use mathlib.Core.List.{reverse};
 ghost use Prim.Native.Nat.{_-_, _≤_, _<_};
 ghost use lib.ListN.{take, drop};

@@ -8,21 +8,20 @@ use lib.Dec.{eqb}
 use lib.IntN.{pos}
 use lib.ListN.{length, getD, set, take, drop}
 use lib.Seq.{set-getD}
-use lib.Ieee.{Float, nan, lt, ofInt, binary32}
-use borrow.Author.Tests.{eq-eqb}
+use lib.Ieee.{Float, lt, ofInt, binary32}
 use Rattle.basics.specs.Floats.{0f, _+f_, _-f_, _/f_}
 use Rattle.basics.specs.Loops.{run, keep, upFrom}
 use Rattle.basics.specs.declared.Spot.{Spot}
 use Rattle.basics.specs.declared.Spot.the-variants.{At}
 use Rattle.basics.specs.Lists.{All}
-use Rattle.basics.proofs.Loops.{All-any, run-both, run-keep}
+use Rattle.basics.proofs.Loops.{run-both, run-keep}
 use Rattle.basics.proofs.Regions.{region-part}
 use Rattle.board_rules.specs.Board.{Board, end, linksOf}
-use Rattle.process_zone.specs.Edges.{edgesOf, edge, adjust}
-use Rattle.process_zone.specs.Plan.{Plan, load, store, reweigh, withDelta, countOf, eligible, fastMove, fastTurf}
-use Rattle.process_zone.specs.declared.MonstermosInfo.{MonstermosInfo}
+use Rattle.plan_rules.specs.Edges.{edgesOf, edge, adjust}
+use Rattle.plan_rules.specs.Plan.{Plan, load, store, reweigh, withDelta, countOf, eligible, fastMove, fastTurf}
+use Rattle.plan_rules.specs.declared.MonstermosInfo.{MonstermosInfo}
 use Rattle.reverse_links.specs.Reverse.{InRow, Linked, Reverses}
-use Rattle.plan_state.specs.Held.{Area, area, wsizes, View, view, Fit, onPlan, Does}
+use Rattle.plan_state.specs.Held.{Area, area, wsizes, View, view, Does}
 use Rattle.plan_state.specs.Steps.{backLink, adjustAt}
 use Rattle.plan_state.proofs.Stores.{setDelta, does-as, does-then, does-frame, store-delta}
 use Rattle.plan_state.proofs.Links.{edge-there, edge-back, reverse-within}

@@ -5,7 +5,7 @@ use mathlib.Core.Path.{_≡_, refl, ap, _∙_, sym}
 use mathlib.Core.List.{List}
 use mathlib.Core.Bool.{Bool, true, false, cond}
 use lib.Dec.{eqb}
-use lib.ListN.{length, getD, set, take, drop}
+use lib.ListN.{getD, set, take, drop}
 use lib.Seq.{getD-take, getD-drop}
 use lib.Ieee.{Float, nan}
 use borrow.Author.Tests.{eq-eqb, ne-eqb}
@@ -13,10 +13,9 @@ use Rattle.basics.specs.Floats.{_+f_, _-f_}
 use Rattle.basics.specs.declared.Spot.{Spot}
 use Rattle.basics.specs.declared.Spot.the-variants.{At}
 use Rattle.basics.specs.Lists.{Found}
-use Rattle.process_zone.specs.Plan.{Plan, reweigh}
 use Rattle.plan_state.specs.Held.{Area, area, View, view, Fit, Does}
 use Rattle.plan_state.specs.Steps.{backLink, adjustAt}
-use Rattle.plan_state.proofs.Stores.{setDelta, does-as, does-then, does-none, delta-at, delta-set, fast-at, owner-at, reverse-at}
+use Rattle.plan_state.proofs.Stores.{does-as, does-then, does-none, delta-at, delta-set, fast-at, owner-at, reverse-at}
 use Rattle.plan_state.proofs.Weights.{adjusted, back-found}
 use Rattle.plan_fast.specs.Steps.{tallyStep, moveAt, fastVia}
 

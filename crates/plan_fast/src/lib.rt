@@ -5,7 +5,7 @@ ghost use lib.ListN.{length, getD, take, drop};
 ghost use Rattle.basics.specs.Lists.{Found};
 ghost use Rattle.basics.specs.Loops.{run, upFrom};
 ghost use Rattle.turfs.specs.Tables.{boardAt};
-ghost use Rattle.process_zone.specs.Plan.{fastTurf};
+ghost use Rattle.plan_rules.specs.Plan.{fastTurf};
 ghost use Rattle.plan_state.specs.Held.{areaAt, view, Fit, Ends, Planning, Does, Nodes, zoneNodes};
 ghost use Rattle.plan_fast.specs.Steps.{tallyStep, moveAt, shareOver};
 use basics::Spot;

@@ -1,4 +1,3 @@
-pub mod Seeks
 pub mod Rows
 pub mod Passes
 pub mod Search

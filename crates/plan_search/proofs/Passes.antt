@@ -8,15 +8,15 @@ use lib.ListN.{getD, set, take}
 use lib.Ieee.{Float, nan}
 use Rattle.basics.specs.Loops.{run, upFrom, member}
 use Rattle.basics.proofs.Loops.{run-suc, run-up-end}
-use Rattle.process_zone.specs.Plan.{Seek, settled, wants, meet}
-use Rattle.process_zone.specs.declared.Side.{Side}
+use Rattle.plan_rules.specs.Plan.{Seek, settled, wants, meet}
+use Rattle.plan_rules.specs.declared.Side.{Side}
 use Rattle.index_set.specs.Line.{array}
 use Rattle.plan_state.specs.Held.{Area, area, view, Does}
 use Rattle.plan_state.proofs.Stores.{does-as, delta-at}
 use Rattle.plan_trade.specs.Search.{Seeking, seekOf, Sought, Passes}
 use Rattle.plan_trade.specs.Steps.{point, along}
 use Rattle.plan_trade.proofs.Trades.{meet-none}
-use Rattle.plan_search.proofs.Seeks.{sought-none, keeps-none, idle-none, idle-then, link-foreign, link-queued, link-seeking, link-new, link-keeps, link-idle, link-deltas}
+use Rattle.plan_trade.proofs.Seeks.{sought-none, keeps-none, idle-none, idle-then, link-foreign, link-queued, link-seeking, link-new, link-keeps, link-idle, link-deltas}
 use Rattle.plan_search.proofs.Rows.{leaves-then, keeps-within, keeps-then}
 
 -- ---- a link

@@ -10,16 +10,16 @@ use lib.Ieee.{Float, nan}
 use Rattle.basics.specs.Loops.{run, upFrom}
 use Rattle.basics.proofs.Loops.{run-append, run-keep, run-up, run-up-end, up-append, run-still, All-any}
 use Rattle.board_rules.specs.Board.{Board, linksOf}
-use Rattle.process_zone.specs.Edges.{edgesOf}
-use Rattle.process_zone.specs.Plan.{Seek, settled, seekTo, seekLink}
-use Rattle.process_zone.specs.declared.Side.{Side}
+use Rattle.plan_rules.specs.Edges.{edgesOf}
+use Rattle.plan_rules.specs.Plan.{Seek, settled, seekTo, seekLink}
+use Rattle.plan_rules.specs.declared.Side.{Side}
 use Rattle.plan_state.specs.Held.{Area, area, view}
 use Rattle.plan_state.proofs.Stores.{frame-then, delta-at}
 use Rattle.plan_trade.specs.Search.{Seeking, seekOf, Leaves, Sought, Leads, KeepsMet, KeepsIdle, Passes}
 use Rattle.plan_trade.specs.Steps.{along}
 use Rattle.plan_search.specs.Hands.{Open, alongAll, Goes}
 use Rattle.plan_search.specs.declared.Hand.{Hand}
-use Rattle.plan_search.proofs.Seeks.{leaves-none, keeps-none, idle-none, idle-then, to-settled}
+use Rattle.plan_trade.proofs.Seeks.{leaves-none, keeps-none, idle-none, idle-then, to-settled}
 
 -- ---- in a loop: what is left to do, f, from here on comes to what the whole, f₀, comes to from the start
 

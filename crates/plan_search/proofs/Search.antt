@@ -1,11 +1,10 @@
 -- The whole search: a turn of the loop is the definition's step, and once it stops it stays. Assumes nothing.
-use Prim.Native.Nat.{ℕ, zero, suc, _+_, _-_, _≤_, _<_}
+use Prim.Native.Nat.{ℕ, suc, _+_, _-_, _≤_, _<_}
 use native.Mathlib.Omega.{arith}
 use native.Mathlib.Nat.{sub-zero}
-use mathlib.Core.Path.{_≡_, refl, ap, _∙_, sym, subst}
+use mathlib.Core.Path.{_≡_, ap, _∙_, sym}
 use mathlib.Core.List.{List}
-use mathlib.Core.Bool.{Bool, true, false, not, _&&_, cond}
-use lib.Dec.{ltb}
+use mathlib.Core.Bool.{true, false}
 use lib.ListN.{length, getD, take}
 use lib.Seq.{getD-take, length-take-le}
 use lib.Ieee.{Float, nan}
@@ -13,14 +12,14 @@ use borrow.Author.Tests.{lt-ltb, le-ltb}
 use Rattle.basics.specs.Loops.{run, times}
 use Rattle.basics.proofs.Loops.{times-still}
 use Rattle.board_rules.specs.Board.{Board}
-use Rattle.process_zone.specs.Edges.{edgesOf}
-use Rattle.process_zone.specs.Plan.{Plan, Seek, settled, seekLink, seekRow, seekNext}
-use Rattle.process_zone.specs.declared.Side.{Side}
+use Rattle.plan_rules.specs.Edges.{edgesOf}
+use Rattle.plan_rules.specs.Plan.{Seek, settled, seekLink, seekRow, seekNext}
+use Rattle.plan_rules.specs.declared.Side.{Side}
 use Rattle.index_set.proofs.Queue.{Below-at}
-use Rattle.plan_state.specs.Held.{Area, area, View, view}
+use Rattle.plan_state.specs.Held.{Area, area, view}
 use Rattle.plan_state.proofs.Stores.{queue-at, delta-at}
 use Rattle.plan_trade.specs.Search.{Seeking, seekOf, Leaves, Sought, Searched}
-use Rattle.plan_search.proofs.Seeks.{leaves-none}
+use Rattle.plan_trade.proofs.Seeks.{leaves-none}
 use Rattle.plan_search.proofs.Rows.{leaves-then}
 
 -- ---- a turn

@@ -1,17 +1,14 @@
 -- One giver or taker: the search from it, and the way back over the links by which turfs were met, which are the definition's edges. Assumes nothing.
-use Prim.Native.Nat.{ℕ, zero, suc, _+_, _-_, _≤_, _<_}
+use Prim.Native.Nat.{ℕ, zero, suc, _+_, _-_, _<_}
 use native.Mathlib.Omega.{arith}
 use native.Mathlib.Nat.{not-suc-le-zero}
-use native.Mathlib.Decide.{ℕ-discrete}
 use mathlib.Core.Path.{_≡_, refl, ap, ap₂, _∙_, sym, subst}
-use mathlib.Core.Logic.{_≢_}
-use mathlib.Core.List.{List, [], _∷_, _++_, reverse, reverseAux}
+use mathlib.Core.List.{List, [], _∷_, reverse}
 use mathlib.Core.Bool.{Bool, true, false, not, _&&_, cond}
 use lib.Dec.{eqb}
 use lib.ListN.{length, getD, set, take}
 use lib.Seq.{getD-take, length-take-le, set-getD, getD-set-same}
 use lib.Ieee.{Float, nan, ne}
-use borrow.Author.Tests.{eq-eqb, ne-eqb}
 use Rattle.basics.specs.Floats.{0f, _+f_}
 use Rattle.basics.specs.Loops.{run, times, member}
 use Rattle.basics.specs.Regions.{cut}
@@ -20,22 +17,22 @@ use Rattle.basics.specs.declared.Spot.the-variants.{At}
 use Rattle.basics.specs.Lists.{All}
 use Rattle.basics.proofs.Loops.{run-both}
 use Rattle.basics.proofs.Regions.{cut-set, cut-length}
-use Rattle.board_rules.specs.Board.{Board, end, turfCount}
-use Rattle.process_zone.specs.Edges.{edge, adjust}
-use Rattle.process_zone.specs.Plan.{Plan, Seek, load, store, reweigh, withAmount, drainTo, drain, serve, seekNext}
-use Rattle.process_zone.specs.declared.MonstermosInfo.{MonstermosInfo}
-use Rattle.process_zone.specs.declared.Side.{Side}
+use Rattle.board_rules.specs.Board.{Board, turfCount}
+use Rattle.plan_rules.specs.Edges.{edge, adjust}
+use Rattle.plan_rules.specs.Plan.{Plan, Seek, load, store, reweigh, withAmount, drainTo, drain, serve, seekNext}
+use Rattle.plan_rules.specs.declared.MonstermosInfo.{MonstermosInfo}
+use Rattle.plan_rules.specs.declared.Side.{Side}
 use Rattle.index_set.specs.Line.{Below, Apart, Line}
 use Rattle.index_set.proofs.Queue.{take-more, line-more}
-use Rattle.reverse_links.specs.Reverse.{InRow, Linked, Reverses}
-use Rattle.plan_state.specs.Held.{Area, area, wsizes, fsizes, View, viewIn, view, Fit, Does, Frame, Serves}
+use Rattle.reverse_links.specs.Reverse.{Linked, Reverses}
+use Rattle.plan_state.specs.Held.{Area, area, wsizes, fsizes, View, viewIn, view, Fit, Does, Serves}
 use Rattle.plan_state.specs.Steps.{backLink, adjustAt}
-use Rattle.plan_state.proofs.Stores.{frame-then, does-frame, store-amount, setAmount, direction-length, amount-length}
+use Rattle.plan_state.proofs.Stores.{does-frame, store-amount, setAmount, direction-length, amount-length}
 use Rattle.plan_state.proofs.Links.{link-below, edge-there, edge-back, reverse-within}
 use Rattle.plan_trade.specs.Search.{Seeking, seekOf, Leaves, Searched, Leads, Met, AllMet, Idle, Within}
 use Rattle.plan_trade.specs.Steps.{handOn, drainVia}
 use Rattle.plan_drain.proofs.Drains.{all-of-rows, all-back}
-use Rattle.plan_search.proofs.Seeks.{none-left}
+use Rattle.plan_trade.proofs.Seeks.{none-left}
 use Rattle.plan_search.proofs.Rows.{leaves-then}
 use Rattle.plan_search.proofs.Search.{queue-below}
 use Rattle.plan_trade.proofs.Nears.{Near, near-times}

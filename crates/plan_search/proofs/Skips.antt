@@ -2,7 +2,6 @@
 use Prim.Native.Nat.{ℕ, zero, suc, _+_, _-_, _≤_, _<_}
 use native.Mathlib.Omega.{arith}
 use native.Mathlib.Nat.{add-zero, sub-zero}
-use native.Mathlib.Numerals.{add-one}
 use mathlib.Core.Path.{_≡_, refl, ap, _∙_, sym, subst}
 use mathlib.Core.Logic.{_≢_, _⊎_, inl, inr}
 use mathlib.Core.List.{List, [], _∷_, reverse}
@@ -18,7 +17,7 @@ use Rattle.plan_state.specs.Steps.{backLink}
 use Rattle.basics.specs.Loops.{run}
 use Rattle.basics.specs.Lists.{All}
 use Rattle.basics.proofs.Loops.{All-imp, run-back, run-still}
-use Rattle.process_zone.specs.Plan.{Plan, load}
+use Rattle.plan_rules.specs.Plan.{Plan, load}
 use Rattle.plan_state.specs.Held.{Area, area, View, view, Does}
 use Rattle.plan_state.proofs.Stores.{does-as, does-then}
 use Rattle.plan_trade.specs.Search.{Seeking, seekOf, Idle, Within}

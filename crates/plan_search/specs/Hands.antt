@@ -6,7 +6,7 @@ use mathlib.Core.List.{List}
 use lib.ListN.{getD}
 use lib.Ieee.{nan}
 use Rattle.basics.specs.Loops.{run, upFrom}
-use Rattle.process_zone.specs.Plan.{Seek, settled}
+use Rattle.plan_rules.specs.Plan.{Seek, settled}
 use Rattle.plan_state.specs.Held.{Area}
 use Rattle.plan_trade.specs.Search.{Seeking, Sought, KeepsMet, KeepsIdle, Passes}
 use Rattle.plan_trade.specs.Steps.{along}

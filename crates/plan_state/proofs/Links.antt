@@ -1,22 +1,19 @@
 -- An edge of a zone is the link at hand, and the edge back is its reverse: no neighbour stands twice in a row. Assumes nothing.
-use Prim.Native.Nat.{ℕ, zero, suc, _+_, _-_, _≤_, _<_}
+use Prim.Native.Nat.{ℕ, _+_, _-_, _≤_, _<_}
 use native.Mathlib.Omega.{arith}
 use native.Mathlib.Decide.{ℕ-discrete}
-use native.Mathlib.Numerals.{add-one}
-use mathlib.Core.Path.{_≡_, refl, ap, ap₂, _∙_, sym, subst}
-use mathlib.Core.Logic.{_≢_}
-use mathlib.Core.List.{List, [], _∷_}
+use mathlib.Core.Path.{_≡_, refl, ap, _∙_, sym, subst}
+use mathlib.Core.List.{List}
 use mathlib.Core.Bool.{Bool, true, false, _&&_, cond}
 use lib.Dec.{T, eqb, eqb→eq}
 use lib.ListN.{length, getD}
-use borrow.Author.Tests.{eq-eqb, ne-eqb, eqb-false}
-use Rattle.basics.specs.Loops.{first, atOr, upFrom}
+use borrow.Author.Tests.{eq-eqb, ne-eqb}
 use Rattle.basics.specs.declared.Spot.{Spot}
 use Rattle.basics.specs.declared.Spot.the-variants.{At, Nowhere}
-use Rattle.basics.specs.Lists.{All, Found}
+use Rattle.basics.specs.Lists.{Found}
 use Rattle.basics.proofs.Loops.{first-found, first-passes}
 use Rattle.board_rules.specs.Board.{Board, end, linksOf}
-use Rattle.process_zone.specs.Edges.{owned, edge}
+use Rattle.plan_rules.specs.Edges.{owned, edge}
 use Rattle.reverse_links.proofs.Firsts.{first-none, first-only, first-nowhere, up-all}
 use Rattle.reverse_links.specs.Reverse.{InRow, Linked, reverseOf, wordOf, Reverses}
 use Rattle.plan_state.specs.Steps.{ownedBy, backLink}

@@ -1,20 +1,18 @@
 -- Loops over the nodes of a zone, which stand past the words that planning changes. Assumes nothing.
-use Prim.Native.Nat.{ℕ, zero, suc, _+_, _-_, _≤_, _<_}
+use Prim.Native.Nat.{ℕ, _+_, _-_, _≤_, _<_}
 use native.Mathlib.Omega.{arith}
 use mathlib.Core.Path.{_≡_, refl, ap, _∙_, sym, subst}
 use mathlib.Core.List.{List}
 use lib.ListN.{length, getD, take, drop, length-drop}
 use lib.Seq.{getD-take, getD-drop, length-take-le}
-use lib.Ieee.{Float}
 use Rattle.basics.specs.Loops.{run}
 use Rattle.basics.proofs.Regions.{cut-rest}
 use Rattle.basics.proofs.Loops.{run-at, run-stop}
 use Rattle.board_rules.specs.Board.{Board}
-use Rattle.process_zone.specs.Plan.{Plan}
-use Rattle.index_set.specs.Line.{Below}
+use Rattle.plan_rules.specs.Plan.{Plan}
 use Rattle.index_set.proofs.Queue.{Below-at}
 use Rattle.reverse_links.specs.Reverse.{Reverses}
-use Rattle.plan_state.specs.Held.{Area, area, wsizes, View, view, Fit, onPlan, Does, Frame, top, Nodes, nodesOf}
+use Rattle.plan_state.specs.Held.{Area, wsizes, View, view, Fit, onPlan, Does, Frame, top, Nodes, nodesOf}
 
 -- ---- in a loop
 

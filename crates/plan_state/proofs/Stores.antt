@@ -1,16 +1,15 @@
 -- Reads and stores of the planning state are reads and stores of one array each, and steps of the plan follow one another. Assumes nothing.
-use Prim.Native.Nat.{ℕ, zero, suc, _+_, _≤_, _<_}
+use Prim.Native.Nat.{ℕ, _+_, _<_}
 use native.Mathlib.Omega.{arith}
-use mathlib.Core.Path.{_≡_, refl, ap, ap₂, _∙_, sym, subst}
-use mathlib.Core.List.{List, [], _∷_}
+use mathlib.Core.Path.{_≡_, refl, ap, ap₂, _∙_}
+use mathlib.Core.List.{List}
 use lib.ListN.{length, getD, set, length-set}
 use lib.Seq.{set-getD}
 use lib.Ieee.{Float, nan}
-use Rattle.basics.specs.Regions.{cut, region, base}
+use Rattle.basics.specs.Regions.{cut, region}
 use Rattle.basics.proofs.Regions.{cut-set, cut-get, cut-length}
-use Rattle.process_zone.specs.Plan.{Plan, store, load, withDelta, withAmount}
-use Rattle.process_zone.specs.declared.MonstermosInfo.{MonstermosInfo}
-use Rattle.plan_state.specs.Pairs.{firsts, seconds}
+use Rattle.plan_rules.specs.Plan.{Plan, store, load, withDelta, withAmount}
+use Rattle.plan_rules.specs.declared.MonstermosInfo.{MonstermosInfo}
 use Rattle.plan_state.specs.Held.{Area, area, wsizes, fsizes, View, viewIn, view, Fit, onPlan, Does, Frame}
 use Rattle.plan_state.proofs.Pairs.{firsts-get, seconds-get, firsts-set, seconds-set, firsts-keep, seconds-keep, firsts-length, seconds-length}
 

@@ -1,8 +1,8 @@
 -- A weight that is altered: in the list of all floats, and in the plan. Assumes nothing.
 use Prim.Native.Nat.{ℕ, _+_, _-_, _≤_, _<_}
 use native.Mathlib.Omega.{arith}
-use mathlib.Core.Path.{_≡_, refl, ap, ap₂, _∙_, sym, subst}
-use mathlib.Core.List.{List, [], _∷_}
+use mathlib.Core.Path.{_≡_, refl, ap, _∙_, sym, subst}
+use mathlib.Core.List.{List, []}
 use mathlib.Core.Logic.{_≢_}
 use mathlib.Core.Bool.{Bool, true, false, cond}
 use native.Mathlib.Decide.{ℕ-discrete}
@@ -17,10 +17,10 @@ use Rattle.basics.specs.declared.Spot.{Spot}
 use Rattle.basics.specs.declared.Spot.the-variants.{At, Nowhere}
 use Rattle.basics.specs.Lists.{Found}
 use Rattle.basics.proofs.Regions.{cut-set, cut-get}
-use Rattle.process_zone.specs.Edges.{alter}
-use Rattle.process_zone.specs.Plan.{Plan, reweigh}
-use Rattle.process_zone.proofs.Sizes.{alter-size}
-use Rattle.plan_state.specs.Held.{Area, area, wsizes, fsizes, View, viewIn, view, Fit, onPlan, Does}
+use Rattle.plan_rules.specs.Edges.{alter}
+use Rattle.plan_rules.specs.Plan.{reweigh}
+use Rattle.plan_laws.proofs.Sizes.{alter-size}
+use Rattle.plan_state.specs.Held.{area, wsizes, fsizes, viewIn, view, Fit, Does}
 use Rattle.plan_state.specs.Steps.{ownedBy, backLink, adjustAt}
 
 -- what a search found, by its case

@@ -7,7 +7,7 @@ use lib.Ieee.{Float}
 use denote.Ref.{RefT}
 use Rattle.basics.specs.Regions.{cut}
 use Rattle.board_rules.specs.Board.{Board, turfCount, linkCount}
-use Rattle.process_zone.specs.Plan.{Plan}
+use Rattle.plan_rules.specs.Plan.{Plan}
 use Rattle.index_set.specs.Line.{Below}
 use Rattle.reverse_links.specs.Reverse.{Linked, Reverses}
 use Rattle.plan_state.specs.Pairs.{firsts, seconds}

@@ -6,12 +6,12 @@ ghost use Prim.Native.Nat.{_+_, _≤_, _<_};
 ghost use lib.ListN.{length, getD, take, drop};
 ghost use Rattle.basics.specs.Lists.{Found};
 ghost use Rattle.basics.specs.Floats.{_+f_, _-f_};
-ghost use Rattle.process_zone.specs.Edges.{alter};
-ghost use Rattle.process_zone.specs.Plan.{load, store};
+ghost use Rattle.plan_rules.specs.Edges.{alter};
+ghost use Rattle.plan_rules.specs.Plan.{load, store};
 ghost use Rattle.plan_state.specs.Held.{areaAt, view, Fit, Does};
 ghost use Rattle.plan_state.specs.Steps.{backLink, adjustAt};
 use basics::Spot;
-use process_zone::MonstermosInfo;
+use plan_rules::MonstermosInfo;
 
 // Where a zone stands: its number, its nodes, the `count` words from `first` on, what they hold together, and the turfs and links of the board.
 pub struct ZoneAt {

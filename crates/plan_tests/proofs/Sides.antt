@@ -1,14 +1,14 @@
 -- A taker's comparisons are a giver's with the signs turned, also of zeros and of NaN: by the cases of a float. Assumes nothing.
-use Prim.Native.Nat.{ℕ, zero, suc, _+_, _*_}
+use Prim.Native.Nat.{ℕ, zero, suc, _+_}
 use native.Mathlib.Omega.{arith}
 use mathlib.Core.Path.{_≡_, refl, ap, _∙_}
 use mathlib.Core.Bool.{Bool, true, false, not, _||_}
 use lib.Dec.{ltb, leb·zero, leb·suc-zero, leb·suc-suc, eqb·zero-suc, eqb·suc-zero}
 use lib.Ieee.{Float, nan, inf, fin, neg, lt, le, eq, ofBits, below, level}
 use Rattle.basics.specs.Floats.{0f}
-use Rattle.process_zone.specs.Plan.{settled, wants, more}
-use Rattle.process_zone.specs.declared.Side.{Side}
-use Rattle.process_zone.specs.declared.Side.the-variants.{Giving, Taking}
+use Rattle.plan_rules.specs.Plan.{settled, wants, more}
+use Rattle.plan_rules.specs.declared.Side.{Side}
+use Rattle.plan_rules.specs.declared.Side.the-variants.{Giving, Taking}
 use Rattle.plan_tests.specs.Sides.{given}
 
 -- -a < 0, and -a ≤ 0

@@ -1,3 +1,4 @@
 pub mod Trades
 pub mod Lessers
 pub mod Nears
+pub mod Seeks

@@ -4,17 +4,17 @@ use native.Mathlib.Omega.{arith}
 use native.Mathlib.Decide.{ℕ-discrete}
 use mathlib.Core.Path.{_≡_, refl, ap, _∙_, sym, subst}
 use mathlib.Core.Logic.{_≢_}
-use mathlib.Core.List.{List, [], _∷_, _++_}
+use mathlib.Core.List.{List, [], _∷_}
 use mathlib.Core.Bool.{Bool, true, false, not, _&&_, _||_, cond}
 use lib.Dec.{ltb}
 use lib.ListN.{length, getD, set, length-append, List·getD-append}
 use lib.Seq.{getD-set-other, getD-append-seam}
-use borrow.Author.Tests.{ltb-true, ltb-false}
+use borrow.Author.Tests.{ltb-true}
 use Rattle.basics.specs.Loops.{run, times, member, snoc}
 use Rattle.board_rules.specs.Board.{Board, end}
-use Rattle.process_zone.specs.Edges.{edgesOf}
-use Rattle.process_zone.specs.Plan.{Plan, Seek, stopped, meet, seekTo, seekLink, seekRow, seekNext}
-use Rattle.process_zone.specs.declared.Side.{Side}
+use Rattle.plan_rules.specs.Edges.{edgesOf}
+use Rattle.plan_rules.specs.Plan.{Seek, stopped, meet, seekTo, seekLink, seekRow, seekNext}
+use Rattle.plan_rules.specs.declared.Side.{Side}
 use Rattle.index_set.proofs.Queue.{not-member}
 use Rattle.plan_trade.proofs.Trades.{meet-direction}
 

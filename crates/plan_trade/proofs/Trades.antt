@@ -1,7 +1,7 @@
 -- A turf that is met: what the code stores is what the definition stores, but for numbers that stay. Assumes nothing.
-use Prim.Native.Nat.{ℕ, _+_, _≤_, _<_}
+use Prim.Native.Nat.{ℕ, _+_, _<_}
 use native.Mathlib.Decide.{ℕ-discrete}
-use mathlib.Core.Path.{_≡_, refl, ap, _∙_, sym, subst}
+use mathlib.Core.Path.{_≡_, ap, _∙_, sym}
 use mathlib.Core.Logic.{_≢_}
 use mathlib.Core.List.{List}
 use mathlib.Core.Bool.{Bool, true, false, cond}
@@ -9,9 +9,9 @@ use lib.ListN.{length, getD, set, length-set}
 use lib.Seq.{set-getD, getD-set-same, getD-set-other}
 use lib.Ieee.{Float, nan}
 use Rattle.basics.specs.Floats.{0f, _+f_, _-f_}
-use Rattle.process_zone.specs.Plan.{Plan, load, store, withDelta, wants, more, trade, meet}
-use Rattle.process_zone.specs.declared.MonstermosInfo.{MonstermosInfo}
-use Rattle.process_zone.specs.declared.Side.{Side}
+use Rattle.plan_rules.specs.Plan.{Plan, load, store, withDelta, wants, more, trade, meet}
+use Rattle.plan_rules.specs.declared.MonstermosInfo.{MonstermosInfo}
+use Rattle.plan_rules.specs.declared.Side.{Side}
 use Rattle.plan_state.specs.Held.{Area, area, view, Fit, Does}
 use Rattle.plan_state.proofs.Stores.{does-as, does-then, store-same, amount-set, direction-set, delta-at}
 use Rattle.plan_trade.specs.declared.Both.{Both}

@@ -6,8 +6,8 @@ use mathlib.Core.List.{List}
 use lib.ListN.{length, getD, take}
 use lib.Ieee.{nan, ne}
 use Rattle.basics.specs.Floats.{0f}
-use Rattle.process_zone.specs.Plan.{Plan, Seek, settled}
-use Rattle.process_zone.specs.declared.Side.{Side}
+use Rattle.plan_rules.specs.Plan.{Plan, Seek, settled}
+use Rattle.plan_rules.specs.declared.Side.{Side}
 use Rattle.index_set.specs.Line.{Line}
 use Rattle.reverse_links.specs.Reverse.{InRow}
 use Rattle.plan_state.specs.Held.{Area, View, view, Fit, Frame}

@@ -4,16 +4,16 @@ ghost use mathlib.Core.Bool.{false, cond};
 ghost use Prim.Native.Nat.{_<_};
 ghost use lib.Ieee.{nan};
 ghost use lib.ListN.{getD};
-ghost use Rattle.process_zone.specs.Plan.{settled, wants, trade, meet};
+ghost use Rattle.plan_rules.specs.Plan.{settled, wants, trade, meet};
 ghost use Rattle.plan_state.specs.Held.{areaAt, view, Fit, Does};
 ghost use Rattle.plan_trade.specs.Steps.{lesser, bargain, point};
+use plan_rules::MonstermosInfo;
+use plan_rules::Side;
 use plan_state::load;
 use plan_state::store;
 use plan_tests::more;
 use plan_tests::settled;
 use plan_tests::wants;
-use process_zone::MonstermosInfo;
-use process_zone::Side;
 
 // The turf in hand and the turf that is met.
 pub struct Both {

@@ -1,16 +1,16 @@
 -- Counting givers: who doesn't give takes. Assumes nothing.
-use Prim.Native.Nat.{ℕ, zero, suc, _+_, _-_, _≤_, _<_}
+use Prim.Native.Nat.{ℕ, suc, _+_, _-_, _≤_, _<_}
 use native.Mathlib.Omega.{arith}
 use native.Mathlib.Numerals.{add-one}
-use mathlib.Core.Path.{_≡_, refl, ap, _∙_, sym}
+use mathlib.Core.Path.{_≡_, refl}
 use mathlib.Core.List.{List, [], _∷_}
 use mathlib.Core.Bool.{Bool, true, false, not, cond}
 use lib.ListN.{length, getD, drop, drop-of-length-le}
 use lib.Seq.{drop-cons}
 use lib.Ieee.{Float, nan}
 use Rattle.basics.specs.Loops.{keep, consIf}
-use Rattle.process_zone.specs.Plan.{Plan, gives, picks, chosen}
-use Rattle.process_zone.specs.declared.Side.the-variants.{Giving, Taking}
+use Rattle.plan_rules.specs.Plan.{Plan, gives, picks, chosen}
+use Rattle.plan_rules.specs.declared.Side.the-variants.{Giving, Taking}
 use Rattle.plan_state.specs.Held.{Area, area, view, Nodes, nodesOf}
 use Rattle.plan_state.proofs.Stores.{delta-at}
 use Rattle.plan_state.proofs.Nodes.{nodes-length, node-at, node-below}

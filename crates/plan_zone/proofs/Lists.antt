@@ -1,11 +1,10 @@
 -- The list of givers or takers, and what is done for each of it. Assumes nothing.
-use Prim.Native.Nat.{ℕ, zero, suc, _+_, _-_, _≤_, _<_}
+use Prim.Native.Nat.{ℕ, _+_, _-_, _≤_, _<_}
 use native.Mathlib.Omega.{arith}
 use native.Mathlib.Numerals.{add-one}
-use mathlib.Core.Path.{_≡_, refl, ap, ap₂, _∙_, sym, subst}
+use mathlib.Core.Path.{_≡_, refl, ap, ap₂, _∙_, sym}
 use mathlib.Core.List.{List, [], _∷_, _++_, append-nil, append-assoc}
-use mathlib.Core.Bool.{Bool, true, false, not, _&&_, cond}
-use lib.Dec.{ltb}
+use mathlib.Core.Bool.{Bool, true, false, cond}
 use lib.ListN.{length, getD, set, take, drop, length-set, drop-of-length-le}
 use lib.Seq.{getD-take, length-take-le, drop-cons, take-suc-set}
 use lib.Ieee.{Float, nan}
@@ -15,13 +14,13 @@ use Rattle.basics.specs.Regions.{cut}
 use Rattle.basics.proofs.Regions.{cut-set, cut-length}
 use Rattle.basics.proofs.Loops.{run-at, run-stop}
 use Rattle.board_rules.specs.Board.{Board}
-use Rattle.process_zone.specs.Plan.{Plan, picks, chosen, serve, fastTurf, log2, fastPass, shareOut}
-use Rattle.process_zone.specs.declared.Side.{Side}
-use Rattle.process_zone.specs.declared.Side.the-variants.{Giving, Taking}
+use Rattle.plan_rules.specs.Plan.{Plan, picks, chosen, serve, fastTurf, log2, fastPass, shareOut}
+use Rattle.plan_rules.specs.declared.Side.{Side}
+use Rattle.plan_rules.specs.declared.Side.the-variants.{Giving, Taking}
 use Rattle.index_set.specs.Line.{Below}
 use Rattle.index_set.proofs.Queue.{Below-at}
-use Rattle.plan_state.specs.Held.{Area, area, wsizes, fsizes, View, viewIn, view, Fit, Does, Frame, Serves, top, Nodes, nodesOf}
-use Rattle.plan_state.proofs.Stores.{frame-none, frame-then, does-none, does-as, does-frame, delta-at, list-at}
+use Rattle.plan_state.specs.Held.{Area, area, wsizes, fsizes, View, viewIn, view, Fit, Does, Frame, Serves, Nodes, nodesOf}
+use Rattle.plan_state.proofs.Stores.{frame-none, frame-then, does-none, does-as, delta-at, list-at}
 use Rattle.plan_state.proofs.Nodes.{nodes-length, node-at, node-below, nodes-same, nodes-kept}
 use Rattle.plan_zone.specs.Zone.{Picked, Plans}
 use Rattle.plan_tests.specs.Sides.{sideOf}

@@ -5,7 +5,7 @@ use mathlib.Core.List.{List}
 use lib.Ieee.{Float}
 use Rattle.basics.specs.Floats.{0f, _-f_, _/f_, ofCount}
 use Rattle.board_rules.specs.Board.{Board}
-use Rattle.process_zone.specs.Plan.{store, fastPass, shareOut, deltas, planZone}
+use Rattle.plan_rules.specs.Plan.{store, fastPass, shareOut, deltas, planZone}
 use Rattle.plan_state.specs.Held.{Area, View, view, Does, Nodes, nodesOf}
 use Rattle.plan_state.proofs.Stores.{does-as, does-frame, frame-then}
 use Rattle.plan_state.proofs.Nodes.{nodes-length}

@@ -5,7 +5,7 @@ use mathlib.Core.List.{List}
 use lib.ListN.{length, getD, take}
 use lib.Ieee.{Float}
 use Rattle.basics.specs.Floats.{_/f_, ofCount}
-use Rattle.process_zone.specs.Plan.{Plan}
+use Rattle.plan_rules.specs.Plan.{Plan}
 use Rattle.plan_state.specs.Held.{Area, view, Fit, Frame}
 use Rattle.plan_state.specs.declared.ZoneAt.{ZoneAt}
 

@@ -12,9 +12,9 @@ use Rattle.events.specs.Interface.{WriteEvent, readEvent, writeEvent}
 use Rattle.event_rules.specs.declared.Event.{Event}
 use Rattle.event_rules.specs.declared.Reading.{Reading}
 use Rattle.lent_rules.specs.Lent.{Lent, Result, Extra, refusal}
-use Rattle.equalize.specs.Equalize.{Ask}
-use Rattle.equalize.specs.Result.{equalizeResult}
-use Rattle.equalize.specs.declared.EqualizeAnswer.{EqualizeAnswer}
+use Rattle.equalize_rules.specs.Equalize.{Ask}
+use Rattle.equalize_rules.specs.Result.{equalizeResult}
+use Rattle.equalize_rules.specs.declared.EqualizeAnswer.{EqualizeAnswer}
 use Rattle.depressurize_rules.specs.Depressurize.{depressurizeResult}
 use Rattle.depressurize_rules.specs.declared.DepressurizeAnswer.{DepressurizeAnswer}
 use Rattle.planet_rules.specs.Planet.{planetResult}

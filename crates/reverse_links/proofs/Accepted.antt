@@ -1,18 +1,16 @@
 -- What refusal 4 leaves of the links, place by place. Assumes nothing.
 use Prim.Native.Nat.{ℕ, zero, suc, _+_, _-_, _≤_, _<_}
 use native.Mathlib.Omega.{arith}
-use native.Mathlib.Numerals.{add-one}
 use native.Mathlib.Nat.{not-suc-le-zero, le-of-suc-le-suc, le-of-eq, zero-add}
 use native.Mathlib.Decide.{ℕ-discrete}
 use mathlib.Core.Path.{_≡_, refl, ap, _∙_, sym, subst}
-use mathlib.Core.Logic.{_≢_}
 use mathlib.Core.List.{List, [], _∷_}
-use mathlib.Core.Bool.{Bool, true, false, not, _&&_, _||_}
+use mathlib.Core.Bool.{Bool, true, false, not}
 use lib.Dec.{T, eqb, ltb, eqb→eq, ltb→lt}
 use lib.Ieee.Bits.{is-true}
-use lib.ListN.{length, getD, take, drop, length-drop}
+use lib.ListN.{length, getD, drop, length-drop}
 use lib.Seq.{getD-take, getD-drop, length-take-le}
-use Rattle.basics.specs.Loops.{every, allOf, upFrom, member}
+use Rattle.basics.specs.Loops.{upFrom, member}
 use Rattle.basics.specs.Lists.{All}
 use Rattle.basics.proofs.Loops.{All-getD, every-all, and-left, and-right, all-of}
 use Rattle.basics.proofs.Lists.{at-member}

@@ -12,8 +12,8 @@ use Rattle.lent_rules.specs.Lent.{Lent, refusal}
 use Rattle.lent.specs.Given.{lent}
 use Rattle.plan_all.specs.Zones.{Plannable, Zoned, PlansAll}
 use Rattle.plan_all.proofs.Asked.{plan-asks}
-use Rattle.equalize.specs.Equalize.{Ask, fillAll}
-use Rattle.equalize.specs.Result.{equalizeNumber}
+use Rattle.equalize_rules.specs.Equalize.{Ask, fillAll}
+use Rattle.equalize_rules.specs.Result.{equalizeNumber}
 use Rattle.equalize.proofs.Zones.{test-room}
 use Rattle.equalize.proofs.Room.{requests-bytes}
 use Rattle.fill_all.specs.Held.{start, FillsAll}

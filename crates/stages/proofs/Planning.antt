@@ -7,7 +7,7 @@ use Rattle.plan_all.proofs.Calls.{planned-filled}
 use Rattle.fill_all.specs.Held.{FillsAll}
 use Rattle.fill_all.specs.declared.Filling.{Filling}
 use Rattle.fill_all.proofs.Words.{zones-are, owners-are}
-use Rattle.equalize.specs.Equalize.{Ask, fillAll}
+use Rattle.equalize_rules.specs.Equalize.{Ask, fillAll}
 use Rattle.plan_all.specs.Zones.{PlansAll}
 use Rattle.stages.specs.Stages.{Planned}
 

@@ -10,8 +10,8 @@ use Rattle.lent_rules.specs.Lent.{Lent}
 use Rattle.reverse_links.specs.Reverse.{Reverses}
 use Rattle.reverse_links.specs.Words.{But}
 use Rattle.plan_state.specs.Held.{area, view, top}
-use Rattle.equalize.specs.Equalize.{Ask, fillAll, planAll, bit}
-use Rattle.equalize.specs.Result.{equalizeNumber}
+use Rattle.equalize_rules.specs.Equalize.{Ask, fillAll, planAll, bit}
+use Rattle.equalize_rules.specs.Result.{equalizeNumber}
 use Rattle.fill_all.specs.Held.{start, FillsAll}
 use Rattle.fill_all.specs.declared.Filling.{Filling}
 

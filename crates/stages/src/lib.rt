@@ -10,7 +10,7 @@ ghost use mathlib.Core.List.{[]};
 ghost use Prim.Native.Nat.{ℕ};
 ghost use Rattle.turfs.specs.Tables.{board, boardAt};
 ghost use Rattle.lent.specs.Given.{lentAt};
-ghost use Rattle.equalize.specs.Result.{equalizeNumber};
+ghost use Rattle.equalize_rules.specs.Result.{equalizeNumber};
 ghost use Rattle.fill_all.specs.Held.{ask, asked};
 ghost use Rattle.stages.specs.Stages.{Fills, Few, fillNumbers, FillAnswers, Plans, PlanAnswers};
 

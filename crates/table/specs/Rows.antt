@@ -15,9 +15,9 @@ use Rattle.event_rules.specs.declared.Event.{Event}
 use Rattle.event_rules.specs.declared.Event.the-variants.{DepressurizeWanted, PlanetWanted, Pressure, Firelock, Target, HighPressure, FloorRip}
 use Rattle.lent_rules.specs.Lent.{Lent, wordsRoom, floatsRoom}
 use Rattle.lent_rules.specs.Worked.{lend, lessArea, lessWords, lessFloats}
-use Rattle.equalize.specs.Equalize.{Ask, fillAll, planAll}
-use Rattle.equalize.specs.Result.{equalizeRoom}
-use Rattle.equalize.specs.Worked.{ask, limited, allowed, threshold, done, cancelled, equalizes, refused}
+use Rattle.equalize_rules.specs.Equalize.{Ask, fillAll, planAll}
+use Rattle.equalize_rules.specs.Result.{equalizeRoom}
+use Rattle.equalize_rules.specs.Worked.{ask, limited, allowed, threshold, done, cancelled, equalizes, refused}
 use Rattle.planet_rules.specs.Planet.{planetRoom}
 use Rattle.planet_rules.specs.Worked.{walksPlanet}
 use Rattle.depressurize_rules.specs.Depressurize.{depressurizeRoom}

@@ -8,7 +8,7 @@ use borrow.Author.Tests.{not-true, not-false}
 use borrow.Author.Needs.{needs}
 use Rattle.reverse_links.specs.Words.{But}
 use Rattle.reverse_links.proofs.Places.{but-none}
-use Rattle.finalize_eq.specs.Turns.{Zone}
+use Rattle.finish_rules.specs.Turns.{Zone}
 use Rattle.apart.proofs.Pass.{marked-but, row-now, Going, going-start, going-next, going-fails, going-end}
 use Rattle.apart.proofs.zone_apart.Statement.{statement}
 use Rattle.apart.proofs.zone_apart.Tie as tie

@@ -11,7 +11,7 @@ use borrow.Author.Tests.{not-true, not-false}
 use borrow.Author.Needs.{needs}
 use Rattle.reverse_links.specs.Words.{But}
 use Rattle.reverse_links.proofs.Places.{but-none, but-then}
-use Rattle.finalize_eq.specs.Turns.{Zone}
+use Rattle.finish_rules.specs.Turns.{Zone}
 use Rattle.apart.proofs.Pass.{marks-start, end-before, start-before, rows-now, zone-next, apart-true, apart-false}
 use Rattle.apart.proofs.zones_apart.Statement.{statement}
 use Rattle.apart.proofs.zones_apart.Tie as tie

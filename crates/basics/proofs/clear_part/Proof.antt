@@ -29,7 +29,10 @@ same-length : tie.Need-same-length
 same-length c = search needs
 
 returns : tie.Need-returns
-returns c = part-cleared (c .before .before .before .before .before .args .at) (c .before .before .before .before .before .args .n) (c .before .before .before .before .before .args .at + c .before .before .before .before .before .args .n - c .before .before .before .before .before .args .at) (now (c .before .before .before .before .before .args .words)) (c .before .before .clear .last .0) (c .before .before .before .before .before .pre) (omega arith) (c .before .before .clear .ensures)
+returns c =
+    let entry = c .before .before .before .before .before in
+    let clear = c .before .before .clear in
+    part-cleared (entry .args .at) (entry .args .n) (entry .args .at + entry .args .n - entry .args .at) (now (entry .args .words)) (clear .last .0) (entry .pre) (omega arith) (clear .ensures)
 
 pub clear-part-spec : {M : Type 1} → statement M
 clear-part-spec =

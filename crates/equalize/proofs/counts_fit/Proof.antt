@@ -8,11 +8,9 @@ use Rattle.equalize.proofs.counts_fit.Tie as tie
 use Rattle.equalize.proofs.counts_fit.Reads as reads
 use Rattle.equalize.proofs.counts_fit.Lts as lts
 
--- src/lib.rt:27:9
 returns : tie.Need-returns
 returns c = sym (ap (λ (t : Bool). t && leb (c .before .args .turns) 65536) (lt-leb _ _ (c .if1 .taken)))
 
--- src/lib.rt:23:1
 returns-2 : tie.Need-returns-2
 returns-2 c = sym (ap (λ (t : Bool). t && leb (c .before .args .turns) 65536) (le-leb _ _ (c .if1 .left)))
 

@@ -9,19 +9,15 @@ use Rattle.equalize.proofs.counts_fit.Reads as counts-fit-reads
 use Rattle.mixture.proofs.finite_sign_clear.Reads as finite-sign-clear-reads
 use Rattle.turfs.proofs.refuse.ascending.Reads as ascending-reads
 
--- src/lib.rt:37:16
 counts-fit-requires : tie.Need-counts-fit-requires
 counts-fit-requires c κs = search needs
 
--- src/lib.rt:38:20
 finite-sign-clear-requires : tie.Need-finite-sign-clear-requires
 finite-sign-clear-requires c κs = search needs
 
--- src/lib.rt:39:14
 ascending-requires : tie.Need-ascending-requires
 ascending-requires c κs = search needs
 
--- src/lib.rt:33:1
 returns : tie.Need-returns
 returns c = extra-of (c .before .before .counts-fit .ensures) (c .before .finite-sign-clear .ensures) (c .ascending .ensures)
 

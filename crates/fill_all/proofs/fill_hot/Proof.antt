@@ -3,7 +3,7 @@ use Rattle.turfs.specs.Tables.{table, boardOf}
 use Rattle.fill_all.specs.Held.{asked, Fills}
 use native.Mathlib.Omega.{arith}
 use Rattle.fill_all.proofs.Loop.{loop-start, loop-open, loop-next, loop-over, loop-end}
-use Rattle.equalize.specs.Equalize.{hotId}
+use Rattle.equalize_rules.specs.Equalize.{hotId}
 use Rattle.events.proofs.Areas.{wrote-length}
 use Rattle.basics.specs.Loops.{run}
 use lib.ListN.{length, take}

@@ -4,7 +4,7 @@ use native.Mathlib.Omega.{arith}
 use lib.ListN.{length, take}
 use denote.Ref.{now}
 use borrow.Author.Needs.{needs}
-use Rattle.finalize_eq.specs.Lifted.{pending}
+use Rattle.finish_rules.specs.Lifted.{pending}
 use Rattle.turfs.specs.Tables.{boardOf, table}
 use Rattle.finish_send.specs.Areas.{areas}
 use Rattle.finish_turf.proofs.Turf.{links-room, clear-room, saved-size, quiet-finishes, lifted-going, sent-finishes, fell, givers-begun, rest-going, rest-finishes}
@@ -438,8 +438,10 @@ finalize-eq-finalize-eq-neighbors-requires t c κs =
     let save = c .before .before .before .before .before .before .before .before .before .before .before .before .before .before .before .before .before .before .before .before .save in
     let clear-weights2 = c .before .before .before .before .before .before .before .before .before .before .before .before .before .before .before .before .clear-weights2 in
     let send-edges = c .before .before .before .before .before .before .before .before .before .before .send-edges in
-    let if2 = c .before .before .before .if2 in
-    (omega (arith, entry .pre .0, fell _ _ _ _ _ (entry .pre .1) _ _ _ (lifted-at .ensures) (links-of .ensures .0) (links-of .ensures .1) _ (next-edge .ensures) (if1 .left) _ _ (save .ensures) (clear-weights2 .ensures) _ _ (send-edges .ensures) (if2 .left)), givers-begun _ _ _ _ _ (entry .pre .1) _ _ _ (lifted-at .ensures) (links-of .ensures .0) (links-of .ensures .1) _ (next-edge .ensures) (if1 .left) _ _ (save .ensures) (clear-weights2 .ensures) _ _ (send-edges .ensures) (if2 .left))
+    let if2 = c .before .before .before .if2 in (
+      omega (arith, entry .pre .0, fell _ _ _ _ _ (entry .pre .1) _ _ _ (lifted-at .ensures) (links-of .ensures .0) (links-of .ensures .1) _ (next-edge .ensures) (if1 .left) _ _ (save .ensures) (clear-weights2 .ensures) _ _ (send-edges .ensures) (if2 .left)),
+      givers-begun _ _ _ _ _ (entry .pre .1) _ _ _ (lifted-at .ensures) (links-of .ensures .0) (links-of .ensures .1) _ (next-edge .ensures) (if1 .left) _ _ (save .ensures) (clear-weights2 .ensures) _ _ (send-edges .ensures) (if2 .left),
+    )
 
 finalize-eq-send-edges-requires-2 : (t : ℕ) → finalize-eq-lts.Need-send-edges-requires-2 (
   links-of-reads.Asked,

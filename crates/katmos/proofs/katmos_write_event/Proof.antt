@@ -9,21 +9,19 @@ use Rattle.katmos.proofs.katmos_write_event.Reads as reads
 use Rattle.katmos.proofs.katmos_write_event.Lts as lts
 use Rattle.events.proofs.write_event.Reads as write-event-reads
 
--- src/lib.rt:121:13
 write-event-requires : tie.Need-write-event-requires
 write-event-requires c κs = search needs
 
--- src/lib.rt:123:5
 array-read-result : tie.Need-array-read-result
 array-read-result c = search needs
 
--- src/lib.rt:108:1
 same-length : tie.Need-same-length
 same-length c = search needs
 
--- src/lib.rt:108:1
 returns : tie.Need-returns
-returns c = (c .before .before .write-event .ensures, ap (λ (p : WriteEvent). getD (p .answer) 0 0) (c .before .before .write-event .ensures))
+returns c =
+    let write-event = c .before .before .write-event in
+    (write-event .ensures, ap (λ (p : WriteEvent). getD (p .answer) 0 0) (write-event .ensures))
 
 pub katmos-write-event-spec : {M : Type 1} → statement M
 katmos-write-event-spec =

@@ -1,7 +1,7 @@
 -- The loop's invariant: the rows left, from here on, come to all rows from the end. Assumes nothing.
-use Prim.Native.Nat.{_≤_, _<_, _-_, _+_}
+use Prim.Native.Nat.{_≤_, _-_}
 use native.Mathlib.Omega.{arith}
-use mathlib.Core.Path.{_≡_, refl, _∙_, sym}
+use mathlib.Core.Path.{_≡_, refl, _∙_}
 use mathlib.Core.List.{reverse}
 use lib.ListN.{length, take, drop}
 use borrow.Author.Needs.{needs}

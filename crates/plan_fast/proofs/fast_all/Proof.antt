@@ -1,12 +1,11 @@
 -- The loop's invariant: the nodes left, from here on, come to all nodes from the start. Assumes nothing.
-use Prim.Native.Nat.{ℕ, _≤_, _<_, _-_, _+_}
+use Prim.Native.Nat.{_≤_, _-_}
 use native.Mathlib.Omega.{arith}
 use mathlib.Core.Path.{_≡_, refl, _∙_}
-use mathlib.Core.List.{List}
 use lib.ListN.{length, drop}
 use Rattle.basics.specs.Loops.{run}
 use Rattle.turfs.specs.Tables.{boardOf}
-use Rattle.process_zone.specs.Plan.{fastTurf}
+use Rattle.plan_rules.specs.Plan.{fastTurf}
 use Rattle.plan_state.specs.Held.{area, view, nodesOf}
 use Rattle.plan_state.proofs.Nodes.{Onto, onto-start, onto-next, onto-end, onto-frame, reverses-kept, now-below, walk-next, walk-end}
 use Rattle.plan_fast.proofs.fast_all.Statement.{statement}

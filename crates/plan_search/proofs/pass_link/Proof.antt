@@ -4,7 +4,7 @@ use native.Mathlib.Omega.{arith}
 use mathlib.Core.Path.{_∙_, refl, sym}
 use mathlib.Core.Bool.{true≢false}
 use lib.ListN.{length-set}
-use Rattle.plan_search.proofs.Seeks.{link-holds, link-room, push-fit}
+use Rattle.plan_trade.proofs.Seeks.{link-holds, link-room, push-fit}
 use Rattle.plan_search.proofs.Passes.{pass-foreign, pass-queued, pass-new}
 use borrow.Author.Needs.{needs}
 use Rattle.plan_search.proofs.pass_link.Statement.{statement}

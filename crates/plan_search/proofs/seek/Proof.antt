@@ -1,10 +1,10 @@
 -- The loop's invariant: the turns left, from here on, come to all turns from the start; n turns are enough, as no row joins twice. Assumes nothing.
-use Prim.Native.Nat.{_≤_, _<_, _-_, _+_}
+use Prim.Native.Nat.{_-_}
 use native.Mathlib.Omega.{arith}
-use mathlib.Core.Path.{_≡_, refl, _∙_, sym, ap}
-use lib.ListN.{length, getD}
+use mathlib.Core.Path.{_≡_, refl, _∙_, sym}
+use lib.ListN.{length}
 use Rattle.turfs.specs.Tables.{table, boardOf}
-use Rattle.process_zone.specs.Plan.{seekNext}
+use Rattle.plan_rules.specs.Plan.{seekNext}
 use Rattle.plan_state.specs.Held.{area, view}
 use Rattle.plan_trade.specs.Search.{AllMet, Idle}
 use Rattle.plan_search.proofs.Rows.{sought-as, links-are, links-lead}

@@ -4,7 +4,7 @@ use native.Mathlib.Omega.{arith}
 use mathlib.Core.Path.{_∙_, refl, sym}
 use lib.ListN.{length-set}
 use Rattle.plan_trade.specs.Steps.{along}
-use Rattle.plan_search.proofs.Seeks.{keeps-none, idle-none, link-foreign, link-holds, link-queued, link-room, push-fit, link-new, link-keeps, link-idle, link-open}
+use Rattle.plan_trade.proofs.Seeks.{keeps-none, idle-none, link-foreign, link-holds, link-queued, link-room, push-fit, link-new, link-keeps, link-idle, link-open}
 use borrow.Author.Needs.{needs}
 use Rattle.plan_search.proofs.seek_link.Statement.{statement}
 use Rattle.plan_search.proofs.seek_link.Tie as tie

@@ -2,7 +2,7 @@
 use native.Mathlib.Omega.{arith}
 use mathlib.Core.Path.{_∙_}
 use Rattle.turfs.specs.Tables.{boardOf}
-use Rattle.plan_search.proofs.Skips.{rows-later, first-few, low-few, skipped}
+use Rattle.plan_search.proofs.Skips.{rows-later, low-few, skipped}
 use Rattle.plan_search.proofs.Serves.{points-nowhere, moves-nothing, begun, begun-met, begun-idle, searched-near, reverses-after, rows-within, drained-by-edges, served}
 use borrow.Author.Needs.{needs}
 use Rattle.plan_search.proofs.serve.Statement.{statement}

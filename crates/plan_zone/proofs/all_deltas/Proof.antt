@@ -1,7 +1,7 @@
 -- The loop's invariant: the nodes left, from here on, come to all nodes from the start. Assumes nothing.
-use Prim.Native.Nat.{ℕ, _≤_, _<_, _-_, _+_}
+use Prim.Native.Nat.{ℕ, _≤_, _-_}
 use native.Mathlib.Omega.{arith}
-use mathlib.Core.Path.{_≡_, refl, _∙_, sym}
+use mathlib.Core.Path.{_≡_, refl, _∙_}
 use mathlib.Core.List.{List}
 use lib.ListN.{length, drop}
 use lib.Ieee.{Float}
@@ -10,7 +10,7 @@ use Rattle.basics.specs.Loops.{run}
 use Rattle.board_rules.specs.Board.{Board}
 use Rattle.turfs.specs.Tables.{boardOf}
 use Rattle.mixture_rules.specs.Mixture.{total}
-use Rattle.process_zone.specs.Plan.{Plan, store, deltas}
+use Rattle.plan_rules.specs.Plan.{Plan, store, deltas}
 use Rattle.plan_state.specs.Held.{area, view, nodesOf}
 use Rattle.plan_state.proofs.Nodes.{Onto, onto-start, onto-next, onto-end, onto-frame, now-below, walk-next, walk-end}
 use Rattle.plan_zone.proofs.Whole.{delta-set}

@@ -1,12 +1,12 @@
 -- The loop's invariant: the givers counted and those left are all givers. Assumes nothing.
-use Prim.Native.Nat.{ℕ, _≤_, _<_, _-_, _+_}
+use Prim.Native.Nat.{_≤_, _-_, _+_}
 use native.Mathlib.Omega.{arith}
-use mathlib.Core.Path.{_≡_, refl, _∙_, sym}
+use mathlib.Core.Path.{_≡_, _∙_, sym}
 use lib.ListN.{length, drop, getD}
 use lib.Ieee.{nan}
 use Rattle.basics.specs.Loops.{keep}
-use Rattle.process_zone.specs.Plan.{picks, chosen}
-use Rattle.process_zone.specs.declared.Side.the-variants.{Giving}
+use Rattle.plan_rules.specs.Plan.{picks, chosen}
+use Rattle.plan_rules.specs.declared.Side.the-variants.{Giving}
 use Rattle.plan_state.specs.Held.{area, view, nodesOf}
 use Rattle.plan_state.proofs.Nodes.{node-below}
 use Rattle.plan_zone.proofs.Counts.{count-next, count-end, cond-le}

@@ -1,10 +1,10 @@
 -- The loop's invariant: the list with those left to choose is all that are chosen. Assumes nothing.
-use Prim.Native.Nat.{ℕ, _≤_, _<_, _-_, _+_}
+use Prim.Native.Nat.{_≤_, _-_}
 use native.Mathlib.Omega.{arith}
-use mathlib.Core.Path.{_≡_, refl, _∙_, sym}
+use mathlib.Core.Path.{_≡_, refl, _∙_}
 use lib.ListN.{length, getD}
 use lib.Ieee.{nan}
-use Rattle.process_zone.specs.Plan.{picks}
+use Rattle.plan_rules.specs.Plan.{picks}
 use Rattle.plan_state.specs.Held.{area, view, nodesOf}
 use Rattle.plan_state.proofs.Nodes.{nodes-length}
 use Rattle.plan_zone.proofs.Lists.{Picking, picking-start, picking-next, picking-end, pick-row, pick-below, pick-test}

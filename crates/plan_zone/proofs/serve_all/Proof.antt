@@ -1,12 +1,11 @@
 -- The loop's invariant: the turfs left, from here on, come to all turfs from the start. Assumes nothing.
-use Prim.Native.Nat.{ℕ, _≤_, _<_, _-_, _+_}
+use Prim.Native.Nat.{_≤_, _-_}
 use native.Mathlib.Omega.{arith}
-use mathlib.Core.Path.{_≡_, refl, _∙_, sym}
-use mathlib.Core.List.{List}
+use mathlib.Core.Path.{_≡_, refl, _∙_}
 use lib.ListN.{length, take, drop}
 use Rattle.basics.specs.Loops.{run}
 use Rattle.turfs.specs.Tables.{boardOf}
-use Rattle.process_zone.specs.Plan.{serve}
+use Rattle.plan_rules.specs.Plan.{serve}
 use Rattle.plan_state.specs.Held.{area, view}
 use Rattle.plan_state.proofs.Nodes.{reverses-kept}
 use Rattle.plan_zone.proofs.Lists.{Along, along-start, along-next, along-end, list-below, list-next, list-end}

@@ -1,12 +1,10 @@
 -- The loop's invariant: a search from k on finds what one from `from` on finds. Assumes nothing.
-use Prim.Native.Nat.{ℕ, _-_, _≤_}
-use native.Mathlib.Omega.{arith}
+use Prim.Native.Nat.{_-_}
 use mathlib.Core.Path.{_≡_, refl, ap, _∙_, sym}
 use lib.Dec.{eqb}
 use lib.ListN.{getD}
 use borrow.Author.Tests.{eq-eqb, ne-eqb}
 use borrow.Author.Needs.{needs}
-use Rattle.basics.specs.Loops.{first, upFrom}
 use Rattle.basics.proofs.Loops.{first-here, first-on, first-end}
 use Rattle.reverse_links.specs.Reverse.{wordOf}
 use Rattle.reverse_links.specs.Words.{found}

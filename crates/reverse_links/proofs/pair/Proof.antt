@@ -1,5 +1,5 @@
 -- A word that is not 0 stays; a longer row looks here; else the search's answer is the word of both links. Assumes nothing.
-use Prim.Native.Nat.{ℕ, _+_}
+use Prim.Native.Nat.{_+_}
 use native.Mathlib.Omega.{arith}
 use mathlib.Core.Path.{_∙_, sym}
 use lib.ListN.{getD, length-set}

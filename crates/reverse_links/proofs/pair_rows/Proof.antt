@@ -1,7 +1,7 @@
 -- The loop's invariant: the links of the rows before r were asked for; the last row ends with the last link. Assumes nothing.
 use Prim.Native.Nat.{_+_, _-_, _≤_}
 use native.Mathlib.Omega.{arith}
-use mathlib.Core.Path.{_∙_, sym, ap}
+use mathlib.Core.Path.{_∙_, sym}
 use lib.ListN.{getD}
 use Rattle.reverse_links.specs.Words.{But, Paired}
 use Rattle.reverse_links.proofs.Places.{but-none, but-then}

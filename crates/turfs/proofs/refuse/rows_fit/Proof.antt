@@ -61,8 +61,11 @@ row-fits-requires c κs = search needs
 
 returns : tie.Need-returns Inv-loop μ-loop
 returns c =
-    let s = c .before .before .before .before .before .before .before .before .args in
-    sym (every-up-fails _ _ _ (c .before .before .before .before .loop-test .taken) (row-test (boardOf (now (s .rows)) [] 0) (c .before .before .before .before .before .loop .row) (c .before .before .before .links-of .result .from) (c .before .before .before .links-of .result .to) _ (c .before .row-fits .ensures) (c .before .before .before .links-of .ensures .0) (c .before .before .before .links-of .ensures .1) ∙ not-true _ (c .if1 .taken))) ∙ c .before .before .before .before .before .loop .inv .1
+    let entry = c .before .before .before .before .before .before .before .before in
+    let loop = c .before .before .before .before .before .loop in
+    let links-of = c .before .before .before .links-of in
+    let s = entry .args in
+    sym (every-up-fails _ _ _ (c .before .before .before .before .loop-test .taken) (row-test (boardOf (now (s .rows)) [] 0) (loop .row) (links-of .result .from) (links-of .result .to) _ (c .before .row-fits .ensures) (links-of .ensures .0) (links-of .ensures .1) ∙ not-true _ (c .if1 .taken))) ∙ loop .inv .1
 
 add-row : tie.Need-add-row Inv-loop μ-loop
 add-row c = search needs
@@ -73,7 +76,10 @@ loop-less c = search needs
 loop-again : tie.Need-loop-again Inv-loop μ-loop
 loop-again c =
     let s = c .before .before .before .before .before .before .before .before .args in
-    (search needs, sym (every-up-next _ _ _ (c .before .before .before .before .loop-test .taken) (row-test (boardOf (now (s .rows)) [] 0) (c .before .before .before .before .before .loop .row) (c .before .before .before .links-of .result .from) (c .before .before .before .links-of .result .to) _ (c .before .row-fits .ensures) (c .before .before .before .links-of .ensures .0) (c .before .before .before .links-of .ensures .1) ∙ not-false _ (c .if1 .left))) ∙ c .before .before .before .before .before .loop .inv .1)
+    let at = c .before .before .before .before .before .loop in
+    let links = c .before .before .before .links-of in
+    let fits = row-test (boardOf (now (s .rows)) [] 0) (at .row) (links .result .from) (links .result .to) _ (c .before .row-fits .ensures) (links .ensures .0) (links .ensures .1) in
+    (omega arith, sym (every-up-next _ _ _ (c .before .before .before .before .loop-test .taken) (fits ∙ not-false _ (c .if1 .left))) ∙ at .inv .1)
 
 returns-2 : tie.Need-returns-2 Inv-loop μ-loop
 returns-2 c = sym (every-up-end _ (c .before .loop .row) _ (c .loop-test .left)) ∙ c .before .loop .inv .1

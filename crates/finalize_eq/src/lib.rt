@@ -1,1 +1,0 @@
-// `finalize_eq`, `finalize_eq_neighbors` and the turns: plans are carried out. Their definitions stand in specs/.
