@@ -1,4 +1,4 @@
--- `changes` is safe and ends: the end lies inside the input, whose length a change keeps. What is left falls. Assumes nothing.
+-- A change keeps the length; what is left falls. Assumes nothing.
 use mathlib.Core.Path.{_≡_}
 use Prim.Native.Nat.{_≤_, _-_}
 use lib.ListN.{length}
@@ -7,25 +7,19 @@ use Rattle.replay.proofs.changes.Statement.{statement}
 use Rattle.replay.proofs.changes.Tie as tie
 
 abbrev Inv-loop : tie.InvT-loop
-Inv-loop input₀ at from end t₀ start₀ p₀ input t start p = (length input ≡ length input₀) × (end ≤ length input₀)
+Inv-loop vector₀ from t₀ at₀ vector t at = length vector ≡ length vector₀
 
 abbrev μ-loop : tie.MeasureT-loop
-μ-loop input₀ at from end t₀ start₀ p₀ input t start p = end - p
+μ-loop vector₀ from t₀ at₀ vector t at = length vector₀ - at
 
 loop-holds : tie.Need-loop-holds Inv-loop μ-loop
 loop-holds c = search needs
 
-slice-read-begins : tie.Need-slice-read-begins Inv-loop μ-loop
-slice-read-begins c = search needs
+change-digits-requires : tie.Need-change-digits-requires Inv-loop μ-loop
+change-digits-requires c κs = search needs
 
-begins-requires : tie.Need-begins-requires Inv-loop μ-loop
-begins-requires c κs = search needs
-
-change-requires : tie.Need-change-requires Inv-loop μ-loop
-change-requires c κs = search needs
-
-add-p : tie.Need-add-p Inv-loop μ-loop
-add-p c = search needs
+add-at : tie.Need-add-at Inv-loop μ-loop
+add-at c = search needs
 
 loop-less : tie.Need-loop-less Inv-loop μ-loop
 loop-less c = search needs
@@ -46,10 +40,8 @@ changes-spec =
     Inv-loop
     μ-loop
     loop-holds
-    slice-read-begins
-    begins-requires
-    change-requires
-    add-p
+    change-digits-requires
+    add-at
     loop-less
     loop-again
     same-length

@@ -1,4 +1,4 @@
--- `print_half` is safe: half of a length is at most the length. Assumes nothing.
+-- A half is inside. Assumes nothing.
 use mathlib.Core.Path.{sym}
 use lib.Seq.{length-take-le}
 use borrow.Author.Needs.{needs}
@@ -21,4 +21,6 @@ returns : tie.Need-returns
 returns c = search needs
 
 pub print-half-spec : {M : Type 1} → statement M
-print-half-spec = tie.close (tie.spec slice-aggregate-show show-requires slice-aggregate-print print-requires returns)
+print-half-spec =
+    tie.close
+    (tie.spec slice-aggregate-show show-requires slice-aggregate-print print-requires returns)

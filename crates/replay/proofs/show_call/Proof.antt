@@ -1,14 +1,14 @@
--- `show_call` is safe and ends: there are four calls, and eight numbers a call. Assumes nothing.
+-- There are four calls, and eight numbers a call. Assumes nothing.
 use Prim.Native.Nat.{_-_}
 use borrow.Author.Needs.{needs}
 use Rattle.replay.proofs.show_call.Statement.{statement}
 use Rattle.replay.proofs.show_call.Tie as tie
 
 abbrev Inv-loop : tie.InvT-loop
-Inv-loop name counts call i₀ t6 t7 i = Unit {0}
+Inv-loop name counts call i₀ t6 t7 t8 i = Unit {0}
 
 abbrev μ-loop : tie.MeasureT-loop
-μ-loop name counts call i₀ t6 t7 i = 8 - i
+μ-loop name counts call i₀ t6 t7 t8 i = 8 - i
 
 show-requires : tie.Need-show-requires Inv-loop μ-loop
 show-requires c κs = search needs
@@ -37,20 +37,23 @@ slice-aggregate-show c = search needs
 show-requires-2 : tie.Need-show-requires-2 Inv-loop μ-loop
 show-requires-2 c κs = search needs
 
-mul-show-number : tie.Need-mul-show-number Inv-loop μ-loop
-mul-show-number c = search needs
+mul-show-count-3 : tie.Need-mul-show-count-3 Inv-loop μ-loop
+mul-show-count-3 c = search needs
 
-add-show-number : tie.Need-add-show-number Inv-loop μ-loop
-add-show-number c = search needs
+add-show-count : tie.Need-add-show-count Inv-loop μ-loop
+add-show-count c = search needs
 
-mul-show-number-2 : tie.Need-mul-show-number-2 Inv-loop μ-loop
-mul-show-number-2 c = search needs
+mul-show-count-4 : tie.Need-mul-show-count-4 Inv-loop μ-loop
+mul-show-count-4 c = search needs
 
-element-copy-out-show-number : tie.Need-element-copy-out-show-number Inv-loop μ-loop
-element-copy-out-show-number c = search needs
+element-copy-out-show-count-2 : tie.Need-element-copy-out-show-count-2 Inv-loop μ-loop
+element-copy-out-show-count-2 c = search needs
 
-show-number-requires : tie.Need-show-number-requires Inv-loop μ-loop
-show-number-requires c κs = search needs
+slice-aggregate-show-count-2 : tie.Need-slice-aggregate-show-count-2 Inv-loop μ-loop
+slice-aggregate-show-count-2 c = search needs
+
+show-count-requires-2 : tie.Need-show-count-requires-2 Inv-loop μ-loop
+show-count-requires-2 c κs = search needs
 
 add-i : tie.Need-add-i Inv-loop μ-loop
 add-i c = search needs
@@ -85,11 +88,12 @@ show-call-spec =
     loop-holds
     slice-aggregate-show
     show-requires-2
-    mul-show-number
-    add-show-number
-    mul-show-number-2
-    element-copy-out-show-number
-    show-number-requires
+    mul-show-count-3
+    add-show-count
+    mul-show-count-4
+    element-copy-out-show-count-2
+    slice-aggregate-show-count-2
+    show-count-requires-2
     add-i
     loop-less
     loop-again

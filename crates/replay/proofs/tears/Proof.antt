@@ -1,6 +1,6 @@
--- `tears` is safe and ends: the end lies inside the input. What is left falls. Assumes nothing.
-use Prim.Native.Nat.{_≤_, _-_}
+-- What is left falls. Assumes nothing.
 use mathlib.Core.Path.{sym}
+use Prim.Native.Nat.{_-_}
 use lib.Seq.{length-take-le}
 use lib.ListN.{length}
 use borrow.Author.Needs.{needs}
@@ -8,19 +8,13 @@ use Rattle.replay.proofs.tears.Statement.{statement}
 use Rattle.replay.proofs.tears.Tie as tie
 
 abbrev Inv-loop : tie.InvT-loop
-Inv-loop input at end t₀ p₀ t p = end ≤ length input
+Inv-loop vector t₀ count₀ t count = Unit {0}
 
 abbrev μ-loop : tie.MeasureT-loop
-μ-loop input at end t₀ p₀ t p = end - p
+μ-loop vector t₀ count₀ t count = length vector - count
 
 loop-holds : tie.Need-loop-holds Inv-loop μ-loop
 loop-holds c = search needs
-
-shared-slice-read-is-digit : tie.Need-shared-slice-read-is-digit Inv-loop μ-loop
-shared-slice-read-is-digit c = search needs
-
-is-digit-requires : tie.Need-is-digit-requires Inv-loop μ-loop
-is-digit-requires c κs = search needs
 
 slice-aggregate-replay : tie.Need-slice-aggregate-replay Inv-loop μ-loop
 slice-aggregate-replay c = sym (length-take-le _ _ (search needs))
@@ -31,8 +25,8 @@ replay-requires c κs = search needs
 one-more-requires : tie.Need-one-more-requires Inv-loop μ-loop
 one-more-requires c κs = search needs
 
-add-p : tie.Need-add-p Inv-loop μ-loop
-add-p c = search needs
+add-count : tie.Need-add-count Inv-loop μ-loop
+add-count c = search needs
 
 loop-less : tie.Need-loop-less Inv-loop μ-loop
 loop-less c = search needs
@@ -50,12 +44,10 @@ tears-spec =
     Inv-loop
     μ-loop
     loop-holds
-    shared-slice-read-is-digit
-    is-digit-requires
     slice-aggregate-replay
     replay-requires
     one-more-requires
-    add-p
+    add-count
     loop-less
     loop-again
     returns)
