@@ -15,15 +15,15 @@ use Rattle.basics.specs.Loops.{member, snoc, keep, consIf, every, upFrom}
 use Rattle.basics.proofs.Loops.{All-imp, All-getD}
 use Rattle.basics.proofs.Lists.{map-append, member-front, member-last, member-map, members, or-cases, all-every, upFrom-below}
 use Rattle.basics.proofs.Tests.{differ, every-up-at}
-use Rattle.board_rules.specs.Board.{Board, turfCount, linkCount, mixtureCount, mixOf, immutableMix}
+use Rattle.rules_board.specs.Board.{Board, turfCount, linkCount, mixtureCount, mixOf, immutableMix}
 use Rattle.turfs.specs.Tables.{Slices, boardOf}
 use Rattle.reverse_links.specs.Words.{But}
 use Rattle.reverse_links.proofs.Places.{but-set, but-then}
-use Rattle.finish_rules.specs.Turns.{Zone, zoneAt, nodesAt}
-use Rattle.equalize_rules.specs.Equalize.{hasMix, apart}
-use Rattle.flood_fill.specs.Held.{startsAt}
-use Rattle.flood_fill.specs.Held as words
-use Rattle.apart.specs.Marks.{marksAt, PassFits, ApartFits, Marked, Laid, Stands, hasFirst, Met, Marks, Shared, Passed, Tells}
+use Rattle.rules_finish.specs.Turns.{Zone, zoneAt, nodesAt}
+use Rattle.rules_equalize.specs.Equalize.{hasMix, apart}
+use Rattle.scratch.specs.Layout.{startsAt, marksAt}
+use Rattle.scratch.specs.Layout as layout
+use Rattle.apart.specs.Marks.{PassFits, ApartFits, Marked, ZonesLaid, ZonesStand, hasFirst, MetBefore, Marks, Shared, Passed, ApartTells}
 
 not-so : (t : Bool) → (T t → ⊥) → t ≡ false
 not-so true n = absurd (n tt)
@@ -87,7 +87,7 @@ module _ (b : Board) (zs : List Zone) where
   unfolding member
   marks-start at w h = record { only = λ m y l c t. absurd (none m y t); owner = λ m y l e. absurd (no-mark y (h m l) e) }
     where
-      none : (m y : ℕ) → Met b zs 0 0 y m → ⊥
+      none : (m y : ℕ) → MetBefore b zs 0 0 y m → ⊥
       none m y (inl (l, t)) = omega arith
       none m y (inr (e, t)) = t
 
@@ -98,15 +98,15 @@ module _ (b : Board) (zs : List Zone) where
       whole : (m : ℕ) → hasFirst b zs z (length (nodesAt zs z)) m ≡ member m (map (mixOf b) (nodesAt zs z))
       whole m = ap (λ (l : List ℕ). member m (map (mixOf b) l)) (take-length (nodesAt zs z))
 
-      at-z : (m y : ℕ) → Dec (y ≡ z) → y < z + 1 → T (member m (map (mixOf b) (nodesAt zs y))) → Met b zs z (length (nodesAt zs z)) y m
+      at-z : (m y : ℕ) → Dec (y ≡ z) → y < z + 1 → T (member m (map (mixOf b) (nodesAt zs y))) → MetBefore b zs z (length (nodesAt zs z)) y m
       at-z m y (yes e) l t = inr (e, subst T (sym (whole m)) (subst (λ (x : ℕ). T (member m (map (mixOf b) (nodesAt zs x)))) e t))
       at-z m y (no n) l t = inl (omega (arith, l, n), t)
 
-      back : (m y : ℕ) → Met b zs (z + 1) 0 y m → Met b zs z (length (nodesAt zs z)) y m
+      back : (m y : ℕ) → MetBefore b zs (z + 1) 0 y m → MetBefore b zs z (length (nodesAt zs z)) y m
       back m y (inl (l, t)) = at-z m y (ℕ-discrete y z) l t
       back m y (inr (e, t)) = absurd t
 
-      on : (m y : ℕ) → Met b zs z (length (nodesAt zs z)) y m → Met b zs (z + 1) 0 y m
+      on : (m y : ℕ) → MetBefore b zs z (length (nodesAt zs z)) y m → MetBefore b zs (z + 1) 0 y m
       on m y (inl (l, t)) = inl (omega arith, t)
       on m y (inr (e, t)) = inl (omega (arith, e), subst (λ (x : ℕ). T (member m (map (mixOf b) (nodesAt zs x)))) (sym e) (subst T (whole m) t))
 
@@ -116,16 +116,16 @@ module _ (b : Board) (zs : List Zone) where
     mix = mixOf b (getD (nodesAt zs z) i 0)
 
     -- what was met before is met still
-    grown : (m y : ℕ) → Met b zs z i y m → Met b zs z (i + 1) y m
+    grown : (m y : ℕ) → MetBefore b zs z i y m → MetBefore b zs z (i + 1) y m
     grown m y (inl t) = inl t
     grown m y (inr (e, t)) = inr (e, has-grown (mixOf b) (nodesAt zs z) i h m t)
 
     -- what is met was met before, or is this mixture
-    met-cases : (m y : ℕ) → Met b zs z (i + 1) y m → Met b zs z i y m ⊎ ((m ≡ mix) × (y ≡ z))
+    met-cases : (m y : ℕ) → MetBefore b zs z (i + 1) y m → MetBefore b zs z i y m ⊎ ((m ≡ mix) × (y ≡ z))
     met-cases m y (inl t) = inl (inl t)
     met-cases m y (inr (e, t)) = go (has-cases (mixOf b) (nodesAt zs z) i h m t)
       where
-        go : T (hasFirst b zs z i m) ⊎ (m ≡ mix) → Met b zs z i y m ⊎ ((m ≡ mix) × (y ≡ z))
+        go : T (hasFirst b zs z i m) ⊎ (m ≡ mix) → MetBefore b zs z i y m ⊎ ((m ≡ mix) × (y ≡ z))
         go (inl u) = inl (inr (e, u))
         go (inr u) = inr (u, e)
 
@@ -136,7 +136,7 @@ module _ (b : Board) (zs : List Zone) where
       owner = λ m y l e. grown m y (k .owner m y l e);
     })
       where
-        only : (m y : ℕ) → m < mixtureCount b → immutableMix b m ≡ false → Met b zs z i y m ⊎ ((m ≡ mix) × (y ≡ z)) → getD w (at + m) 0 ≡ y + 1
+        only : (m y : ℕ) → m < mixtureCount b → immutableMix b m ≡ false → MetBefore b zs z i y m ⊎ ((m ≡ mix) × (y ≡ z)) → getD w (at + m) 0 ≡ y + 1
         only m y l c (inl t) = k .only m y l c t
         only m y l c (inr (e, u)) = subst (λ (x : ℕ). getD w (at + x) 0 ≡ y + 1) (sym e) (own (subst (λ (x : ℕ). immutableMix b x ≡ false) e c) ∙ ap (λ (x : ℕ). x + 1) (sym u))
 
@@ -153,13 +153,13 @@ module _ (b : Board) (zs : List Zone) where
         there : (m : ℕ) → m ≢ mix → getD (set w (at + mix) (z + 1)) (at + m) 0 ≡ getD w (at + m) 0
         there m n = getD-set-other w (at + mix) (at + m) (z + 1) 0 (λ e. n (omega (arith, e)))
 
-        only : (m y : ℕ) → m < mixtureCount b → immutableMix b m ≡ false → Dec (m ≡ mix) → Met b zs z i y m ⊎ ((m ≡ mix) × (y ≡ z)) → getD (set w (at + mix) (z + 1)) (at + m) 0 ≡ y + 1
+        only : (m y : ℕ) → m < mixtureCount b → immutableMix b m ≡ false → Dec (m ≡ mix) → MetBefore b zs z i y m ⊎ ((m ≡ mix) × (y ≡ z)) → getD (set w (at + mix) (z + 1)) (at + m) 0 ≡ y + 1
         only m y l c (yes e) (inl t) = absurd (no-mark y none (subst (λ (x : ℕ). getD w (at + x) 0 ≡ y + 1) e (k .only m y l c t)))
         only m y l c (yes e) (inr (e′, u)) = subst (λ (x : ℕ). getD (set w (at + mix) (z + 1)) (at + x) 0 ≡ y + 1) (sym e) (here ∙ ap (λ (x : ℕ). x + 1) (sym u))
         only m y l c (no n) (inl t) = there m n ∙ k .only m y l c t
         only m y l c (no n) (inr (e, u)) = absurd (n e)
 
-        owner : (m y : ℕ) → m < mixtureCount b → Dec (m ≡ mix) → getD (set w (at + mix) (z + 1)) (at + m) 0 ≡ y + 1 → Met b zs z (i + 1) y m
+        owner : (m y : ℕ) → m < mixtureCount b → Dec (m ≡ mix) → getD (set w (at + mix) (z + 1)) (at + m) 0 ≡ y + 1 → MetBefore b zs z (i + 1) y m
         owner m y l (yes e) v = inr (omega (arith, sym here ∙ subst (λ (x : ℕ). getD (set w (at + mix) (z + 1)) (at + x) 0 ≡ y + 1) e v), subst (λ (x : ℕ). T (hasFirst b zs z (i + 1) x)) (sym e) (has-new (mixOf b) (nodesAt zs z) i h))
         owner m y l (no n) v = grown m y (k .owner m y l (sym (there m n) ∙ v))
 
@@ -174,7 +174,7 @@ module _ (b : Board) (zs : List Zone) where
     pub marks-shared : r ≡ false → Shared b zs z
     marks-shared f = go (immutableMix b mix) refl (ℕ-discrete (getD w (at + mix) 0) 0)
       where
-        other : (y : ℕ) → immutableMix b mix ≡ false → getD w (at + mix) 0 ≢ 0 → getD w (at + mix) 0 ≡ y + 1 → Met b zs z i y mix → Shared b zs z
+        other : (y : ℕ) → immutableMix b mix ≡ false → getD w (at + mix) 0 ≢ 0 → getD w (at + mix) 0 ≡ y + 1 → MetBefore b zs z i y mix → Shared b zs z
         other y c n e (inl (l, t)) = record { mix = mix; within = fits; changes = c; before = y; earlier = l; theirs = t; ours = has-whole (mixOf b) (nodesAt zs z) i h }
         other y c n e (inr (u, t)) = absurd (differ (sym (d .marked c n .0 ∙ same (e ∙ ap (λ (x : ℕ). x + 1) u)) ∙ f))
           where
@@ -340,7 +340,7 @@ module _ (b : Board) (zs : List Zone) (z from to at : ℕ) where
 
 -- ---- the start, and zone after zone
 
-module _ {n zones first base at : ℕ} {hi : ℕ} {w₀ w : List ℕ} (h : Laid n zones first base at w₀) (k : But at hi w₀ w) (z : ℕ) (l : z < zones) where
+module _ {n zones first base at : ℕ} {hi : ℕ} {w₀ w : List ℕ} (h : ZonesLaid n zones first base at w₀) (k : But at hi w₀ w) (z : ℕ) (l : z < zones) where
   pub start-now : getD w (first + z) 0 ≡ getD w₀ (first + z) 0
   start-now = k .same (first + z) (inl (omega (arith, h .starts)))
 
@@ -357,7 +357,7 @@ module _ {n zones first base at : ℕ} {hi : ℕ} {w₀ w : List ℕ} (h : Laid 
   rows-now j a b =
       rw (k .same j (inl (omega (arith, end-before)))) (h .rows z j l (omega (arith, start-now)) (omega (arith, end-now)))
 
-  pub zone-next : (b : Board) (zs : List Zone) → Stands first base zs w₀ → length zs ≡ zones → Marks b zs z 0 at w → {w′ : List ℕ} {r : Bool}
+  pub zone-next : (b : Board) (zs : List Zone) → ZonesStand first base zs w₀ → length zs ≡ zones → Marks b zs z 0 at w → {w′ : List ℕ} {r : Bool}
       → Passed b zs z (base + getD w (first + z) 0) (base + getD w (first + z + 1) 0) at r w w′ → (r ≡ true → Marks b zs (z + 1) 0 at w′) × (r ≡ false → Shared b zs z)
   zone-next b zs s e m p =
       p .met (omega (arith, start-now, end-now, s .size z (omega (arith, e))))
@@ -365,8 +365,8 @@ module _ {n zones first base at : ℕ} {hi : ℕ} {w₀ w : List ℕ} (h : Laid 
       k .same (base + getD w (first + z) 0 + i) (inl in-zone) ∙ ap (λ (x : ℕ). getD w₀ (base + x + i) 0) start-now ∙ s .node z i (omega (arith, e)) q) m
 
 -- what stands before the marks stands as it stood
-module _ {n zones first base at hi : ℕ} {w₀ w : List ℕ} (h : Laid n zones first base at w₀) (k : But at hi w₀ w) where
-  pub laid-kept : Laid n zones first base at w
+module _ {n zones first base at hi : ℕ} {w₀ w : List ℕ} (h : ZonesLaid n zones first base at w₀) (k : But at hi w₀ w) where
+  pub laid-kept : ZonesLaid n zones first base at w
   laid-kept = record {
     few = h .few;
     starts = h .starts;
@@ -376,14 +376,14 @@ module _ {n zones first base at hi : ℕ} {w₀ w : List ℕ} (h : Laid n zones 
     rows = λ z j l a b. rows-now h k z l j a b;
   }
 
-  stands-kept : (zs : List Zone) → length zs ≡ zones → Stands first base zs w₀ → Stands first base zs w
+  stands-kept : (zs : List Zone) → length zs ≡ zones → ZonesStand first base zs w₀ → ZonesStand first base zs w
   stands-kept zs e s = record {
     size = λ z l. rw (start-now h k z (omega (arith, e)), end-now h k z (omega (arith, e))) (s .size z l);
     node = λ z i l q. let in-zone : base + getD w (first + z) 0 + i < at = omega (arith, end-before h k z (omega (arith, e)), end-now h k z (omega (arith, e)), start-now h k z (omega (arith, e)), s .size z l) in
         k .same (base + getD w (first + z) 0 + i) (inl in-zone) ∙ ap (λ (x : ℕ). getD w₀ (base + x + i) 0) (start-now h k z (omega (arith, e))) ∙ s .node z i l q;
   }
 
-  pub tells-after : {b : Board} {r : Bool} {w′ : List ℕ} → hi ≡ at + mixtureCount b → Tells b zones first base at r w w′ → Tells b zones first base at r w₀ w′
+  pub tells-after : {b : Board} {r : Bool} {w′ : List ℕ} → hi ≡ at + mixtureCount b → ApartTells b zones first base at r w w′ → ApartTells b zones first base at r w₀ w′
   tells-after {b} q t = record { words = but-then (omega arith) (omega arith) (subst (λ (x : ℕ). But at x w₀ w) q k) (t .words); answer = λ zs e s. t .answer zs e (stands-kept zs e s) }
 
 -- the number of gases is read nowhere
@@ -392,32 +392,31 @@ fits-gases rows marks gases f =
     let p = f .pass in
     record { sizes = f .sizes; pass = record { turfs = p .turfs; few = p .few; room = p .room; mixtures = p .mixtures; mixed = p .mixed }; laid = f .laid }
 
-pub tells-gases : (rows marks : Slices) (gases : ℕ) {zones first base at : ℕ} {r : Bool} {w w′ : List ℕ} → Tells (boardOf rows marks 0) zones first base at r w w′
-    → Tells (boardOf rows marks gases) zones first base at r w w′
+pub tells-gases : (rows marks : Slices) (gases : ℕ) {zones first base at : ℕ} {r : Bool} {w w′ : List ℕ} → ApartTells (boardOf rows marks 0) zones first base at r w w′
+    → ApartTells (boardOf rows marks gases) zones first base at r w w′
 unfolding apart hasMix
 tells-gases rows marks gases t = record { words = t .words; answer = t .answer }
 
 -- ---- the whole pass
 
-module _ {b : Board} {zones : ℕ} {w : List ℕ} (fits : ApartFits b zones w) (first nodes : ℕ) (ef : first ≡ startsAt (turfCount b) (linkCount b)) (en : nodes ≡ words.nodesAt (turfCount b) (linkCount b)) where
-  abbrev at : ℕ
-  at = nodes + turfCount b + linkCount b
-
+module _ {b : Board} {zones : ℕ} {w : List ℕ} (fits : ApartFits b zones w) (first nodes at : ℕ) (ef : first ≡ startsAt (turfCount b) (linkCount b)) (en : nodes ≡ layout.nodesAt (turfCount b) (linkCount b))
+    (ea : at ≡ marksAt (turfCount b) (linkCount b)) where
   pub marks-room : at + mixtureCount b ≤ length w
-  marks-room = omega (arith, fits .pass .room)
+  marks-room = omega (arith, ea, fits .pass .room)
 
-  laid-at : Laid (turfCount b) zones first nodes at w
-  laid-at = rw (ef, en) (fits .laid)
+  laid-at : ZonesLaid (turfCount b) zones first nodes at w
+  laid-at = rw (ef, en, ea) (fits .laid)
 
   module _ {w₁ : List ℕ} (k : But at (at + mixtureCount b) w w₁) where
-    pub pass-asks : PassFits b at w₁ × Laid (turfCount b) zones first nodes at w₁
+    pub pass-asks : PassFits b at w₁ × ZonesLaid (turfCount b) zones first nodes at w₁
     pass-asks = (
       record { turfs = fits .pass .turfs; few = fits .pass .few; room = omega (arith, marks-room, k .len); mixtures = fits .pass .mixtures; mixed = fits .pass .mixed },
       laid-kept laid-at k,
     )
 
-    pub pass-tells : {r : Bool} {w′ : List ℕ} → Tells b zones first nodes at r w₁ w′
-        → let n = turfCount b in let e = linkCount b in Tells b zones (startsAt n e) (words.nodesAt n e) (marksAt n e) r w w′
+    pub pass-tells : {r : Bool} {w′ : List ℕ} → ApartTells b zones first nodes at r w₁ w′
+        → let n = turfCount b in let e = linkCount b in ApartTells b zones (startsAt n e) (layout.nodesAt n e) (marksAt n e) r w w′
     pass-tells {r} {w′} t =
-        subst (λ (x : ℕ). Tells b zones (startsAt (turfCount b) (linkCount b)) x (x + turfCount b + linkCount b) r w w′) en
-        (subst (λ (x : ℕ). Tells b zones x nodes at r w w′) ef (tells-after laid-at k refl t))
+        subst (λ (x : ℕ). ApartTells b zones (startsAt (turfCount b) (linkCount b)) (layout.nodesAt (turfCount b) (linkCount b)) x r w w′) ea
+        (subst (λ (x : ℕ). ApartTells b zones (startsAt (turfCount b) (linkCount b)) x at r w w′) en
+        (subst (λ (x : ℕ). ApartTells b zones x nodes at r w w′) ef (tells-after laid-at k refl t)))

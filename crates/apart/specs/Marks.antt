@@ -7,16 +7,12 @@ use Prim.Native.Nat.{ℕ, _+_, _≤_, _<_}
 use lib.Dec.{T, eqb}
 use lib.ListN.{length, getD, set, take}
 use Rattle.basics.specs.Loops.{member}
-use Rattle.board_rules.specs.Board.{Board, turfCount, linkCount, mixtureCount, mixOf, immutableMix}
+use Rattle.rules_board.specs.Board.{Board, turfCount, linkCount, mixtureCount, mixOf, immutableMix}
 use Rattle.reverse_links.specs.Words.{But}
-use Rattle.flood_fill.specs.Held.{startsAt, Sizes}
-use Rattle.flood_fill.specs.Held as words
-use Rattle.finish_rules.specs.Turns.{Zone, nodesAt}
-use Rattle.equalize_rules.specs.Equalize.{apart}
-
--- where the mixtures' marks start: after the nodes of all zones
-abbrev pub marksAt : ℕ → ℕ → ℕ
-marksAt n e = words.nodesAt n e + n + e
+use Rattle.scratch.specs.Layout.{Sizes, startsAt, marksAt}
+use Rattle.scratch.specs.Layout as layout
+use Rattle.rules_finish.specs.Turns.{Zone, nodesAt}
+use Rattle.rules_equalize.specs.Equalize.{apart}
 
 -- one node of the zone, whose mixture's mark stands at p: a changeable one without mark gets the zone's; r: no other zone has it
 pub record Marked (changeless : Bool) (p zone : ℕ) (r : Bool) (w w′ : List ℕ) : Type 0 where
@@ -25,7 +21,7 @@ pub record Marked (changeless : Bool) (p zone : ℕ) (r : Bool) (w w′ : List �
   pub marked : changeless ≡ false → getD w p 0 ≢ 0 → (r ≡ eqb (getD w p 0) (zone + 1)) × (w′ ≡ w)
 
 -- the nodes of the zones of n turfs stand one after the other before `at`
-pub record Laid (n zones first base at : ℕ) (w : List ℕ) : Type 0 where
+pub record ZonesLaid (n zones first base at : ℕ) (w : List ℕ) : Type 0 where
   pub few : zones ≤ 4096
   pub starts : first + zones < at
   pub small : at + 4096 ≤ 1000000
@@ -45,10 +41,10 @@ pub record PassFits (b : Board) (at : ℕ) (w : List ℕ) : Type 0 where
 pub record ApartFits (b : Board) (zones : ℕ) (w : List ℕ) : Type 0 where
   pub sizes : Sizes (turfCount b) (linkCount b)
   pub pass : PassFits b (marksAt (turfCount b) (linkCount b)) w
-  pub laid : Laid (turfCount b) zones (startsAt (turfCount b) (linkCount b)) (words.nodesAt (turfCount b) (linkCount b)) (marksAt (turfCount b) (linkCount b)) w
+  pub laid : ZonesLaid (turfCount b) zones (startsAt (turfCount b) (linkCount b)) (layout.nodesAt (turfCount b) (linkCount b)) (marksAt (turfCount b) (linkCount b)) w
 
 -- they are the nodes of these zones
-pub record Stands (first base : ℕ) (zs : List Zone) (w : List ℕ) : Type 0 where
+pub record ZonesStand (first base : ℕ) (zs : List Zone) (w : List ℕ) : Type 0 where
   pub size : (z : ℕ) → z < length zs → getD w (first + z) 0 + length (nodesAt zs z) ≡ getD w (first + z + 1) 0
   pub node : (z i : ℕ) → z < length zs → i < length (nodesAt zs z) → getD w (base + getD w (first + z) 0 + i) 0 ≡ getD (nodesAt zs z) i 0
 
@@ -58,13 +54,13 @@ module _ (b : Board) (zs : List Zone) where
   hasFirst z i m = member m (map (mixOf b) (take i (nodesAt zs z)))
 
   -- zone y is before z, or its first i nodes were met, and it has the mixture m
-  abbrev pub Met : ℕ → ℕ → ℕ → ℕ → Type 0
-  Met z i y m = ((y < z) × T (member m (map (mixOf b) (nodesAt zs y)))) ⊎ ((y ≡ z) × T (hasFirst z i m))
+  abbrev pub MetBefore : ℕ → ℕ → ℕ → ℕ → Type 0
+  MetBefore z i y m = ((y < z) × T (member m (map (mixOf b) (nodesAt zs y)))) ⊎ ((y ≡ z) × T (hasFirst z i m))
 
   -- the marks of the mixtures, from `at` on: whoever has a changeable mixture is its mark, and a mark has its mixture
   pub record Marks (z i at : ℕ) (w : List ℕ) : Type 0 where
-    pub only : (m y : ℕ) → m < mixtureCount b → immutableMix b m ≡ false → Met z i y m → getD w (at + m) 0 ≡ y + 1
-    pub owner : (m y : ℕ) → m < mixtureCount b → getD w (at + m) 0 ≡ y + 1 → Met z i y m
+    pub only : (m y : ℕ) → m < mixtureCount b → immutableMix b m ≡ false → MetBefore z i y m → getD w (at + m) 0 ≡ y + 1
+    pub owner : (m y : ℕ) → m < mixtureCount b → getD w (at + m) 0 ≡ y + 1 → MetBefore z i y m
 
   -- zone z has a changeable mixture that a zone before it has
   pub record Shared (z : ℕ) : Type 0 where
@@ -82,6 +78,6 @@ module _ (b : Board) (zs : List Zone) where
         → Marks z 0 at w → (r ≡ true → Marks (z + 1) 0 at w′) × (r ≡ false → Shared z)
 
 -- r says whether the zones that stand in the words are apart; only the marks may be others
-pub record Tells (b : Board) (zones first base at : ℕ) (r : Bool) (w w′ : List ℕ) : Type 0 where
+pub record ApartTells (b : Board) (zones first base at : ℕ) (r : Bool) (w w′ : List ℕ) : Type 0 where
   pub words : But at (at + mixtureCount b) w w′
-  pub answer : (zs : List Zone) → length zs ≡ zones → Stands first base zs w → r ≡ apart b zs
+  pub answer : (zs : List Zone) → length zs ≡ zones → ZonesStand first base zs w → r ≡ apart b zs

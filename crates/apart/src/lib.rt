@@ -9,12 +9,12 @@ ghost use mathlib.Core.Path.{_≡_};
 ghost use mathlib.Core.List.{List};
 ghost use Prim.Native.Nat.{ℕ, _+_, _≤_, _<_};
 ghost use lib.ListN.{getD};
-ghost use Rattle.board_rules.specs.Board.{turfCount, linkCount, mixtureCount, mixOf, immutableMix};
+ghost use Rattle.rules_board.specs.Board.{turfCount, linkCount, mixtureCount, mixOf, immutableMix};
 ghost use Rattle.turfs.specs.Tables.{boardAt};
 ghost use Rattle.reverse_links.specs.Words.{But};
-ghost use Rattle.flood_fill.specs.Held.{startsAt, nodesAt};
-ghost use Rattle.finish_rules.specs.Turns.{Zone};
-ghost use Rattle.apart.specs.Marks.{marksAt, Marked, Laid, PassFits, ApartFits, Passed, Tells};
+ghost use Rattle.scratch.specs.Layout.{startsAt, nodesAt, marksAt};
+ghost use Rattle.rules_finish.specs.Turns.{Zone};
+ghost use Rattle.apart.specs.Marks.{Marked, ZonesLaid, PassFits, ApartFits, Passed, ApartTells};
 
 // A node of the zone: its mixture is marked with it, unless it is immutable or marked already. False: another zone has it.
 fn node_apart(
@@ -83,9 +83,9 @@ fn zones_apart(
     words: &mut [u32],
 ) -> bool
     requires { ⌜ PassFits (boardAt rows marks 0) at (now words) ⌝ }
-    requires { ⌜ Laid (turfCount (boardAt rows marks 0)) zones first nodes at (now words) ⌝ }
+    requires { ⌜ ZonesLaid (turfCount (boardAt rows marks 0)) zones first nodes at (now words) ⌝ }
     requires { ⌜ ((i : ℕ) → i < mixtureCount (boardAt rows marks 0) → getD (now words) (at + i) 0 ≡ 0) ⌝ }
-    ensures { λ r. ⌜ Tells (boardAt (rows .entry) (marks .entry) 0) zones first nodes at r (now (words .entry)) (now (words .exit)) ⌝ }
+    ensures { λ r. ⌜ ApartTells (boardAt (rows .entry) (marks .entry) 0) zones first nodes at r (now (words .entry)) (now (words .exit)) ⌝ }
 {
     let mut z = 0;
     while z < zones {
@@ -105,16 +105,16 @@ pub fn apart(zones: usize, rows: &Rows, marks: &Marks, words: &mut [u32]) -> boo
     ensures { λ r. ⌜ ((gases : ℕ) → let b = boardAt (rows .entry) (marks .entry) gases in
         let n = turfCount b in
         let e = linkCount b in
-        Tells b zones (startsAt n e) (nodesAt n e) (marksAt n e) r (now (words .entry)) (now (words .exit))) ⌝ }
+        ApartTells b zones (startsAt n e) (nodesAt n e) (marksAt n e) r (now (words .entry)) (now (words .exit))) ⌝ }
 {
     let ids = rows[IDS];
     let neighbours = rows[NEIGHBOURS];
     let immutable = marks[IMMUTABLE];
     let n = ids.len();
     let e = neighbours.len();
-    let first = flood_fill::starts_at(n, e);
-    let nodes = flood_fill::nodes_at(n, e);
-    let at = nodes + n + e;
+    let first = scratch::starts_at(n, e);
+    let nodes = scratch::nodes_at(n, e);
+    let at = scratch::marks_at(n, e);
     basics::clear_part(words, at, immutable.len());
     zones_apart(zones, first, nodes, at, rows, marks, words)
 }

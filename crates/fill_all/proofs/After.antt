@@ -9,28 +9,30 @@ use lib.Ieee.{Float, nan}
 use lib.ListN.{length, getD, set, take, drop, length-set, length-map}
 use lib.Seq.{getD-set-same, getD-set-other, length-take-le}
 use Rattle.basics.specs.Loops.{run, upFrom, snoc}
-use Rattle.basics.specs.Regions.{cut, region}
+use Rattle.basics.specs.Regions.{cut}
 use Rattle.basics.proofs.Loops.{All-imp, All-getD, map-like, up-below, up-snoc}
 use Rattle.basics.proofs.Lists.{upFrom-length, map-append}
 use Rattle.basics.proofs.Regions.{cut-set, cut-length}
 use Rattle.basics.specs.declared.Spot.the-variants.{At}
 use Rattle.basics.proofs.Parts.{take-in}
-use Rattle.board_rules.specs.Board.{Board, turfCount, linkCount}
+use Rattle.scratch.specs.Layout.{wordSizes, floatSizes, startsAt, molesAt}
+use Rattle.scratch.specs.View.{ownerIn, queueIn, foundIn, startsIn}
+use Rattle.rules_board.specs.Board.{Board, turfCount, linkCount}
 use Rattle.turfs.specs.Tables.{Accepted}
-use Rattle.event_rules.specs.declared.Event.{Event}
-use Rattle.fill_rules.specs.Fill.{Fill, isOver, fill}
-use Rattle.flood_fill.specs.Held.{sizes, startsAt, zeros}
-use Rattle.flood_fill.specs.Held as link
-use Rattle.flood_fill.proofs.Does.{does-plain}
-use Rattle.flood_fill.proofs.Bounds.{zeros-some}
-use Rattle.flood_fill.proofs.Stores.{found-long, owner-long}
-use Rattle.flood_fill.proofs.Links.{nodes-length}
-use Rattle.fill_zone.specs.Held.{FillView, fillView, Begins, Ready}
+use Rattle.rules_events.specs.declared.Event.{Event}
+use Rattle.rules_fill.specs.Fill.{Fill, isOver, fill}
+use Rattle.fill_links.specs.Held.{zeros}
+use Rattle.fill_links.specs.Held as link
+use Rattle.fill_links.proofs.Does.{does-plain}
+use Rattle.fill_links.proofs.Bounds.{zeros-some}
+use Rattle.fill_links.proofs.Stores.{found-long, owner-long}
+use Rattle.fill_links.proofs.Links.{nodes-length}
+use Rattle.fill_zone.specs.Held.{FillView, fillView, Begins, ZoneFits}
 use Rattle.fill_zone.specs.declared.Flood.{Flood}
 use Rattle.fill_zone.proofs.Boards.{parts}
-use Rattle.finish_rules.specs.Turns.{Zone}
-use Rattle.equalize_rules.specs.Equalize.{Ask, Filled, afterFill, passedOver, fillFrom, hotRow}
-use Rattle.fill_all.specs.Held.{floatSizes, molesAt, zoneIn, viewIn, view, onFilled, startsIn, Stored, Open, Fills, giveBack, pushed, Keeps, Drops}
+use Rattle.rules_finish.specs.Turns.{Zone}
+use Rattle.rules_equalize.specs.Equalize.{Ask, Filled, afterFill, passedOver, fillFrom, hotRow}
+use Rattle.fill_all.specs.Held.{zoneIn, filledViewIn, filledView, onFilled, Stored, FillOpen, Fills, giveBack, pushed, Keeps, Drops}
 use Rattle.fill_all.specs.Asked.{Spans, PushedFits, KeepFits}
 use Rattle.fill_all.specs.declared.Filling.{Filling}
 use Rattle.fill_all.proofs.Back.{given-back}
@@ -38,10 +40,10 @@ use Rattle.fill_all.proofs.Back.{given-back}
 -- ---- a turf that is passed over
 
 pub fills-none : {n e : ℕ} (g : Filled → Filled) {s : Filling} {w : List ℕ} {f : List Float} {area : List ℕ} → Stored n e s w f → s .used ≤ length area
-    → ((es : List Event) → view n e s w f es .filled ≡ g (view n e s w f es .filled)) → Fills n e g s s w w f f area area
+    → ((es : List Event) → filledView n e s w f es .filled ≡ g (filledView n e s w f es .filled)) → Fills n e g s s w w f f area area
 fills-none {n} {e} g {s} {w} {f} h l q = record {
   stored = h;
-  does = does-plain l (λ es. ap (λ (x : Filled). onFilled (λ _. x) (view n e s w f es)) (q es));
+  does = does-plain l (λ es. ap (λ (x : Filled). onFilled (λ _. x) (filledView n e s w f es)) (q es));
 }
 
 -- ---- zones that stay
@@ -68,7 +70,7 @@ zones-more z ss ns ms = ap (map (zoneIn ss ns ms)) (up-snoc 0 z) ∙ map-append 
 -- ---- a fill from the turf `row`
 
 module _ {b : Board} {m : ℕ} (h : Accepted b m) (gas : List Float) (q : Ask) (row : ℕ) {s : Filling} {w : List ℕ} {f : List Float} {area : List ℕ} (st : Stored (turfCount b) (linkCount b) s w f)
-    (op : Open b (q .allowance) s w area) (hr : row < turfCount b) (new : getD (region (sizes (turfCount b) (linkCount b)) 8 w) row 0 ≡ 0) where
+    (op : FillOpen b (q .allowance) s w area) (hr : row < turfCount b) (new : getD (foundIn (turfCount b) (linkCount b) w) row 0 ≡ 0) where
   abbrev n : ℕ
   n = turfCount b
 
@@ -76,10 +78,10 @@ module _ {b : Board} {m : ℕ} (h : Accepted b m) (gas : List Float) (q : Ask) (
   e = linkCount b
 
   abbrev found₀ : List ℕ
-  found₀ = region (sizes n e) 8 w
+  found₀ = foundIn n e w
 
   abbrev owner₀ : List ℕ
-  owner₀ = region (sizes n e) 0 w
+  owner₀ = ownerIn e w
 
   one-zone : s .zones < n
   one-zone = omega (arith, op .zones, zeros-some found₀ row (rw (found-long n e w (st .words)) hr) new)
@@ -87,8 +89,8 @@ module _ {b : Board} {m : ℕ} (h : Accepted b m) (gas : List Float) (q : Ask) (
   pub zone-fits : s .zones < 4096
   zone-fits = omega (arith, one-zone, st .sizes .turfs)
 
-  pub fill-ready : Ready b (s .zones) (s .nodes) (s .used) row w area
-  unfolding link.view
+  pub fill-ready : ZoneFits b (s .zones) (s .nodes) (s .used) row w area
+  unfolding link.reachView
   fill-ready = record { row = hr; zone = one-zone; words = st .words; new = new; unowned = op .unowned; nodes = st .nodes; bytes = op .bytes }
 
   -- the definition's fill, after the events es
@@ -98,25 +100,25 @@ module _ {b : Board} {m : ℕ} (h : Accepted b m) (gas : List Float) (q : Ask) (
   module _ {t : Flood} {w₁ area₁ : List ℕ}
       (B : Begins n e (s .zones) (s .nodes) (s .used) (λ found owner es. fill b gas (q .limit) (q .allowance) (s .zones) row found owner es (s .tests)) t w w₁ area area₁) where
     abbrev ws : List (List ℕ)
-    ws = cut (sizes n e) w
+    ws = cut (wordSizes n e) w
 
     abbrev ws₁ : List (List ℕ)
-    ws₁ = cut (sizes n e) w₁
+    ws₁ = cut (wordSizes n e) w₁
 
     -- what the words hold after the fill
     came : (es : List Event) → fillView n e (s .nodes) t w₁ (es ++ B .does .more) ≡ record {
       fill = T es;
-      still = record { reverse = getD ws 1 []; direction = getD ws 2 []; via = getD ws 3 []; fast = getD ws 4 []; list = getD ws 7 []; cursor = getD ws 9 []; live = getD ws 10 []; starts = getD ws 11 []; before = take (s .nodes) (getD ws 12 []); rest = getD ws 13 [] };
+      still = record { reverse = getD ws 1 []; met = getD ws 2 []; fast = getD ws 3 []; list = getD ws 6 []; cursor = getD ws 8 []; live = getD ws 9 []; starts = getD ws 10 []; before = take (s .nodes) (getD ws 11 []); rest = getD ws 12 [] };
     }
-    unfolding link.view
+    unfolding link.reachView
     came es = B .does .same es
 
     rows-in : (i : ℕ) → i < t .reach .queued → getD (pushed n e (t .reach .queued) w₁) i 0 < n
-    unfolding link.view
+    unfolding link.reachView
     rows-in i l = All-getD (λ x. x < n) (pushed n e (t .reach .queued) w₁) i 0 (B .bounds .rows) (rw long l)
       where
         long : length (pushed n e (t .reach .queued) w₁) ≡ t .reach .queued
-        long = length-take-le (t .reach .queued) (region (sizes n e) 5 w₁) (omega (arith, B .fit .queue, Rattle.flood_fill.proofs.Stores.queue-long n e w₁ (B .fit .words)))
+        long = length-take-le (t .reach .queued) (queueIn n e w₁) (omega (arith, B .fit .queue, Rattle.fill_links.proofs.Stores.queue-long n e w₁ (B .fit .words)))
 
     pub after-asks : KeepFits n e s t w₁ f × (PushedFits n e (t .reach .queued) w₁ × Spans n e (b .starts))
     after-asks = (
@@ -129,70 +131,68 @@ module _ {b : Board} {m : ℕ} (h : Accepted b m) (gas : List Float) (q : Ask) (
 
     -- the step of the definition
     module _ (pass : (es : List Event) → passedOver b gas q row found₀ ≡ false) where
-      step : (es : List Event) → afterFill (T es) (view n e s w f es .filled) ≡ hotRow b gas q (At row) (view n e s w f es .filled)
-      unfolding view hotRow fillFrom
+      step : (es : List Event) → afterFill (T es) (filledView n e s w f es .filled) ≡ hotRow b gas q (At row) (filledView n e s w f es .filled)
+      unfolding filledView hotRow fillFrom
       step es =
-          sym (ap (λ (c : Bool). cond c (view n e s w f es .filled) (fillFrom b gas q row (view n e s w f es .filled))) (pass es)
-          ∙ ap (λ (z : ℕ). afterFill (fill b gas (q .limit) (q .allowance) z row found₀ owner₀ es (s .tests)) (view n e s w f es .filled))
-          (length-map (upFrom 0 (s .zones)) (zoneIn (getD ws 11 []) (getD ws 12 []) (getD (cut (floatSizes n e) f) 4 [])) ∙ upFrom-length 0 (s .zones)))
+          sym (ap (λ (c : Bool). cond c (filledView n e s w f es .filled) (fillFrom b gas q row (filledView n e s w f es .filled))) (pass es)
+          ∙ ap (λ (z : ℕ). afterFill (fill b gas (q .limit) (q .allowance) z row found₀ owner₀ es (s .tests)) (filledView n e s w f es .filled))
+          (length-map (upFrom 0 (s .zones)) (zoneIn (getD ws 10 []) (getD ws 11 []) (getD (cut (floatSizes n e) f) 3 [])) ∙ upFrom-length 0 (s .zones)))
 
       -- an ignored zone
       module _ (ig : t .reach .ignored ≡ true) {r : Filling} {w′ : List ℕ} {f′ : List Float} (d : Drops n e (b .starts) s t r w₁ w′ f f′) where
         abbrev r₁ : Filling
         r₁ = record { zones = s .zones; nodes = s .nodes; tests = t .tests; used = t .reach .used; cancelled = isOver (t .state) }
 
-        owners : (es : List Event) → region (sizes n e) 0 w′ ≡ owner₀
-        unfolding link.view
+        owners : (es : List Event) → ownerIn e w′ ≡ owner₀
+        unfolding link.reachView
         owners es =
             ap (λ (x : List (List ℕ)). getD x 0 []) (d .words)
             ∙ ap (λ (v : FillView). run (giveBack (b .starts)) (v .fill .reach .queue) (v .fill .reach .owner)) (came es)
             ∙ given-back h (s .zones) found₀ owner₀ gas (q .limit) (q .allowance) row es (s .tests) (found-long n e w (st .words)) (owner-long n e w (st .words)) hr new (op .unowned)
 
         -- an array but the owners
-        array : (k : ℕ) → getD (cut (sizes n e) w′) (k + 1) [] ≡ getD ws₁ (k + 1) []
+        array : (k : ℕ) → getD (cut (wordSizes n e) w′) (k + 1) [] ≡ getD ws₁ (k + 1) []
         array k = ap (λ (x : List (List ℕ)). getD x (k + 1) []) (d .words) ∙ other ws₁ _ k
           where
             other : (xs : List (List ℕ)) (x : List ℕ) (k : ℕ) → getD (set xs 0 x) (k + 1) [] ≡ getD xs (k + 1) []
             other xs x k = getD-set-other xs 0 (k + 1) x [] (λ i. omega (arith, i))
 
-        dropped-view : (es : List Event) → view n e r₁ w′ f (es ++ B .does .more) ≡ record { filled = afterFill (T es) (view n e s w f es .filled); around = view n e s w f es .around }
-        unfolding view link.view afterFill
+        dropped-view : (es : List Event) → filledView n e r₁ w′ f (es ++ B .does .more) ≡ record { filled = afterFill (T es) (filledView n e s w f es .filled); around = filledView n e s w f es .around }
+        unfolding filledView link.reachView afterFill
         dropped-view es =
             let X = came es in
             let ig′ : T es .reach .ignored ≡ true = sym (ap (λ (v : FillView). v .fill .reach .ignored) X) ∙ ig in
             λ i. record {
               filled = record {
-                found = (array 7 ∙ ap (λ (v : FillView). v .fill .reach .found) X) i;
+                found = (array 6 ∙ ap (λ (v : FillView). v .fill .reach .found) X) i;
                 owner = (owners es ∙ sym (ap (λ (c : Bool). cond c owner₀ (T es .reach .owner)) ig′)) i;
-                zones = (zones-like (s .zones) (getD ws 11 []) (getD (cut (sizes n e) w′) 11 []) (getD ws 12 []) (getD (cut (sizes n e) w′) 12 []) (getD (cut (floatSizes n e) f) 4 []) (getD (cut (floatSizes n e) f) 4 [])
-                    (λ j l. let p : getD (cut (sizes n e) w′) 11 [] ≡ getD ws 11 [] = array 10 ∙ ap (λ (v : FillView). v .still .starts) X in
+                zones = (zones-like (s .zones) (getD ws 10 []) (getD (cut (wordSizes n e) w′) 10 []) (getD ws 11 []) (getD (cut (wordSizes n e) w′) 11 []) (getD (cut (floatSizes n e) f) 3 []) (getD (cut (floatSizes n e) f) 3 [])
+                    (λ j l. let p : getD (cut (wordSizes n e) w′) 10 [] ≡ getD ws 10 [] = array 9 ∙ ap (λ (v : FillView). v .still .starts) X in
                     (ap (λ (x : List ℕ). getD x j 0) p, (ap (λ (x : List ℕ). getD x (j + 1) 0) p, refl)))
-                    (s .nodes) (ap (take (s .nodes)) (array 11) ∙ ap (λ (v : FillView). v .still .before) X) (λ j l. (st .rise j l, st .below (j + 1) (omega arith)))
-                    ∙ sym (ap (λ (c : Bool). cond c (view n e s w f es .filled .zones) (snoc (view n e s w f es .filled .zones) (record { nodes = T es .reach .nodes; moles = T es .moles }))) ig′)) i;
+                    (s .nodes) (ap (take (s .nodes)) (array 10) ∙ ap (λ (v : FillView). v .still .before) X) (λ j l. (st .rise j l, st .below (j + 1) (omega arith)))
+                    ∙ sym (ap (λ (c : Bool). cond c (filledView n e s w f es .filled .zones) (snoc (filledView n e s w f es .filled .zones) (record { nodes = T es .reach .nodes; moles = T es .moles }))) ig′)) i;
                 tests = ap (λ (v : FillView). v .fill .tests) X i;
                 events = ap (λ (v : FillView). v .fill .reach .events) X i;
                 cancelled = ap (λ (v : FillView). isOver (v .fill .state)) X i;
               };
               around = record {
                 reverse = (array 0 ∙ ap (λ (v : FillView). v .still .reverse) X) i;
-                direction = (array 1 ∙ ap (λ (v : FillView). v .still .direction) X) i;
-                via = (array 2 ∙ ap (λ (v : FillView). v .still .via) X) i;
-                fast = (array 3 ∙ ap (λ (v : FillView). v .still .fast) X) i;
-                list = (array 6 ∙ ap (λ (v : FillView). v .still .list) X) i;
-                cursor = (array 8 ∙ ap (λ (v : FillView). v .still .cursor) X) i;
-                live = (array 9 ∙ ap (λ (v : FillView). v .still .live) X) i;
-                restW = (array 12 ∙ ap (λ (v : FillView). v .still .rest) X) i;
+                met = (array 1 ∙ ap (λ (v : FillView). v .still .met) X) i;
+                fast = (array 2 ∙ ap (λ (v : FillView). v .still .fast) X) i;
+                list = (array 5 ∙ ap (λ (v : FillView). v .still .list) X) i;
+                cursor = (array 7 ∙ ap (λ (v : FillView). v .still .cursor) X) i;
+                live = (array 8 ∙ ap (λ (v : FillView). v .still .live) X) i;
+                restW = (array 11 ∙ ap (λ (v : FillView). v .still .rest) X) i;
                 weight = getD (cut (floatSizes n e) f) 0 [];
-                delta = getD (cut (floatSizes n e) f) 1 [];
-                amount = getD (cut (floatSizes n e) f) 2 [];
-                lifted = getD (cut (floatSizes n e) f) 3 [];
-                restR = getD (cut (floatSizes n e) f) 5 [];
+                states = getD (cut (floatSizes n e) f) 1 [];
+                lifted = getD (cut (floatSizes n e) f) 2 [];
+                restR = getD (cut (floatSizes n e) f) 4 [];
               };
             }
 
-        starts-same : getD (cut (sizes n e) w′) 11 [] ≡ getD ws 11 []
-        unfolding link.view
-        starts-same = array 10 ∙ ap (λ (v : FillView). v .still .starts) (came [])
+        starts-same : getD (cut (wordSizes n e) w′) 10 [] ≡ getD ws 10 []
+        unfolding link.reachView
+        starts-same = array 9 ∙ ap (λ (v : FillView). v .still .starts) (came [])
 
         dropped-stored : Stored n e r₁ w′ f
         dropped-stored = record {
@@ -214,7 +214,7 @@ module _ {b : Board} {m : ℕ} (h : Accepted b m) (gas : List Float) (q : Ask) (
               stored = dropped-stored;
               does = record {
                 more = B .does .more;
-                same = λ es. dropped-view es ∙ ap (λ (x : Filled). onFilled (λ _. x) (view n e s w f es)) (step es);
+                same = λ es. dropped-view es ∙ ap (λ (x : Filled). onFilled (λ _. x) (filledView n e s w f es)) (step es);
                 wrote = B .does .wrote;
               };
             }))
@@ -234,59 +234,59 @@ module _ {b : Board} {m : ℕ} (h : Accepted b m) (gas : List Float) (q : Ask) (
         f₂ = set f (molesAt n e + s .zones) (t .moles)
 
         abbrev ss₁ : List ℕ
-        ss₁ = getD ws₁ 11 []
+        ss₁ = getD ws₁ 10 []
 
         abbrev ss₂ : List ℕ
         ss₂ = set ss₁ (s .zones + 1) v
 
         abbrev ms : List Float
-        ms = getD (cut (floatSizes n e) f) 4 []
+        ms = getD (cut (floatSizes n e) f) 3 []
 
-        words-cut : cut (sizes n e) w₂ ≡ set ws₁ 11 ss₂
-        words-cut = cut-set (sizes n e) w₁ 11 (s .zones + 1) v (startsAt n e + s .zones + 1) (omega arith) (omega (arith, one-zone)) (omega arith)
+        words-cut : cut (wordSizes n e) w₂ ≡ set ws₁ 10 ss₂
+        words-cut = cut-set (wordSizes n e) w₁ 10 (s .zones + 1) v (startsAt n e + s .zones + 1) (omega arith) (omega (arith, one-zone)) (omega arith)
 
-        floats-cut : cut (floatSizes n e) f₂ ≡ set (cut (floatSizes n e) f) 4 (set ms (s .zones) (t .moles))
-        floats-cut = cut-set (floatSizes n e) f 4 (s .zones) (t .moles) (molesAt n e + s .zones) (omega arith) one-zone (omega arith)
+        floats-cut : cut (floatSizes n e) f₂ ≡ set (cut (floatSizes n e) f) 3 (set ms (s .zones) (t .moles))
+        floats-cut = cut-set (floatSizes n e) f 3 (s .zones) (t .moles) (molesAt n e + s .zones) (omega arith) one-zone (omega arith)
 
-        starts-were : ss₁ ≡ getD ws 11 []
-        unfolding link.view
+        starts-were : ss₁ ≡ getD ws 10 []
+        unfolding link.reachView
         starts-were = ap (λ (x : FillView). x .still .starts) (came [])
 
         starts-long : length ss₁ ≡ n + 1
-        starts-long = cut-length (sizes n e) w₁ 11 (omega arith) (omega (arith, B .fit .words))
+        starts-long = cut-length (wordSizes n e) w₁ 10 (omega arith) (omega (arith, B .fit .words))
 
         moles-long : length ms ≡ n
-        moles-long = cut-length (floatSizes n e) f 4 (omega arith) (omega (arith, st .floats))
+        moles-long = cut-length (floatSizes n e) f 3 (omega arith) (omega (arith, st .floats))
 
         start-new : getD ss₂ (s .zones + 1) 0 ≡ v
         start-new = getD-set-same ss₁ (s .zones + 1) v 0 (omega (arith, starts-long, one-zone))
 
-        start-old : (i : ℕ) → i ≤ s .zones → getD ss₂ i 0 ≡ getD (getD ws 11 []) i 0
+        start-old : (i : ℕ) → i ≤ s .zones → getD ss₂ i 0 ≡ getD (getD ws 10 []) i 0
         start-old i l = getD-set-other ss₁ (s .zones + 1) i v 0 (λ x. omega (arith, x)) ∙ ap (λ (x : List ℕ). getD x i 0) starts-were
 
-        last-zone : (es : List Event) → zoneIn ss₂ (getD ws₁ 12 []) (set ms (s .zones) (t .moles)) (s .zones) ≡ record { nodes = T es .reach .nodes; moles = T es .moles }
-        unfolding link.view
+        last-zone : (es : List Event) → zoneIn ss₂ (getD ws₁ 11 []) (set ms (s .zones) (t .moles)) (s .zones) ≡ record { nodes = T es .reach .nodes; moles = T es .moles }
+        unfolding link.reachView
         last-zone es =
             let size : v - s .nodes ≡ t .reach .nodes = omega arith in
             rw (start-new, start-old (s .zones) (omega arith), st .last, getD-set-same ms (s .zones) (t .moles) nan (rw moles-long one-zone), size)
             (ap (λ (x : FillView). record { nodes = x .fill .reach .nodes; moles = x .fill .moles }) (came es))
 
-        zones-kept : (es : List Event) → map (zoneIn ss₂ (getD ws₁ 12 []) (set ms (s .zones) (t .moles))) (upFrom 0 (s .zones + 1))
-            ≡ snoc (map (zoneIn (getD ws 11 []) (getD ws 12 []) ms) (upFrom 0 (s .zones))) (record { nodes = T es .reach .nodes; moles = T es .moles })
+        zones-kept : (es : List Event) → map (zoneIn ss₂ (getD ws₁ 11 []) (set ms (s .zones) (t .moles))) (upFrom 0 (s .zones + 1))
+            ≡ snoc (map (zoneIn (getD ws 10 []) (getD ws 11 []) ms) (upFrom 0 (s .zones))) (record { nodes = T es .reach .nodes; moles = T es .moles })
         zones-kept es =
-            zones-more (s .zones) ss₂ (getD ws₁ 12 []) (set ms (s .zones) (t .moles))
+            zones-more (s .zones) ss₂ (getD ws₁ 11 []) (set ms (s .zones) (t .moles))
             ∙ ap₂ (λ (x : List Zone) (y : Zone). snoc x y)
-            (zones-like (s .zones) (getD ws 11 []) ss₂ (getD ws 12 []) (getD ws₁ 12 []) ms (set ms (s .zones) (t .moles))
+            (zones-like (s .zones) (getD ws 10 []) ss₂ (getD ws 11 []) (getD ws₁ 11 []) ms (set ms (s .zones) (t .moles))
             (λ j l. (start-old j (omega arith), (start-old (j + 1) (omega arith), getD-set-other ms (s .zones) j (t .moles) nan (λ x. omega (arith, x)))))
             (s .nodes) nodes-were (λ j l. (st .rise j l, st .below (j + 1) (omega arith))))
             (last-zone es)
           where
-            nodes-were : take (s .nodes) (getD ws₁ 12 []) ≡ take (s .nodes) (getD ws 12 [])
-            nodes-were = unfold link.view in ap (λ (x : FillView). x .still .before) (came [])
+            nodes-were : take (s .nodes) (getD ws₁ 11 []) ≡ take (s .nodes) (getD ws 11 [])
+            nodes-were = unfold link.reachView in ap (λ (x : FillView). x .still .before) (came [])
 
-        kept-view : (es : List Event) → viewIn r₂ (es ++ B .does .more) (set ws₁ 11 ss₂) (set (cut (floatSizes n e) f) 4 (set ms (s .zones) (t .moles)))
-            ≡ record { filled = afterFill (T es) (view n e s w f es .filled); around = view n e s w f es .around }
-        unfolding view link.view afterFill
+        kept-view : (es : List Event) → filledViewIn r₂ (es ++ B .does .more) (set ws₁ 10 ss₂) (set (cut (floatSizes n e) f) 3 (set ms (s .zones) (t .moles)))
+            ≡ record { filled = afterFill (T es) (filledView n e s w f es .filled); around = filledView n e s w f es .around }
+        unfolding filledView link.reachView afterFill
         kept-view es =
             let X = came es in
             let ig′ : T es .reach .ignored ≡ false = sym (ap (λ (x : FillView). x .fill .reach .ignored) X) ∙ ig in
@@ -294,30 +294,28 @@ module _ {b : Board} {m : ℕ} (h : Accepted b m) (gas : List Float) (q : Ask) (
               filled = record {
                 found = ap (λ (x : FillView). x .fill .reach .found) X i;
                 owner = (ap (λ (x : FillView). x .fill .reach .owner) X ∙ sym (ap (λ (c : Bool). cond c owner₀ (T es .reach .owner)) ig′)) i;
-                zones = (zones-kept es ∙ sym (ap (λ (c : Bool). cond c (view n e s w f es .filled .zones) (snoc (view n e s w f es .filled .zones) (record { nodes = T es .reach .nodes; moles = T es .moles }))) ig′)) i;
+                zones = (zones-kept es ∙ sym (ap (λ (c : Bool). cond c (filledView n e s w f es .filled .zones) (snoc (filledView n e s w f es .filled .zones) (record { nodes = T es .reach .nodes; moles = T es .moles }))) ig′)) i;
                 tests = ap (λ (x : FillView). x .fill .tests) X i;
                 events = ap (λ (x : FillView). x .fill .reach .events) X i;
                 cancelled = ap (λ (x : FillView). isOver (x .fill .state)) X i;
               };
               around = record {
                 reverse = ap (λ (x : FillView). x .still .reverse) X i;
-                direction = ap (λ (x : FillView). x .still .direction) X i;
-                via = ap (λ (x : FillView). x .still .via) X i;
+                met = ap (λ (x : FillView). x .still .met) X i;
                 fast = ap (λ (x : FillView). x .still .fast) X i;
                 list = ap (λ (x : FillView). x .still .list) X i;
                 cursor = ap (λ (x : FillView). x .still .cursor) X i;
                 live = ap (λ (x : FillView). x .still .live) X i;
                 restW = ap (λ (x : FillView). x .still .rest) X i;
                 weight = getD (cut (floatSizes n e) f) 0 [];
-                delta = getD (cut (floatSizes n e) f) 1 [];
-                amount = getD (cut (floatSizes n e) f) 2 [];
-                lifted = getD (cut (floatSizes n e) f) 3 [];
-                restR = getD (cut (floatSizes n e) f) 5 [];
+                states = getD (cut (floatSizes n e) f) 1 [];
+                lifted = getD (cut (floatSizes n e) f) 2 [];
+                restR = getD (cut (floatSizes n e) f) 4 [];
               };
             }
 
-        owner-left : s .nodes + t .reach .nodes + zeros (region (sizes n e) 0 w₁) ≤ s .zones + 1 + e
-        unfolding link.view
+        owner-left : s .nodes + t .reach .nodes + zeros (ownerIn e w₁) ≤ s .zones + 1 + e
+        unfolding link.reachView
         owner-left = omega (arith, B .bounds .nodes, nodes-length (B .fit) [])
 
         kept-stored : Stored n e r₂ w₂ f₂
@@ -334,7 +332,7 @@ module _ {b : Board} {m : ℕ} (h : Accepted b m) (gas : List Float) (q : Ask) (
         }
           where
             now : (i : ℕ) → getD (startsIn n e w₂) i 0 ≡ getD ss₂ i 0
-            now i = ap (λ (x : List (List ℕ)). getD (getD x 11 []) i 0) words-cut
+            now i = ap (λ (x : List (List ℕ)). getD (getD x 10 []) i 0) words-cut
 
             below : (i : ℕ) → i ≤ s .zones + 1 → Dec (s .zones < i) → getD ss₂ i 0 ≤ v
             below i l (yes x) = let p : i ≡ s .zones + 1 = omega arith in rw p (omega (arith, start-new))
@@ -354,10 +352,10 @@ module _ {b : Board} {m : ℕ} (h : Accepted b m) (gas : List Float) (q : Ask) (
               stored = kept-stored;
               does = record {
                 more = B .does .more;
-                same = λ es. seen es ∙ kept-view es ∙ ap (λ (x : Filled). onFilled (λ _. x) (view n e s w f es)) (step es);
+                same = λ es. seen es ∙ kept-view es ∙ ap (λ (x : Filled). onFilled (λ _. x) (filledView n e s w f es)) (step es);
                 wrote = B .does .wrote;
               };
             })))
           where
-            seen : (es : List Event) → view n e r₂ w₂ f₂ (es ++ B .does .more) ≡ viewIn r₂ (es ++ B .does .more) (set ws₁ 11 ss₂) (set (cut (floatSizes n e) f) 4 (set ms (s .zones) (t .moles)))
-            seen es = unfold view in ap₂ (viewIn r₂ (es ++ B .does .more)) words-cut floats-cut
+            seen : (es : List Event) → filledView n e r₂ w₂ f₂ (es ++ B .does .more) ≡ filledViewIn r₂ (es ++ B .does .more) (set ws₁ 10 ss₂) (set (cut (floatSizes n e) f) 3 (set ms (s .zones) (t .moles)))
+            seen es = unfold filledView in ap₂ (filledViewIn r₂ (es ++ B .does .more)) words-cut floats-cut

@@ -8,15 +8,15 @@ use lib.Dec.{T, leb}
 use lib.Ieee.Bits.{is-true}
 use lib.ListN.{length}
 use Rattle.basics.specs.Floats.{finiteSignClear}
-use Rattle.board_rules.specs.Board.{Board}
-use Rattle.board_rules.specs.Refuse.{ascending, linksFit}
+use Rattle.rules_board.specs.Board.{Board}
+use Rattle.rules_board.specs.Refuse.{ascending, linksFit}
 use Rattle.turfs.specs.Tables.{Accepted}
-use Rattle.lent_rules.specs.Lent.{Lent, Extra, wordsRoom, floatsRoom, refusal}
+use Rattle.rules_lent.specs.Lent.{Lent, Extra, wordsRoom, floatsRoom, refusal}
 use Rattle.lent.specs.Given.{Given}
 use Rattle.lent.proofs.Passed.{Passed, passed, links-pass}
 use Rattle.lent.proofs.Numbers.{given}
-use Rattle.equalize_rules.specs.Equalize.{Ask}
-use Rattle.equalize_rules.specs.Result.{equalizeRoom, equalizeNumber}
+use Rattle.rules_equalize.specs.Equalize.{Ask}
+use Rattle.rules_equalize.specs.Result.{equalizeRoom, equalizeNumber}
 use Rattle.fill_all.specs.Asked.{FillFits}
 
 module _ (b : Board) (q : Ask) (turns : List ℕ) (l : Lent) where

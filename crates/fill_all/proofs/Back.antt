@@ -17,13 +17,13 @@ use Rattle.basics.specs.Loops.{run, member, snoc}
 use Rattle.basics.specs.Lists.{All}
 use Rattle.basics.proofs.Loops.{All-imp, and-left, and-right}
 use Rattle.basics.proofs.Lists.{All-snoc, or-left, or-right, or-cases, member-has}
-use Rattle.board_rules.specs.Board.{Board, turfCount, linkCount, end, enabled, linksOf}
+use Rattle.rules_board.specs.Board.{Board, turfCount, linkCount, end, enabled, linksOf}
 use Rattle.turfs.specs.Tables.{Accepted, source}
 use Rattle.turfs.proofs.Accepted.{links-in}
-use Rattle.event_rules.specs.declared.Event.{Event}
-use Rattle.fill_rules.specs.Fill.{Reach, reachLink, fill}
-use Rattle.flood_fill.proofs.Counts.{was-new}
-use Rattle.flood_fill.proofs.Steps.{Keeps, fill-keeps}
+use Rattle.rules_events.specs.declared.Event.{Event}
+use Rattle.rules_fill.specs.Fill.{Reach, reachLink, fill}
+use Rattle.laws_fill.proofs.Counts.{was-new}
+use Rattle.laws_fill.proofs.Steps.{Keeps, fill-keeps}
 use Rattle.fill_zone.proofs.Boards.{parts, source-is}
 use Rattle.fill_all.specs.Held.{giveBack}
 

@@ -11,22 +11,22 @@ use lib.ListN.{length, getD}
 use borrow.Author.Tests.{eq-eqb, ne-eqb, eqb-true}
 use Rattle.basics.proofs.Tests.{differ}
 use Rattle.basics.specs.Loops.{every}
-use Rattle.basics.specs.Regions.{region}
 use Rattle.basics.specs.declared.Spot.{Spot}
 use Rattle.basics.specs.declared.Spot.the-variants.{At, Nowhere}
 use Rattle.basics.specs.Lists.{Found}
-use Rattle.board_rules.specs.Board.{Board, anyBit, turfCount, linkCount, enabled, linksOf, rowOf}
+use Rattle.scratch.specs.Layout.{foundAt}
+use Rattle.scratch.specs.View.{foundIn}
+use Rattle.rules_board.specs.Board.{Board, anyBit, turfCount, linkCount, enabled, linksOf, rowOf}
 use Rattle.turfs.specs.Tables.{Accepted}
 use Rattle.turfs.proofs.Accepted.{row-below}
-use Rattle.mixture_rules.specs.Mixture.{total}
-use Rattle.fill_rules.specs.Fill.{fill}
-use Rattle.flood_fill.specs.Held.{sizes, foundAt}
-use Rattle.flood_fill.proofs.Does.{does-as}
-use Rattle.flood_fill.proofs.Stores.{found-at}
+use Rattle.rules_mixture.specs.Mixture.{total}
+use Rattle.rules_fill.specs.Fill.{fill}
+use Rattle.fill_links.proofs.Does.{does-as}
+use Rattle.fill_links.proofs.Stores.{found-at}
 use Rattle.fill_zone.specs.Held.{Begins}
 use Rattle.fill_zone.specs.declared.Flood.{Flood}
-use Rattle.equalize_rules.specs.Equalize.{Ask, Filled, 10f, near, passedOver, hotRow, hotId}
-use Rattle.fill_all.specs.Held.{view, onFilled, foundIn, Stored, Open, Fills, After}
+use Rattle.rules_equalize.specs.Equalize.{Ask, Filled, 10f, near, passedOver, hotRow, hotId}
+use Rattle.fill_all.specs.Held.{filledView, onFilled, Stored, FillOpen, Fills, After}
 use Rattle.fill_all.specs.Asked.{FoundFits}
 use Rattle.fill_all.specs.declared.Filling.{Filling}
 use Rattle.fill_all.proofs.After.{fills-none, kept-fills, dropped-fills}
@@ -71,11 +71,11 @@ module _ (b : Board) (gas : List Float) (q : Ask) (i : ℕ) where
 pub mark-is : {n e row : ℕ} {w : List ℕ} → FoundFits n e row w → (at : ℕ) → at ≡ foundAt n e → getD w (at + row) 0 ≡ getD (foundIn n e w) row 0
 mark-is {n} {e} {row} {w} h at ea = found-at n e w (h .words) row (at + row) (omega arith) (h .row)
 
-pub row-none : {b : Board} (q : Ask) {s : Filling} {w : List ℕ} {f : List Float} {area : List ℕ} → Stored (turfCount b) (linkCount b) s w f → Open b (q .allowance) s w area → (row : ℕ) (gas : List Float)
+pub row-none : {b : Board} (q : Ask) {s : Filling} {w : List ℕ} {f : List Float} {area : List ℕ} → Stored (turfCount b) (linkCount b) s w f → FillOpen b (q .allowance) s w area → (row : ℕ) (gas : List Float)
     → {t : Bool} → passedOver b gas q row (foundIn (turfCount b) (linkCount b) w) ≡ t → t ≡ true → Fills (turfCount b) (linkCount b) (hotRow b gas q (At row)) s s w w f f area area
-unfolding view
+unfolding filledView
 row-none {b} q {s} {w} {f} st op row gas p t =
-    fills-none (hotRow b gas q (At row)) st (omega (arith, op .bytes)) (λ es. row-passed b gas q row (view (turfCount b) (linkCount b) s w f es .filled) (p ∙ t))
+    fills-none (hotRow b gas q (At row)) st (omega (arith, op .bytes)) (λ es. row-passed b gas q row (filledView (turfCount b) (linkCount b) s w f es .filled) (p ∙ t))
 
 -- a turf that isn't passed over isn't found
 pub is-new : (b : Board) (gas : List Float) (q : Ask) (row : ℕ) (found : List ℕ) {t : Bool} → passedOver b gas q row found ≡ t → t ≡ false → getD found row 0 ≡ 0
@@ -87,7 +87,7 @@ is-new b gas q row found p f = go (eqb (getD found row 0) 0) refl
     go false e = absurd (differ (sym (ap (λ (x : Bool). not x || (not (enabled b row) || rest b gas q row)) e) ∙ p ∙ f))
 
 pub after-fills : {b : Board} {m : ℕ} (h : Accepted b m) (gas : List Float) (q : Ask) (row : ℕ) {s : Filling} {w : List ℕ} {f : List Float} {area : List ℕ} (st : Stored (turfCount b) (linkCount b) s w f)
-    (op : Open b (q .allowance) s w area) (hr : row < turfCount b) (new : getD (region (sizes (turfCount b) (linkCount b)) 8 w) row 0 ≡ 0)
+    (op : FillOpen b (q .allowance) s w area) (hr : row < turfCount b) (new : getD (foundIn (turfCount b) (linkCount b) w) row 0 ≡ 0)
     → {x : Bool} → passedOver b gas q row (foundIn (turfCount b) (linkCount b) w) ≡ x → x ≡ false → {t : Flood} {w₁ area₁ : List ℕ}
     → Begins (turfCount b) (linkCount b) (s .zones) (s .nodes) (s .used) (λ found owner es. fill b gas (q .limit) (q .allowance) (s .zones) row found owner es (s .tests)) t w w₁ area area₁
     → {r : Filling} {w′ : List ℕ} {f′ : List Float} → After (turfCount b) (linkCount b) (b .starts) s t r w₁ w′ f f′
@@ -102,15 +102,15 @@ after-fills {b} h gas q row {s} {w} {f} {area} st op hr new pass off {t} {w₁} 
 
 pub fills-id : (b : Board) (gas : List Float) (q : Ask) (i row : ℕ) {s s′ : Filling} {w w′ : List ℕ} {f f′ : List Float} {area area′ : List ℕ} → s .cancelled ≡ false → rowOf b i ≡ At row
     → Fills (turfCount b) (linkCount b) (hotRow b gas q (At row)) s s′ w w′ f f′ area area′ → Fills (turfCount b) (linkCount b) (hotId b gas q i) s s′ w w′ f f′ area area′
-unfolding view
+unfolding filledView
 fills-id b gas q i row {s} {w = w} {f = f} c e d = record {
   stored = d .stored;
-  does = does-as (d .does) (λ es. ap (λ (x : Filled). onFilled (λ _. x) (view (turfCount b) (linkCount b) s w f es)) (id-known b gas q i (view (turfCount b) (linkCount b) s w f es .filled) c row e));
+  does = does-as (d .does) (λ es. ap (λ (x : Filled). onFilled (λ _. x) (filledView (turfCount b) (linkCount b) s w f es)) (id-known b gas q i (filledView (turfCount b) (linkCount b) s w f es .filled) c row e));
 }
 
-pub fills-unknown : (b : Board) (gas : List Float) (q : Ask) (i : ℕ) {s : Filling} {w : List ℕ} {f : List Float} {area : List ℕ} → Stored (turfCount b) (linkCount b) s w f → Open b (q .allowance) s w area
+pub fills-unknown : (b : Board) (gas : List Float) (q : Ask) (i : ℕ) {s : Filling} {w : List ℕ} {f : List Float} {area : List ℕ} → Stored (turfCount b) (linkCount b) s w f → FillOpen b (q .allowance) s w area
     → rowOf b i ≡ Nowhere → Fills (turfCount b) (linkCount b) (hotId b gas q i) s s w w f f area area
-fills-unknown b gas q i {s} {w} {f} st op e = fills-none (hotId b gas q i) st (omega (arith, op .bytes)) (λ es. id-unknown b gas q i (view (turfCount b) (linkCount b) s w f es .filled) e)
+fills-unknown b gas q i {s} {w} {f} st op e = fills-none (hotId b gas q i) st (omega (arith, op .bytes)) (λ es. id-unknown b gas q i (filledView (turfCount b) (linkCount b) s w f es .filled) e)
 
 pub row-in : {b : Board} {m : ℕ} → Accepted b m → (i : ℕ) (o : Spot) → rowOf b i ≡ o → (row : ℕ) → o ≡ At row → row < turfCount b
 row-in {b} h i o e row a = subst (λ (x : Spot). Found (λ r. r < turfCount b) x) (e ∙ a) (row-below b i)

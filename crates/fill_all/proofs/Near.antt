@@ -12,9 +12,9 @@ use Rattle.basics.specs.Loops.{every, upFrom}
 use Rattle.basics.specs.Floats.{abs, finiteSignClear, _-f_}
 use Rattle.basics.proofs.Tests.{differ}
 use Rattle.basics.proofs.Lists.{upFrom-length}
-use Rattle.board_rules.specs.Board.{Board, end, linksOf}
-use Rattle.mixture_rules.specs.Mixture.{total}
-use Rattle.equalize_rules.specs.Equalize.{Ask, 10f, near}
+use Rattle.rules_board.specs.Board.{Board, end, linksOf}
+use Rattle.rules_mixture.specs.Mixture.{total}
+use Rattle.rules_equalize.specs.Equalize.{Ask, 10f, near}
 
 -- ---- |d| < t
 

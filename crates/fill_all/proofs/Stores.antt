@@ -7,11 +7,12 @@ use mathlib.Core.List.{List, [], _∷_, _++_, append-nil, append-assoc}
 use lib.ListN.{length, getD, set, take, drop, replicate, length-set, length-replicate, length-take, length-drop, drop-of-length-le}
 use lib.Seq.{sets, sets-eq, length-sets, length-take-le, drop-drop, getD-take, take-suc}
 use Rattle.basics.specs.Loops.{run}
-use Rattle.basics.specs.Regions.{cut, region}
+use Rattle.basics.specs.Regions.{cut}
 use Rattle.basics.proofs.Loops.{run-append}
 use Rattle.basics.proofs.Regions.{cut-set, cut-get, cut-part}
-use Rattle.flood_fill.specs.Held.{sizes, queueAt, foundAt, startsAt, nodesAt}
-use Rattle.flood_fill.proofs.Stores.{queue-long}
+use Rattle.scratch.specs.Layout.{wordSizes, queueAt, foundAt, startsAt, marksAt}
+use Rattle.scratch.specs.View.{ownerIn, queueIn}
+use Rattle.fill_links.proofs.Stores.{queue-long}
 use Rattle.fill_all.specs.Held.{giveBack, pushed, GaveBack, Cleared}
 use Rattle.fill_all.specs.Asked.{Spans}
 
@@ -36,15 +37,15 @@ row-back starts w ys r from to ef et h k e =
 
 -- ---- the owners among the words
 
-cut-sets : (n e : ℕ) (vs w : List ℕ) (i : ℕ) → i + length vs ≤ e → cut (sizes n e) (sets w i vs) ≡ set (cut (sizes n e) w) 0 (sets (region (sizes n e) 0 w) i vs)
+cut-sets : (n e : ℕ) (vs w : List ℕ) (i : ℕ) → i + length vs ≤ e → cut (wordSizes n e) (sets w i vs) ≡ set (cut (wordSizes n e) w) 0 (sets (ownerIn e w) i vs)
 cut-sets n e [] w i h = refl
 cut-sets n e (v ∷ vs) w i h =
     cut-sets n e vs (set w i v) (suc i) (omega arith)
-    ∙ ap (λ (ws : List (List ℕ)). set ws 0 (sets (getD ws 0 []) (suc i) vs)) (cut-set (sizes n e) w 0 i v i (omega arith) (omega arith) (omega arith))
+    ∙ ap (λ (ws : List (List ℕ)). set ws 0 (sets (getD ws 0 []) (suc i) vs)) (cut-set (wordSizes n e) w 0 i v i (omega arith) (omega arith) (omega arith))
 
 -- i of the rows that were pushed gave back
 pub record Backing (n e : ℕ) (starts : List ℕ) (queued i : ℕ) (w w′ : List ℕ) : Type 0 where
-  pub done : cut (sizes n e) w′ ≡ set (cut (sizes n e) w) 0 (run (giveBack starts) (take i (pushed n e queued w)) (region (sizes n e) 0 w))
+  pub done : cut (wordSizes n e) w′ ≡ set (cut (wordSizes n e) w) 0 (run (giveBack starts) (take i (pushed n e queued w)) (ownerIn e w))
   pub long : length w′ ≡ length w
   pub within : i ≤ queued
 
@@ -52,26 +53,26 @@ pub backing-start : (n e : ℕ) (starts : List ℕ) (queued : ℕ) (w : List ℕ
 unfolding run
 backing-start n e starts queued w = record { done = refl; long = refl; within = omega arith }
 
-module _ {n e : ℕ} {starts : List ℕ} {queued i : ℕ} {w w′ : List ℕ} (v : Backing n e starts queued i w w′) (long : nodesAt n e + n + e + n ≤ length w) (few : queued ≤ n) (l : i < queued) (at : ℕ) (ea : at ≡ queueAt n e) where
+module _ {n e : ℕ} {starts : List ℕ} {queued i : ℕ} {w w′ : List ℕ} (v : Backing n e starts queued i w w′) (long : marksAt n e + n ≤ length w) (few : queued ≤ n) (l : i < queued) (at : ℕ) (ea : at ≡ queueAt n e) where
   pub back-row : getD w′ (at + i) 0 ≡ getD (pushed n e queued w) i 0
   back-row =
-      cut-get (sizes n e) w′ 0 5 i (at + i) (omega arith) (omega arith) (omega arith)
-      ∙ ap (λ (ws : List (List ℕ)). getD (getD ws 5 []) i 0) (v .done)
-      ∙ sym (getD-take queued (region (sizes n e) 5 w) i 0 l)
+      cut-get (wordSizes n e) w′ 0 4 i (at + i) (omega arith) (omega arith) (omega arith)
+      ∙ ap (λ (ws : List (List ℕ)). getD (getD ws 4 []) i 0) (v .done)
+      ∙ sym (getD-take queued (queueIn n e w) i 0 l)
 
   pub backing-next : (r : ℕ) → r ≡ getD (pushed n e queued w) i 0 → getD starts r 0 ≤ getD starts (r + 1) 0 → getD starts (r + 1) 0 ≤ e → {w″ : List ℕ} → w″ ≡ giveBack starts r w′ → Backing n e starts queued (i + 1) w w″
   backing-next r er rise end {w″} q =
       let rows : List ℕ = pushed n e queued w in
-      let o : List ℕ = region (sizes n e) 0 w in
-      let len : length rows ≡ queued = length-take-le queued (region (sizes n e) 5 w) (omega (arith, queue-long n e w long)) in
+      let o : List ℕ = ownerIn e w in
+      let len : length rows ≡ queued = length-take-le queued (queueIn n e w) (omega (arith, queue-long n e w long)) in
       let one : run (giveBack starts) (take (i + 1) rows) o ≡ giveBack starts (getD rows i 0) (run (giveBack starts) (take i rows) o) =
       ap (λ (j : ℕ). run (giveBack starts) (take j rows) o) (add-one i) ∙ ap (λ (x : List ℕ). run (giveBack starts) x o) (take-suc rows i 0 (omega (arith, len))) ∙ last (take i rows) (getD rows i 0) o in
       record {
-        done = ap (cut (sizes n e)) q
+        done = ap (cut (wordSizes n e)) q
             ∙ cut-sets n e (replicate (getD starts (r + 1) 0 - getD starts r 0) 0) w′ (getD starts r 0) (omega (arith, length-replicate {A = ℕ} (getD starts (r + 1) 0 - getD starts r 0) 0))
             ∙ ap (λ (ws : List (List ℕ)). set ws 0 (giveBack starts r (getD ws 0 []))) (v .done)
-            ∙ ap (λ (x : ℕ). set (cut (sizes n e) w) 0 (giveBack starts x (run (giveBack starts) (take i rows) o))) er
-            ∙ ap (λ (x : List ℕ). set (cut (sizes n e) w) 0 x) (sym one);
+            ∙ ap (λ (x : ℕ). set (cut (wordSizes n e) w) 0 (giveBack starts x (run (giveBack starts) (take i rows) o))) er
+            ∙ ap (λ (x : List ℕ). set (cut (wordSizes n e) w) 0 x) (sym one);
         long = ap length q ∙ length-sets w′ (getD starts r 0) (replicate (getD starts (r + 1) 0 - getD starts r 0) 0) ∙ v .long;
         within = omega arith;
       }
@@ -82,26 +83,26 @@ module _ {n e : ℕ} {starts : List ℕ} {queued i : ℕ} {w w′ : List ℕ} (v
 pub backing-end : {n e : ℕ} {starts : List ℕ} {queued i : ℕ} {w w′ : List ℕ} → Backing n e starts queued i w w′ → queued ≤ i → GaveBack n e starts queued w w′
 backing-end {n} {e} {starts} {queued} {i} {w} {w′} v l =
     let same : i ≡ queued = omega (arith, v .within) in
-    v .done ∙ ap (λ (x : List ℕ). set (cut (sizes n e) w) 0 (run (giveBack starts) x (region (sizes n e) 0 w)))
-    (ap (λ (j : ℕ). take j (pushed n e queued w)) same ∙ lib.Seq.take-all queued (pushed n e queued w) (omega (arith, length-take queued (region (sizes n e) 5 w))))
+    v .done ∙ ap (λ (x : List ℕ). set (cut (wordSizes n e) w) 0 (run (giveBack starts) x (ownerIn e w)))
+    (ap (λ (j : ℕ). take j (pushed n e queued w)) same ∙ lib.Seq.take-all queued (pushed n e queued w) (omega (arith, length-take queued (queueIn n e w))))
 
 -- ---- the start
 
-pub cleared : (n e : ℕ) (w w₁ ys : List ℕ) (fa sa k : ℕ) → nodesAt n e + n + e + n ≤ length w → fa ≡ foundAt n e → sa ≡ startsAt n e → k ≡ n → w₁ ≡ replicate e 0 ++ drop e w
+pub cleared : (n e : ℕ) (w w₁ ys : List ℕ) (fa sa k : ℕ) → marksAt n e + n ≤ length w → fa ≡ foundAt n e → sa ≡ startsAt n e → k ≡ n → w₁ ≡ replicate e 0 ++ drop e w
     → ys ≡ replicate n 0 ++ drop n (take k (drop fa w₁)) → Cleared n e w (set (take fa w₁ ++ (ys ++ drop k (drop fa w₁))) sa 0)
 cleared n e w w₁ ys fa sa k long ef es ek e₁ ey =
     let l₁ : length w₁ ≡ length w = ap length e₁ ∙ front in
     let y : ys ≡ replicate n 0 = emptied n (take k (drop fa w₁)) ys (omega (arith, mid-short k fa w₁)) ey in
-    let c₁ : cut (sizes n e) w₁ ≡ set (cut (sizes n e) w) 0 (replicate e 0) = ap (cut (sizes n e)) e₁ ∙ cut-part (sizes n e) w 0 (replicate e 0) 0 e (omega arith) (omega arith) refl refl (length-replicate {A = ℕ} e 0) in
-    let c₂ : cut (sizes n e) (take fa w₁ ++ (ys ++ drop k (drop fa w₁))) ≡ set (cut (sizes n e) w₁) 8 ys =
-    cut-part (sizes n e) w₁ 8 ys fa k (omega arith) (omega (arith, l₁)) (omega arith) (omega arith) (ap length y ∙ length-replicate {A = ℕ} n 0 ∙ sym ek) in
-    cut-set (sizes n e) (take fa w₁ ++ (ys ++ drop k (drop fa w₁))) 11 0 0 sa (omega arith) (omega arith) (omega arith)
-    ∙ ap (λ (ws : List (List ℕ)). set ws 11 (set (getD ws 11 []) 0 0)) (c₂ ∙ ap₂ (λ (ws : List (List ℕ)) (r : List ℕ). set ws 8 r) c₁ y)
+    let c₁ : cut (wordSizes n e) w₁ ≡ set (cut (wordSizes n e) w) 0 (replicate e 0) = ap (cut (wordSizes n e)) e₁ ∙ cut-part (wordSizes n e) w 0 (replicate e 0) 0 e (omega arith) (omega arith) refl refl (length-replicate {A = ℕ} e 0) in
+    let c₂ : cut (wordSizes n e) (take fa w₁ ++ (ys ++ drop k (drop fa w₁))) ≡ set (cut (wordSizes n e) w₁) 7 ys =
+    cut-part (wordSizes n e) w₁ 7 ys fa k (omega arith) (omega (arith, l₁)) (omega arith) (omega arith) (ap length y ∙ length-replicate {A = ℕ} n 0 ∙ sym ek) in
+    cut-set (wordSizes n e) (take fa w₁ ++ (ys ++ drop k (drop fa w₁))) 10 0 0 sa (omega arith) (omega arith) (omega arith)
+    ∙ ap (λ (ws : List (List ℕ)). set ws 10 (set (getD ws 10 []) 0 0)) (c₂ ∙ ap₂ (λ (ws : List (List ℕ)) (r : List ℕ). set ws 7 r) c₁ y)
   where
     front : length (replicate e 0 ++ drop e w) ≡ length w
     front = simp (lib.ListN.length-append, length-replicate, length-drop) (omega arith)
 
-pub cleared-length : (n e : ℕ) (w w₁ ys : List ℕ) (fa sa k : ℕ) → nodesAt n e + n + e + n ≤ length w → fa ≡ foundAt n e → k ≡ n → w₁ ≡ replicate e 0 ++ drop e w
+pub cleared-length : (n e : ℕ) (w w₁ ys : List ℕ) (fa sa k : ℕ) → marksAt n e + n ≤ length w → fa ≡ foundAt n e → k ≡ n → w₁ ≡ replicate e 0 ++ drop e w
     → ys ≡ replicate n 0 ++ drop n (take k (drop fa w₁)) → length (set (take fa w₁ ++ (ys ++ drop k (drop fa w₁))) sa 0) ≡ length w
 cleared-length n e w w₁ ys fa sa k long ef ek e₁ ey =
     let l₁ : length w₁ ≡ length w = ap length e₁ ∙ simp (lib.ListN.length-append, length-replicate, length-drop) (omega arith) in
@@ -110,6 +111,6 @@ cleared-length n e w w₁ ys fa sa k long ef ek e₁ ey =
     simp (length-set, lib.ListN.length-append, y, t, length-drop) (omega arith)
 
 -- what a row that gives back is asked
-pub back-asks : {n e : ℕ} {starts : List ℕ} (w : List ℕ) → Spans n e starts → nodesAt n e + n + e + n ≤ length w → (r : ℕ) → r < n
+pub back-asks : {n e : ℕ} {starts : List ℕ} (w : List ℕ) → Spans n e starts → marksAt n e + n ≤ length w → (r : ℕ) → r < n
     → (r + 1 < length starts) × ((getD starts r 0 ≤ getD starts (r + 1) 0) × (getD starts (r + 1) 0 ≤ length w))
 back-asks w p long r l = (omega (arith, p .count), (p .rise r l, omega (arith, p .end r l)))

@@ -1,43 +1,36 @@
 -- How the work areas hold what filling has come to, and what a function of filling promises of them.
 use Prim.Native.Nat.{ℕ, _+_, _-_, _*_, _≤_, _<_}
 use mathlib.Core.Path.{_≡_}
-use mathlib.Core.List.{List, [], _∷_, map}
+use mathlib.Core.List.{List, [], map}
 use mathlib.Core.Bool.{true, false}
 use lib.ListN.{length, getD, set, take, drop, replicate}
 use lib.Seq.{sets}
 use lib.Ieee.{Float, nan}
 use Rattle.basics.specs.Loops.{run, upFrom}
-use Rattle.basics.specs.Regions.{cut, region}
-use Rattle.board_rules.specs.Board.{Board, turfCount, linkCount}
+use Rattle.basics.specs.Regions.{cut}
+use Rattle.scratch.specs.Layout.{wordSizes, floatSizes, startsAt, marksAt, molesAt, Sizes}
+use Rattle.scratch.specs.View.{ownerIn, queueIn, foundIn, startsIn}
+use Rattle.rules_board.specs.Board.{Board, turfCount, linkCount}
 use Rattle.turfs.specs.Tables.{source}
-use Rattle.events.specs.Area.{Holds}
-use Rattle.event_rules.specs.declared.Event.{Event}
-use Rattle.fill_rules.specs.Fill.{isOver}
-use Rattle.fill_rules.specs.declared.Settings.{Settings}
-use Rattle.flood_fill.specs.Held.{sizes, startsAt, nodesAt, Sizes, zeros, Does}
+use Rattle.events.specs.Area.{HoldsEvents}
+use Rattle.rules_events.specs.declared.Event.{Event}
+use Rattle.rules_fill.specs.Fill.{isOver}
+use Rattle.rules_fill.specs.declared.Settings.{Settings}
+use Rattle.fill_links.specs.Held.{zeros, FillDoes}
 use Rattle.fill_zone.specs.declared.Flood.{Flood}
-use Rattle.finish_rules.specs.Turns.{Zone}
-use Rattle.equalize_rules.specs.Equalize.{Ask, Filled}
+use Rattle.rules_finish.specs.Turns.{Zone}
+use Rattle.rules_equalize.specs.Equalize.{Ask, Filled}
 use Rattle.fill_all.specs.declared.Filling.{Filling}
 
 -- what only equalize is asked
-abbrev pub ask : List ℕ → Float → ℕ → ℕ → Ask
-ask hot threshold limit allowance = record { hot = hot; threshold = threshold; limit = limit; allowance = allowance }
+abbrev pub askOf : List ℕ → Float → ℕ → ℕ → Ask
+askOf hot threshold limit allowance = record { hot = hot; threshold = threshold; limit = limit; allowance = allowance }
 
 -- the same by the settings
 abbrev pub asked : List ℕ → Settings → Ask
-asked hot settings = ask hot (settings .threshold) (settings .limit) (settings .allowance)
+asked hot settings = askOf hot (settings .threshold) (settings .limit) (settings .allowance)
 
 -- ---- the areas
-
--- The floats of the whole call. By link: weight. By row: delta, amount. By link: lifted. By zone: its total as filled. Filling leaves delta and amount;
--- planning has them as one array of pairs.
-abbrev pub floatSizes : ℕ → ℕ → List ℕ
-floatSizes n e = e ∷ n ∷ n ∷ e ∷ n ∷ []
-
--- where the totals start
-abbrev pub molesAt : ℕ → ℕ → ℕ
-molesAt n e = e + n + n + e
 
 -- zone number i
 abbrev pub zoneIn : List ℕ → List ℕ → List Float → ℕ → Zone
@@ -46,21 +39,19 @@ zoneIn starts nodes moles i = record { nodes = take (getD starts (i + 1) 0 - get
 -- what filling leaves as it was
 pub record Around : Type 0 where
   pub reverse : List ℕ
-  pub direction : List ℕ
-  pub via : List ℕ
+  pub met : List ℕ
   pub fast : List ℕ
   pub list : List ℕ
   pub cursor : List ℕ
   pub live : List ℕ
   pub restW : List ℕ
   pub weight : List Float
-  pub delta : List Float
-  pub amount : List Float
+  pub states : List Float
   pub lifted : List Float
   pub restR : List Float
 
 -- all that the areas hold
-pub record View : Type 0 where
+pub record FilledView : Type 0 where
   pub filled : Filled
   pub around : Around
 
@@ -68,27 +59,25 @@ pub record View : Type 0 where
 abbrev pub aroundIn : List (List ℕ) → List (List Float) → Around
 aroundIn ws rs = record {
   reverse = getD ws 1 [];
-  direction = getD ws 2 [];
-  via = getD ws 3 [];
-  fast = getD ws 4 [];
-  list = getD ws 7 [];
-  cursor = getD ws 9 [];
-  live = getD ws 10 [];
-  restW = getD ws 13 [];
+  met = getD ws 2 [];
+  fast = getD ws 3 [];
+  list = getD ws 6 [];
+  cursor = getD ws 8 [];
+  live = getD ws 9 [];
+  restW = getD ws 12 [];
   weight = getD rs 0 [];
-  delta = getD rs 1 [];
-  amount = getD rs 2 [];
-  lifted = getD rs 3 [];
-  restR = getD rs 5 [];
+  states = getD rs 1 [];
+  lifted = getD rs 2 [];
+  restR = getD rs 4 [];
 }
 
 -- the arrays, where filling has come to s and the events es were written
-abbrev pub viewIn : Filling → List Event → List (List ℕ) → List (List Float) → View
-viewIn s es ws rs = record {
+abbrev pub filledViewIn : Filling → List Event → List (List ℕ) → List (List Float) → FilledView
+filledViewIn s es ws rs = record {
   filled = record {
-    found = getD ws 8 [];
+    found = getD ws 7 [];
     owner = getD ws 0 [];
-    zones = map (zoneIn (getD ws 11 []) (getD ws 12 []) (getD rs 4 [])) (upFrom 0 (s .zones));
+    zones = map (zoneIn (getD ws 10 []) (getD ws 11 []) (getD rs 3 [])) (upFrom 0 (s .zones));
     tests = s .tests;
     events = es;
     cancelled = s .cancelled;
@@ -97,46 +86,38 @@ viewIn s es ws rs = record {
 }
 
 -- the areas, cut into them
-unfoldable pub view : ℕ → ℕ → Filling → List ℕ → List Float → List Event → View
-view n e s w f es = viewIn s es (cut (sizes n e) w) (cut (floatSizes n e) f)
+unfoldable pub filledView : ℕ → ℕ → Filling → List ℕ → List Float → List Event → FilledView
+filledView n e s w f es = filledViewIn s es (cut (wordSizes n e) w) (cut (floatSizes n e) f)
 
 -- a step of filling; all else stays
-abbrev pub onFilled : (Filled → Filled) → View → View
+abbrev pub onFilled : (Filled → Filled) → FilledView → FilledView
 onFilled g v = record { filled = g (v .filled); around = v .around }
 
 -- ---- what holds wherever filling stands
 
--- where the zones' nodes start
-abbrev pub startsIn : ℕ → ℕ → List ℕ → List ℕ
-startsIn n e w = region (sizes n e) 11 w
-
--- which turfs are found
-abbrev pub foundIn : ℕ → ℕ → List ℕ → List ℕ
-foundIn n e w = region (sizes n e) 8 w
-
 -- the areas are long enough, the zones' nodes stand one after the other, and there are at most as many nodes as zones and owned links
 pub record Stored (n e : ℕ) (s : Filling) (w : List ℕ) (f : List Float) : Type 0 where
   pub sizes : Sizes n e
-  pub words : nodesAt n e + n + e + n ≤ length w
+  pub words : marksAt n e + n ≤ length w
   pub floats : molesAt n e + n ≤ length f
   pub zones : s .zones ≤ n
   pub first : getD (startsIn n e w) 0 0 ≡ 0
   pub last : getD (startsIn n e w) (s .zones) 0 ≡ s .nodes
   pub rise : (i : ℕ) → i < s .zones → getD (startsIn n e w) i 0 ≤ getD (startsIn n e w) (i + 1) 0
   pub below : (i : ℕ) → i ≤ s .zones → getD (startsIn n e w) i 0 ≤ s .nodes
-  pub nodes : s .nodes + zeros (region (Rattle.flood_fill.specs.Held.sizes n e) 0 w) ≤ s .zones + e
+  pub nodes : s .nodes + zeros (ownerIn e w) ≤ s .zones + e
 
 -- what a fill from a turf that isn't found is asked: the links of such turfs have no owner; there is room for the zone and the requests; the clock has time
-pub record Open (b : Board) (allowance : ℕ) (s : Filling) (w area : List ℕ) : Type 0 where
-  pub unowned : (k : ℕ) → getD (region (sizes (turfCount b) (linkCount b)) 8 w) (source (b .starts) k) 0 ≡ 0 → getD (region (sizes (turfCount b) (linkCount b)) 0 w) k 0 ≡ 0
-  pub zones : s .zones + zeros (region (sizes (turfCount b) (linkCount b)) 8 w) ≤ turfCount b
-  pub bytes : s .used + 16 * zeros (region (sizes (turfCount b) (linkCount b)) 8 w) ≤ length area
+pub record FillOpen (b : Board) (allowance : ℕ) (s : Filling) (w area : List ℕ) : Type 0 where
+  pub unowned : (k : ℕ) → getD (foundIn (turfCount b) (linkCount b) w) (source (b .starts) k) 0 ≡ 0 → getD (ownerIn (linkCount b) w) k 0 ≡ 0
+  pub zones : s .zones + zeros (foundIn (turfCount b) (linkCount b) w) ≤ turfCount b
+  pub bytes : s .used + 16 * zeros (foundIn (turfCount b) (linkCount b) w) ≤ length area
   pub tests : s .tests ≤ allowance
 
 -- from s, w, f to s′, w′, f′ by the step g of filling
 pub record Fills (n e : ℕ) (g : Filled → Filled) (s s′ : Filling) (w w′ : List ℕ) (f f′ : List Float) (area area′ : List ℕ) : Type 0 where
   pub stored : Stored n e s′ w′ f′
-  pub does : Does (onFilled g) (view n e s w f) (view n e s′ w′ f′) (s .used) (s′ .used) area area′
+  pub does : FillDoes (onFilled g) (filledView n e s w f) (filledView n e s′ w′ f′) (s .used) (s′ .used) area area′
 
 -- ---- an ignored zone
 
@@ -146,11 +127,11 @@ giveBack starts r o = sets o (getD starts r 0) (replicate (getD starts (r + 1) 0
 
 -- the rows that were pushed
 abbrev pub pushed : ℕ → ℕ → ℕ → List ℕ → List ℕ
-pushed n e queued w = take queued (region (sizes n e) 5 w)
+pushed n e queued w = take queued (queueIn n e w)
 
 -- every row that was pushed gave its links back, and all else is as it was
 abbrev pub GaveBack : ℕ → ℕ → List ℕ → ℕ → List ℕ → List ℕ → Type 0
-GaveBack n e starts queued w w′ = cut (sizes n e) w′ ≡ set (cut (sizes n e) w) 0 (run (giveBack starts) (pushed n e queued w) (region (sizes n e) 0 w))
+GaveBack n e starts queued w w′ = cut (wordSizes n e) w′ ≡ set (cut (wordSizes n e) w) 0 (run (giveBack starts) (pushed n e queued w) (ownerIn e w))
 
 -- ---- what a fill leaves
 
@@ -180,13 +161,13 @@ start = record { zones = 0; nodes = 0; tests = 0; used = 0; cancelled = false }
 
 -- the owners, the marks of what is found and the first start are cleared, and all else is as it was
 abbrev pub Cleared : ℕ → ℕ → List ℕ → List ℕ → Type 0
-Cleared n e w w′ = cut (sizes n e) w′ ≡ set (set (set (cut (sizes n e) w) 0 (replicate e 0)) 8 (replicate n 0)) 11 (set (startsIn n e w) 0 0)
+Cleared n e w w′ = cut (wordSizes n e) w′ ≡ set (set (set (cut (wordSizes n e) w) 0 (replicate e 0)) 7 (replicate n 0)) 10 (set (startsIn n e w) 0 0)
 
 -- what the hot loop starts from: nothing was found, owned or kept, and there is room for every request
-pub record Begun (b : Board) (s : Filling) (w area : List ℕ) : Type 0 where
+pub record HotBegun (b : Board) (s : Filling) (w area : List ℕ) : Type 0 where
   pub answer : s ≡ start
-  pub found : region (sizes (turfCount b) (linkCount b)) 8 w ≡ replicate (turfCount b) 0
-  pub owner : region (sizes (turfCount b) (linkCount b)) 0 w ≡ replicate (linkCount b) 0
+  pub found : foundIn (turfCount b) (linkCount b) w ≡ replicate (turfCount b) 0
+  pub owner : ownerIn (linkCount b) w ≡ replicate (linkCount b) 0
   pub room : 16 * turfCount b ≤ length area
 
 -- ---- the whole
@@ -194,5 +175,5 @@ pub record Begun (b : Board) (s : Filling) (w area : List ℕ) : Type 0 where
 -- Filling from nothing: the view at the end is the definition's `fillAll`, all else is as it was, and of the event area all but the bytes written.
 pub record FillsAll (n e : ℕ) (all : Filled) (r : Filling) (w w′ : List ℕ) (f f′ : List Float) (area area′ : List ℕ) : Type 0 where
   pub stored : Stored n e r w′ f′
-  pub same : view n e r w′ f′ (all .events) ≡ record { filled = all; around = aroundIn (cut (Rattle.flood_fill.specs.Held.sizes n e) w) (cut (floatSizes n e) f) }
-  pub wrote : Holds (all .events) (r .used) area area′
+  pub same : filledView n e r w′ f′ (all .events) ≡ record { filled = all; around = aroundIn (cut (wordSizes n e) w) (cut (floatSizes n e) f) }
+  pub wrote : HoldsEvents (all .events) (r .used) area area′

@@ -1,9 +1,9 @@
-// Filling: zones from the hot turfs. Its definition is `fillAll` of crate equalize; specs/Held.antt says how the work areas hold it.
+// Filling: zones from the hot turfs. Its definition is `fillAll` of crate rules_equalize; specs/Held.antt says how the work areas hold it.
 use basics::Spot;
-use fill_rules::Going;
-use fill_rules::Settings;
 use fill_zone::Flood;
 use fill_zone::Seed;
+use rules_fill::Going;
+use rules_fill::Settings;
 use turfs::FLAGS;
 use turfs::IDS;
 use turfs::Links;
@@ -22,14 +22,14 @@ ghost use lib.ListN.{length, getD};
 ghost use lib.Ieee.{lt};
 ghost use Rattle.basics.specs.Loops.{run, every, upFrom};
 ghost use Rattle.basics.specs.Floats.{abs, _-f_, finiteSignClear};
-ghost use Rattle.basics.specs.declared.Spot.the-variants.{At};
-ghost use Rattle.board_rules.specs.Board.{turfCount, linkCount, end, linksOf};
+ghost use Rattle.rules_board.specs.Board.{turfCount, linkCount, end, linksOf};
 ghost use Rattle.turfs.specs.Tables.{boardAt, Accepted};
-ghost use Rattle.mixture_rules.specs.Mixture.{total};
-ghost use Rattle.fill_rules.specs.Fill.{isOver};
-ghost use Rattle.flood_fill.specs.Held.{nodesAt, Sizes};
-ghost use Rattle.equalize_rules.specs.Equalize.{Ask, 10f, near, passedOver, hotRow, hotId, fillAll};
-ghost use Rattle.fill_all.specs.Held.{asked, molesAt, foundIn, Stored, Fills, giveBack, GaveBack, Keeps, After, start, Begun, Cleared, FillsAll};
+ghost use Rattle.rules_mixture.specs.Mixture.{total};
+ghost use Rattle.rules_fill.specs.Fill.{isOver};
+ghost use Rattle.scratch.specs.Layout.{marksAt, Sizes};
+ghost use Rattle.scratch.specs.View.{foundIn};
+ghost use Rattle.rules_equalize.specs.Equalize.{Ask, 10f, near, passedOver, hotId, fillAll};
+ghost use Rattle.fill_all.specs.Held.{asked, Stored, Fills, giveBack, GaveBack, Keeps, After, start, HotBegun, Cleared, FillsAll};
 ghost use Rattle.fill_all.specs.Asked.{FoundFits, Spans, PushedFits, KeepFits, HotFits, FillFits};
 
 // What filling has come to: zones kept, the nodes that they have in all, clock tests, bytes of events, whether the clock ran out.
@@ -39,14 +39,6 @@ pub struct Filling {
     pub tests: usize,
     pub used: usize,
     pub cancelled: bool,
-}
-
-// Where the totals of the zones start, among the floats.
-pub fn moles_at(n: usize, e: usize) -> usize
-    requires { ⌜ Sizes n e ⌝ }
-    ensures { λ r. ⌜ r ≡ molesAt n e ⌝ }
-{
-    e + n + n + e
 }
 
 // Whether two totals are nearer than the threshold.
@@ -82,7 +74,7 @@ fn all_near(
     let to = links.to;
     let mut k = links.from;
     while k < to {
-        let other = mixture::total(mixtures, gas, gases, neighbours[k] as usize);
+        let other = mixture::total(mixtures, gases, gas, neighbours[k] as usize);
         if !nearer(other, mine, threshold) {
             return false;
         }
@@ -110,7 +102,7 @@ fn unshareable(
     if links.from == links.to {
         return true;
     }
-    let mine = mixture::total(rows[MIXTURES], gas, gases, row);
+    let mine = mixture::total(rows[MIXTURES], gases, gas, row);
     if mine < 10.0 {
         return true;
     }
@@ -136,7 +128,7 @@ fn passed_over(
     let ids = rows[IDS];
     let neighbours = rows[NEIGHBOURS];
     let flags = marks[FLAGS];
-    if words[flood_fill::found_at(ids.len(), neighbours.len()) + row] != 0 {
+    if words[scratch::found_at(ids.len(), neighbours.len()) + row] != 0 {
         return true;
     }
     if !SimulationFlags(flags[row]).enabled() {
@@ -164,7 +156,7 @@ fn ignore(queued: usize, n: usize, e: usize, starts: &[u32], words: &mut [u32])
     requires { ⌜ Spans n e (now starts) ⌝ }
     ensures { λ _. ⌜ GaveBack n e (now (starts .entry)) queued (now (words .entry)) (now (words .exit)) ⌝ }
 {
-    let queue = index_set::queue_at(n, e);
+    let queue = scratch::queue_at(n, e);
     let mut i = 0;
     while i < queued {
         give_back(words[queue + i] as usize, starts, words);
@@ -198,8 +190,8 @@ fn keep_zone(
     let reach = t.reach;
     let zones = s.zones;
     let nodes = s.nodes + reach.nodes;
-    words[flood_fill::starts_at(n, e) + zones + 1] = nodes as u32;
-    floats[moles_at(n, e) + zones] = t.moles;
+    words[scratch::starts_at(n, e) + zones + 1] = nodes as u32;
+    floats[scratch::moles_at(n, e) + zones] = t.moles;
     let state = t.state;
     let cancelled = is_over(state);
     Filling {
@@ -242,51 +234,6 @@ fn after_fill(
     }
 }
 
-// A hot turf.
-fn hot_row(
-    row: usize,
-    s: Filling,
-    settings: Settings,
-    rows: &Rows,
-    marks: &Marks,
-    gases: usize,
-    gas: &[f32],
-    words: &mut [u32],
-    floats: &mut [f32],
-    events: &mut [u8],
-) -> Filling
-    requires { ⌜ Accepted (boardAt rows marks gases) (length (now gas)) ⌝ }
-    requires { ⌜ finiteSignClear (settings .threshold) ≡ true ⌝ }
-    requires { ⌜ HotFits (boardAt rows marks gases) (settings .allowance) s (now words) (now floats) (now events) ⌝ }
-    requires { ⌜ row < turfCount (boardAt rows marks gases) ⌝ }
-    ensures { λ r. let b = boardAt (rows .entry) (marks .entry) gases in ⌜ ((hot : List ℕ) → Fills (turfCount b) (linkCount b)
-        (hotRow b (now (gas .entry)) (asked hot settings) (At row)) s r
-        (now (words .entry)) (now (words .exit)) (now (floats .entry)) (now (floats .exit)) (now (events .entry)) (now (events .exit))) ⌝ }
-{
-    if passed_over(row, settings.threshold, rows, marks, gases, gas, words) {
-        return s;
-    }
-    let ids = rows[IDS];
-    let neighbours = rows[NEIGHBOURS];
-    let seed = Seed {
-        row: row as u32,
-        z: s.zones as u32,
-        kept: s.nodes,
-        used: s.used,
-        tests: s.tests,
-    };
-    let t = fill_zone::flood_fill(seed, settings, rows, marks, gases, gas, words, events);
-    after_fill(
-        s,
-        t,
-        ids.len(),
-        neighbours.len(),
-        rows[STARTS],
-        words,
-        floats,
-    )
-}
-
 // A hot id; one that no turf has is passed over.
 fn hot_id(
     id: u32,
@@ -307,35 +254,45 @@ fn hot_id(
         (hotId b (now (gas .entry)) (asked hot settings) id) s r
         (now (words .entry)) (now (words .exit)) (now (floats .entry)) (now (floats .exit)) (now (events .entry)) (now (events .exit))) ⌝ }
 {
-    let Spot::At(row) = turfs::find(rows[IDS], id) else {
+    let ids = rows[IDS];
+    let Spot::At(row) = turfs::find(ids, id) else {
         return s;
     };
-    hot_row(
-        row,
+    if passed_over(row, settings.threshold, rows, marks, gases, gas, words) {
+        return s;
+    }
+    let neighbours = rows[NEIGHBOURS];
+    let seed = Seed {
+        row: row as u32,
+        z: s.zones as u32,
+        kept: s.nodes,
+        used: s.used,
+        tests: s.tests,
+    };
+    let t = fill_zone::flood_fill(seed, settings, rows, marks, gases, gas, words, events);
+    after_fill(
         s,
-        settings,
-        rows,
-        marks,
-        gases,
-        gas,
+        t,
+        ids.len(),
+        neighbours.len(),
+        rows[STARTS],
         words,
         floats,
-        events,
     )
 }
 
 // Nothing is found, owned or kept yet.
 fn begin(n: usize, e: usize, words: &mut [u32]) -> Filling
     requires { ⌜ Sizes n e ⌝ }
-    requires { ⌜ nodesAt n e + n + e + n ≤ length (now words) ⌝ }
+    requires { ⌜ marksAt n e + n ≤ length (now words) ⌝ }
     ensures { λ r. ⌜ r ≡ start ⌝ }
     ensures { λ r. ⌜ Cleared n e (now (words .entry)) (now (words .exit)) ⌝ }
 {
     basics::clear(words, e);
-    let found = flood_fill::found_at(n, e);
+    let found = scratch::found_at(n, e);
     let end = found + n;
     basics::clear(&mut words[found..end], n);
-    words[flood_fill::starts_at(n, e)] = 0;
+    words[scratch::starts_at(n, e)] = 0;
     Filling {
         zones: 0,
         nodes: 0,
@@ -343,50 +300,6 @@ fn begin(n: usize, e: usize, words: &mut [u32]) -> Filling
         used: 0,
         cancelled: false,
     }
-}
-
-// The hot ids, ascending.
-fn fill_hot(
-    hot: &[u32],
-    begun: Filling,
-    settings: Settings,
-    rows: &Rows,
-    marks: &Marks,
-    gases: usize,
-    gas: &[f32],
-    words: &mut [u32],
-    floats: &mut [f32],
-    events: &mut [u8],
-) -> Filling
-    requires { ⌜ Accepted (boardAt rows marks gases) (length (now gas)) ⌝ }
-    requires { ⌜ finiteSignClear (settings .threshold) ≡ true ⌝ }
-    requires { let b = boardAt rows marks gases in ⌜ Stored (turfCount b) (linkCount b) begun (now words) (now floats) ⌝ }
-    requires { ⌜ Begun (boardAt rows marks gases) begun (now words) (now events) ⌝ }
-    ensures { λ r. let b = boardAt (rows .entry) (marks .entry) gases in ⌜ Fills (turfCount b) (linkCount b)
-        (λ s. run (hotId b (now (gas .entry)) (asked (now (hot .entry)) settings)) (now (hot .entry)) s) begun r
-        (now (words .entry)) (now (words .exit)) (now (floats .entry)) (now (floats .exit)) (now (events .entry)) (now (events .exit)) ⌝ }
-{
-    let mut s = begun;
-    let mut i = 0;
-    while i < hot.len() {
-        if s.cancelled {
-            return s;
-        }
-        s = hot_id(
-            hot[i],
-            s,
-            settings,
-            rows,
-            marks,
-            gases,
-            gas,
-            words,
-            floats,
-            events,
-        );
-        i += 1;
-    }
-    s
 }
 
 // All hot ids, ascending, from nothing found.
@@ -410,17 +323,25 @@ pub fn fill_all(
 {
     let ids = rows[IDS];
     let neighbours = rows[NEIGHBOURS];
-    let s = begin(ids.len(), neighbours.len(), words);
-    fill_hot(
-        hot,
-        s,
-        settings,
-        rows,
-        marks,
-        gases,
-        gas,
-        words,
-        floats,
-        events,
-    )
+    let mut s = begin(ids.len(), neighbours.len(), words);
+    let mut i = 0;
+    while i < hot.len() {
+        if s.cancelled {
+            return s;
+        }
+        s = hot_id(
+            hot[i],
+            s,
+            settings,
+            rows,
+            marks,
+            gases,
+            gas,
+            words,
+            floats,
+            events,
+        );
+        i += 1;
+    }
+    s
 }

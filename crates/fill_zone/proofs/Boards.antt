@@ -8,14 +8,14 @@ use lib.ListN.{length, getD}
 use Rattle.basics.specs.Loops.{upFrom}
 use Rattle.basics.proofs.Loops.{All-getD}
 use Rattle.basics.proofs.Lists.{upFrom-at, upFrom-length}
-use Rattle.board_rules.specs.Board.{Board, turfCount, linkCount, mixOf, linksOf, mixtureCount}
+use Rattle.scratch.specs.Layout.{Sizes}
+use Rattle.rules_board.specs.Board.{Board, turfCount, linkCount, mixOf, linksOf, mixtureCount}
 use Rattle.turfs.specs.Tables.{Slices, boardOf, Parts, Accepted, source}
 use Rattle.turfs.proofs.Accepted.{sources}
 use Rattle.turfs.proofs.Tables.{accepted-parts}
-use Rattle.mixture.specs.Moves.{Holds}
+use Rattle.mixture.specs.Moves.{HoldsGas}
 use Rattle.mixture.proofs.Parts.{holds-of}
-use Rattle.flood_fill.specs.Held.{Sizes}
-use Rattle.flood_fill.specs.Asked.{WalkFits}
+use Rattle.fill_links.specs.Asked.{TablesFit}
 
 module _ {b : Board} {m : ℕ} (h : Accepted b m) where
   pub sizes-of : Sizes (turfCount b) (linkCount b)
@@ -24,7 +24,7 @@ module _ {b : Board} {m : ℕ} (h : Accepted b m) where
   pub parts : Parts (turfCount b) (b .starts) (b .neighbours)
   parts = accepted-parts b h
 
-  pub gas-holds : (gas : List Float) → m ≡ length gas → (r : ℕ) → Holds gas (b .gases) (mixOf b r)
+  pub gas-holds : (gas : List Float) → m ≡ length gas → (r : ℕ) → HoldsGas gas (b .gases) (mixOf b r)
   gas-holds gas e r = holds-of gas (mixtureCount b) (b .gases) (mixOf b r) (sym e ∙ h .fits) (h .mixed r)
 
   module _ (r : ℕ) (l : r < turfCount b) where
@@ -38,7 +38,7 @@ module _ {b : Board} {m : ℕ} (h : Accepted b m) where
         ap (source (b .starts)) (sym (upFrom-at from deg (k - from) (omega arith) ∙ omega arith)) ∙ s
 
 -- what a walk over links reads is there, whatever the number of gases
-pub linked-of : (rows marks : Slices) (gases : ℕ) {m : ℕ} → Accepted (boardOf rows marks gases) m → WalkFits (boardOf rows marks 0)
+pub linked-of : (rows marks : Slices) (gases : ℕ) {m : ℕ} → Accepted (boardOf rows marks gases) m → TablesFit (boardOf rows marks 0)
 linked-of rows marks gases h = record {
   parts = parts h;
   links = h .links;

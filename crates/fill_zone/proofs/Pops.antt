@@ -11,19 +11,20 @@ use lib.Seq.{getD-take}
 use borrow.Author.Tests.{lt-ltb, le-ltb}
 use Rattle.basics.specs.Loops.{run}
 use Rattle.basics.specs.Floats.{_+f_}
-use Rattle.basics.specs.Regions.{region}
 use Rattle.basics.proofs.Loops.{All-getD}
-use Rattle.board_rules.specs.Board.{Board, turfCount, linkCount, planetary, linksOf}
-use Rattle.mixture_rules.specs.Mixture.{total}
-use Rattle.event_rules.specs.declared.Event.{Event}
-use Rattle.fill_rules.specs.Fill.{Reach, Fill, isOn, endFill, reachLink, expand, pop, popNext}
-use Rattle.flood_fill.specs.Held.{sizes, queueAt, view, onReach, Fit, Bounded, Does, Reaches}
-use Rattle.fill_rules.specs.declared.Going.{Going}
-use Rattle.fill_rules.specs.declared.Going.the-variants.{On, Broken, Over}
-use Rattle.flood_fill.specs.declared.Reached.{Reached}
-use Rattle.flood_fill.proofs.Does.{does-plain, does-as}
-use Rattle.flood_fill.proofs.Stores.{queue-at}
-use Rattle.flood_fill.proofs.Links.{queue-length, nodes-length}
+use Rattle.scratch.specs.Layout.{queueAt}
+use Rattle.scratch.specs.View.{queueIn}
+use Rattle.rules_board.specs.Board.{Board, turfCount, linkCount, planetary, linksOf}
+use Rattle.rules_mixture.specs.Mixture.{total}
+use Rattle.rules_events.specs.declared.Event.{Event}
+use Rattle.rules_fill.specs.Fill.{Reach, Fill, isOn, endFill, reachLink, expand, pop, popNext}
+use Rattle.fill_links.specs.Held.{reachView, onReach, ReachFits, Bounded, FillDoes, Reaches}
+use Rattle.rules_fill.specs.declared.Going.{Going}
+use Rattle.rules_fill.specs.declared.Going.the-variants.{On, Broken, Over}
+use Rattle.fill_links.specs.declared.Reached.{Reached}
+use Rattle.fill_links.proofs.Does.{does-plain, does-as}
+use Rattle.fill_links.proofs.Stores.{queue-at}
+use Rattle.fill_links.proofs.Links.{queue-length, nodes-length}
 use Rattle.fill_zone.specs.Held.{FillView, fillIn, fillView, onFill, Floods, Moved}
 use Rattle.fill_zone.specs.declared.Flood.{Flood}
 
@@ -58,10 +59,10 @@ module _ (b : Board) (gas : List Float) (limit allowance z : ℕ) (s : Fill) (on
 -- ---- a step of the walk as a step of the fill
 
 module _ (n e kept : ℕ) (f : Reach → Reach) (g : Fill → Fill) (t t′ : Flood) (w w′ : List ℕ) where
-  pub does-fill : {i j : ℕ} {a a′ : List ℕ} → Does (onReach f) (view n e kept (t .reach) w) (view n e kept (t′ .reach) w′) i j a a′
-      → ((es : List Event) → record { reach = f (view n e kept (t .reach) w es .reach); popped = t′ .popped; moles = t′ .moles; planet = t′ .planet; tests = t′ .tests; state = t′ .state }
+  pub does-fill : {i j : ℕ} {a a′ : List ℕ} → FillDoes (onReach f) (reachView n e kept (t .reach) w) (reachView n e kept (t′ .reach) w′) i j a a′
+      → ((es : List Event) → record { reach = f (reachView n e kept (t .reach) w es .reach); popped = t′ .popped; moles = t′ .moles; planet = t′ .planet; tests = t′ .tests; state = t′ .state }
       ≡ g (fillView n e kept t w es .fill))
-      → Does (onFill g) (fillView n e kept t w) (fillView n e kept t′ w′) i j a a′
+      → FillDoes (onFill g) (fillView n e kept t w) (fillView n e kept t′ w′) i j a a′
   does-fill d s = record {
     more = d .more;
     same = λ es. ap (fillIn t′) (d .same es) ∙ ap (λ (x : Fill). onFill (λ _. x) (fillView n e kept t w es)) (s es);
@@ -70,17 +71,17 @@ module _ (n e kept : ℕ) (f : Reach → Reach) (g : Fill → Fill) (t t′ : Fl
 
 -- ---- what the code reads
 
-module _ {n e z kept : ℕ} {s : Reached} {w area : List ℕ} (h : Fit n e kept s w) (b : Bounded n e z kept (view n e kept s w [] .reach) (s .used) area) (p : ℕ) (l : p < s .queued) (at : ℕ) (ea : at ≡ queueAt n e) where
-  pub row-at : (es : List Event) → getD w (at + p) 0 ≡ getD (view n e kept s w es .reach .queue) p 0
-  unfolding view
-  row-at es = queue-at n e w (h .words) p (at + p) (omega arith) (omega (arith, h .queue)) ∙ sym (getD-take (s .queued) (region (sizes n e) 5 w) p 0 l)
+module _ {n e z kept : ℕ} {s : Reached} {w area : List ℕ} (h : ReachFits n e kept s w) (b : Bounded n e z kept (reachView n e kept s w [] .reach) (s .used) area) (p : ℕ) (l : p < s .queued) (at : ℕ) (ea : at ≡ queueAt n e) where
+  pub row-at : (es : List Event) → getD w (at + p) 0 ≡ getD (reachView n e kept s w es .reach .queue) p 0
+  unfolding reachView
+  row-at es = queue-at n e w (h .words) p (at + p) (omega arith) (omega (arith, h .queue)) ∙ sym (getD-take (s .queued) (queueIn n e w) p 0 l)
 
   pub row-below : getD w (at + p) 0 < n
-  row-below = rw (row-at []) (All-getD (λ x. x < n) (view n e kept s w [] .reach .queue) p 0 (b .rows) (rw (queue-length h []) l))
+  row-below = rw (row-at []) (All-getD (λ x. x < n) (reachView n e kept s w [] .reach .queue) p 0 (b .rows) (rw (queue-length h []) l))
 
 -- ---- a turf that ends the fill
 
-module _ {n e z kept : ℕ} {t : Flood} {w area : List ℕ} (h : Fit n e kept (t .reach) w) (b : Bounded n e z kept (view n e kept (t .reach) w [] .reach) (t .reach .used) area) where
+module _ {n e z kept : ℕ} {t : Flood} {w area : List ℕ} (h : ReachFits n e kept (t .reach) w) (b : Bounded n e z kept (reachView n e kept (t .reach) w [] .reach) (t .reach .used) area) where
   pub floods-end : (f : Fill → Fill) (g : Going) (planet : Bool) (r : Flood) → r ≡ record { reach = t .reach; popped = t .popped + 1; moles = t .moles; planet = planet; tests = t .tests + 1; state = g }
       → ((es : List Event) → endFill g planet (fillView n e kept t w es .fill) ≡ f (fillView n e kept t w es .fill)) → Floods n e z kept f t r w w area area
   unfolding endFill
@@ -115,8 +116,8 @@ ended-moved allowance t r planet g o e = record { popped = ap (λ (x : Flood). x
     no : true ≡ false → ⊥
     no i = let q : _≡_ {A = ℕ} 0 1 = cc in omega arith
 
-module _ (b : Board) (gas : List Float) (limit allowance z kept : ℕ) (t : Flood) {w area : List ℕ} (h : Fit (turfCount b) (linkCount b) kept (t .reach) w)
-    (bd : Bounded (turfCount b) (linkCount b) z kept (view (turfCount b) (linkCount b) kept (t .reach) w [] .reach) (t .reach .used) area) (on : t .state ≡ On) (l : t .popped < t .reach .queued) where
+module _ (b : Board) (gas : List Float) (limit allowance z kept : ℕ) (t : Flood) {w area : List ℕ} (h : ReachFits (turfCount b) (linkCount b) kept (t .reach) w)
+    (bd : Bounded (turfCount b) (linkCount b) z kept (reachView (turfCount b) (linkCount b) kept (t .reach) w [] .reach) (t .reach .used) area) (on : t .state ≡ On) (l : t .popped < t .reach .queued) where
   abbrev at : List Event → Fill
   at es = fillView (turfCount b) (linkCount b) kept t w es .fill
 

@@ -14,32 +14,33 @@ use borrow.Author.Tests.{ltb-true, eq-eqb}
 use Rattle.basics.specs.Loops.{times, member}
 use Rattle.basics.specs.Floats.{0f}
 use Rattle.basics.proofs.Loops.{times-still}
-use Rattle.board_rules.specs.Board.{Board, turfCount, linkCount}
+use Rattle.scratch.specs.Layout.{queueAt, placesAt, foundAt, nodesAt, marksAt, Sizes}
+use Rattle.rules_board.specs.Board.{Board, turfCount, linkCount}
 use Rattle.turfs.specs.Tables.{Accepted}
-use Rattle.event_rules.specs.declared.Event.{Event}
-use Rattle.fill_rules.specs.Fill.{Reach, Fill, isOn, popNext, fill}
-use Rattle.flood_fill.specs.Steps.{mark, push}
-use Rattle.flood_fill.specs.Held.{sizes, queueAt, placesAt, foundAt, nodesAt, Sizes, view, Fit, Bounds, Bounded, Does, Moves, zeros}
-use Rattle.fill_rules.specs.declared.Going.{Going}
-use Rattle.fill_rules.specs.declared.Going.the-variants.{On, Broken, Over}
-use Rattle.flood_fill.specs.declared.Met.{Met}
-use Rattle.flood_fill.proofs.Does.{does-plain, does-then, does-as}
-use Rattle.flood_fill.proofs.Stores.{holds-none, found-long, owner-long, marked-more, push-more, join-more, moves-then}
-use Rattle.flood_fill.proofs.Bounds.{zeros-set, zeros-most}
-use Rattle.flood_fill.proofs.Links.{queue-length, owner-view}
-use Rattle.flood_fill.specs.Start.{startFill}
-use Rattle.flood_fill.proofs.Owned.{Fresh, pops-fresh}
-use Rattle.flood_fill.proofs.Rest.{going, still}
-use Rattle.fill_zone.specs.Held.{FillView, fillIn, fillView, onFill, none, fillFrom, Floods, Moved, Starts, AtStart, Begins, StartFits, Ready}
-use Rattle.flood_fill.specs.Asked.{Free}
+use Rattle.rules_events.specs.declared.Event.{Event}
+use Rattle.rules_fill.specs.Fill.{Reach, Fill, isOn, popNext, fill}
+use Rattle.fill_links.specs.Steps.{mark, push}
+use Rattle.fill_links.specs.Held.{reachView, ReachFits, Bounds, Bounded, FillDoes, Moves, zeros}
+use Rattle.rules_fill.specs.declared.Going.{Going}
+use Rattle.rules_fill.specs.declared.Going.the-variants.{On, Broken, Over}
+use Rattle.fill_links.specs.declared.Met.{Met}
+use Rattle.fill_links.proofs.Does.{does-plain, does-then, does-as}
+use Rattle.fill_links.proofs.Stores.{holds-none, found-long, owner-long, marked-more, push-more, join-more, moves-then}
+use Rattle.fill_links.proofs.Bounds.{zeros-set, zeros-most}
+use Rattle.fill_links.proofs.Links.{queue-length, owner-view}
+use Rattle.laws_fill.specs.Start.{startFill}
+use Rattle.laws_fill.proofs.Owned.{Fresh, pops-fresh}
+use Rattle.laws_fill.proofs.Rest.{going, still}
+use Rattle.fill_zone.specs.Held.{FillView, fillIn, fillView, onFill, none, filledFrom, Floods, Moved, ZoneStarts, AtStart, Begins, StartFits, ZoneFits}
+use Rattle.fill_links.specs.Asked.{Free}
 use Rattle.fill_zone.specs.declared.Flood.{Flood}
 use Rattle.fill_zone.proofs.Boards.{sizes-of, parts, source-is}
 use Rattle.fill_zone.proofs.Pops.{row-at, row-below}
 
 -- ---- the first turf
 
-module _ (row used tests kept n e : ℕ) (w : List ℕ) (sz : Sizes n e) (hr : row < n) (hk : kept < n + e) (long : nodesAt n e + n + e + n ≤ length w) where
-  pub none-fit : Fit n e kept (none used) w
+module _ (row used tests kept n e : ℕ) (w : List ℕ) (sz : Sizes n e) (hr : row < n) (hk : kept < n + e) (long : marksAt n e + n ≤ length w) where
+  pub none-fit : ReachFits n e kept (none used) w
   none-fit = record {
     sizes = sz;
     words = long;
@@ -61,8 +62,8 @@ module _ (row used tests kept n e : ℕ) (w : List ℕ) (sz : Sizes n e) (hr : r
     pub start-room : (qa < length w₁) × ((na + kept + 0 < length w₂) × ((pa + row < length w₂) × (0 < 4096)))
     start-room = (simp length-set (omega arith), (simp length-set (omega arith), (simp length-set (omega arith), omega arith)))
 
-    pub started : (w′ : List ℕ) → w′ ≡ set (set w₂ (na + kept + 0) row) (pa + row) 0 → Starts n e kept used (λ found owner es. startFill row found owner es tests) first w w′
-    unfolding view mark push member
+    pub started : (w′ : List ℕ) → w′ ≡ set (set w₂ (na + kept + 0) row) (pa + row) 0 → ZoneStarts n e kept used (λ found owner es. startFill row found owner es tests) first w w′
+    unfolding reachView mark push member
     started w′ ew =
         let m : Met = record { row = row; on = true; space = false; planet = false } in
         let d₁ : Moves n e kept (mark row) (none used) (none used) w w₁ = marked-more row (none used) kept n e w none-fit hr (fa + row) (omega arith) in
@@ -71,7 +72,7 @@ module _ (row used tests kept n e : ℕ) (w : List ℕ) (sz : Sizes n e) (hr : r
         let d₃ = join-more (d₂ .fit) row hr (omega arith) refl in
         let d = moves-then (moves-then d₁ d₂) d₃ in
         let e₁ : w′ ≡ set (set w₂ (nodesAt n e + kept + 0) row) (placesAt n e + row) 0 = ew ∙ ap₂ (λ (x p : ℕ). set (set w₂ (x + kept + 0) row) (p + row) 0) en ep in
-        subst (λ (v : List ℕ). Starts n e kept used (λ found owner es. startFill row found owner es tests) first w v) (sym e₁)
+        subst (λ (v : List ℕ). ZoneStarts n e kept used (λ found owner es. startFill row found owner es tests) first w v) (sym e₁)
         (record { fit = d .fit; same = λ es. ap (fillIn first) (d .same es) })
 
 -- ---- pop after pop
@@ -101,7 +102,7 @@ pub record Popping (b : Board) (gas : List Float) (limit allowance z kept : ℕ)
   pub few : t′ .popped ≤ turfCount b
   pub clock : t′ .state ≡ On → t′ .tests ≤ allowance
 
-module _ {b : Board} {m : ℕ} (h : Accepted b m) (gas : List Float) (limit allowance z kept used tests row : ℕ) {w area : List ℕ} (y : Ready b z kept used row w area) where
+module _ {b : Board} {m : ℕ} (h : Accepted b m) (gas : List Float) (limit allowance z kept used tests row : ℕ) {w area : List ℕ} (y : ZoneFits b z kept used row w area) where
   abbrev n : ℕ
   n = turfCount b
 
@@ -109,17 +110,17 @@ module _ {b : Board} {m : ℕ} (h : Accepted b m) (gas : List Float) (limit allo
   e = linkCount b
 
   abbrev found₀ : List ℕ
-  found₀ = view n e kept (none used) w [] .reach .found
+  found₀ = reachView n e kept (none used) w [] .reach .found
 
   abbrev owner₀ : List ℕ
-  owner₀ = view n e kept (none used) w [] .reach .owner
+  owner₀ = reachView n e kept (none used) w [] .reach .owner
 
   owners : length owner₀ ≡ e
-  unfolding view
+  unfolding reachView
   owners = owner-long n e w (y .words)
 
   marks : length found₀ ≡ n
-  unfolding view
+  unfolding reachView
   marks = found-long n e w (y .words)
 
   pub start-asks : StartFits n e kept row w
@@ -138,10 +139,10 @@ module _ {b : Board} {m : ℕ} (h : Accepted b m) (gas : List Float) (limit allo
         bytes = omega (arith, less, y .bytes);
       }
 
-  module _ {t : Flood} {w₁ : List ℕ} (s : Starts n e kept used (λ found owner es. startFill row found owner es tests) t w w₁)
+  module _ {t : Flood} {w₁ : List ℕ} (s : ZoneStarts n e kept used (λ found owner es. startFill row found owner es tests) t w w₁)
       (at : AtStart used tests t) where
-    first-bounds : Bounded n e z kept (view n e kept (t .reach) w₁ [] .reach) (t .reach .used) area
-    unfolding view
+    first-bounds : Bounded n e z kept (reachView n e kept (t .reach) w₁ [] .reach) (t .reach .used) area
+    unfolding reachView
     first-bounds =
         subst (λ (r : Reach). Bounded n e z kept r (t .reach .used) area) (sym (ap (λ (v : FillView). v .fill .reach) (s .same [])))
         (subst (λ (k : ℕ). Bounds n e z kept (set found₀ row 1) (row ∷ []) (row ∷ []) owner₀ k area) (sym (at .bytes)) start-bounds)
@@ -158,11 +159,11 @@ module _ {b : Board} {m : ℕ} (h : Accepted b m) (gas : List Float) (limit allo
     module _ {t′ : Flood} {w′ area′ : List ℕ} (v : Popping b gas limit allowance z kept t t′ w₁ w′ area area′) where
       -- the definition's fill so far
       so-far : (es : List Event) → fillView n e kept t′ w′ (es ++ v .done .does .more) .fill
-          ≡ times (popNext b gas limit allowance z) (t′ .popped) (fillFrom (λ found owner fs. startFill row found owner fs tests) (view n e kept (none used) w es) .fill)
+          ≡ times (popNext b gas limit allowance z) (t′ .popped) (filledFrom (λ found owner fs. startFill row found owner fs tests) (reachView n e kept (none used) w es) .fill)
       so-far es = ap (λ (x : FillView). x .fill) (v .done .does .same es) ∙ ap (λ (x : FillView). times (popNext b gas limit allowance z) (t′ .popped) (x .fill)) (s .same es)
 
       fresh : Fresh b h z owner₀ (t′ .popped) (fillView n e kept t′ w′ (v .done .does .more) .fill .reach)
-      unfolding view
+      unfolding reachView
       fresh =
           subst (λ (x : Fill). Fresh b h z owner₀ (x .popped) (x .reach)) (sym (so-far []))
           (pops-fresh b h z owner₀ gas limit allowance (t′ .popped) row found₀ [] tests marks owners (y .row) (y .new) (y .unowned))
@@ -196,14 +197,14 @@ module _ {b : Board} {m : ℕ} (h : Accepted b m) (gas : List Float) (limit allo
         fit = v .done .fit;
         bounds = v .done .bounds;
         does =
-            does-as (does-then (subst (λ (k : ℕ). Does (fillFrom (λ found owner es. startFill row found owner es tests)) (view n e kept (none used) w) (fillView n e kept t w₁) used k area area) (sym (at .bytes))
+            does-as (does-then (subst (λ (k : ℕ). FillDoes (filledFrom (λ found owner es. startFill row found owner es tests)) (reachView n e kept (none used) w) (fillView n e kept t w₁) used k area area) (sym (at .bytes))
             (does-plain (omega (arith, y .bytes)) (s .same))) (v .done .does))
-            (λ es. ap (λ (x : Fill). fillFrom (λ _ _ _. x) (view n e kept (none used) w es))
-            (times-rest (popNext b gas limit allowance z) (t′ .popped) n (fillFrom (λ found owner fs. startFill row found owner fs tests) (view n e kept (none used) w es) .fill) (v .few)
-            (still b gas limit allowance z (times (popNext b gas limit allowance z) (t′ .popped) (fillFrom (λ found owner fs. startFill row found owner fs tests) (view n e kept (none used) w es) .fill)) (rests es))));
+            (λ es. ap (λ (x : Fill). filledFrom (λ _ _ _. x) (reachView n e kept (none used) w es))
+            (times-rest (popNext b gas limit allowance z) (t′ .popped) n (filledFrom (λ found owner fs. startFill row found owner fs tests) (reachView n e kept (none used) w es) .fill) (v .few)
+            (still b gas limit allowance z (times (popNext b gas limit allowance z) (t′ .popped) (filledFrom (λ found owner fs. startFill row found owner fs tests) (reachView n e kept (none used) w es) .fill)) (rests es))));
       }
         where
-          rests : (es : List Event) → going (times (popNext b gas limit allowance z) (t′ .popped) (fillFrom (λ found owner fs. startFill row found owner fs tests) (view n e kept (none used) w es) .fill)) ≡ false
+          rests : (es : List Event) → going (times (popNext b gas limit allowance z) (t′ .popped) (filledFrom (λ found owner fs. startFill row found owner fs tests) (reachView n e kept (none used) w es) .fill)) ≡ false
           rests es =
               subst (λ (x : Fill). going x ≡ false) (so-far es)
               (ap (λ (k : ℕ). isOn (t′ .state) && ltb (t′ .popped) k) (queue-length (v .done .fit) (es ++ v .done .does .more)) ∙ stop)

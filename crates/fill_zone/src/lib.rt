@@ -1,8 +1,8 @@
 // One zone: `flood_fill_zones` pop by pop.
-use fill_rules::Going;
-use fill_rules::Settings;
-use flood_fill::Reached;
-use flood_fill::Slot;
+use fill_links::Reached;
+use fill_links::Slot;
+use rules_fill::Going;
+use rules_fill::Settings;
 use turfs::IDS;
 use turfs::MIXTURES;
 use turfs::Marks;
@@ -14,11 +14,11 @@ ghost use mathlib.Core.Bool.{not, _&&_, _||_};
 ghost use Prim.Native.Nat.{ℕ, _+_, _≤_, _<_};
 ghost use lib.Dec.{eqb, ltb};
 ghost use lib.ListN.{length};
-ghost use Rattle.board_rules.specs.Board.{turfCount, linkCount};
+ghost use Rattle.rules_board.specs.Board.{turfCount, linkCount};
 ghost use Rattle.turfs.specs.Tables.{boardAt, Accepted};
-ghost use Rattle.fill_rules.specs.Fill.{isOn, expand, popNext, fill};
-ghost use Rattle.flood_fill.specs.Start.{startFill};
-ghost use Rattle.fill_zone.specs.Held.{Floods, Moved, Starts, AtStart, Begins, StartFits, ExpandFits, PopFits, Ready};
+ghost use Rattle.rules_fill.specs.Fill.{isOn, expand, popNext, fill};
+ghost use Rattle.laws_fill.specs.Start.{startFill};
+ghost use Rattle.fill_zone.specs.Held.{Floods, Moved, ZoneStarts, AtStart, Begins, StartFits, ExpandFits, PopFits, ZoneFits};
 
 // How far a fill has come.
 pub struct Flood {
@@ -95,9 +95,9 @@ fn expand(
         (expand b (now (gas .entry)) limit allowance (slot .z) row planet) t r
         (now (words .entry)) (now (words .exit)) (now (events .entry)) (now (events .exit))) ⌝ }
 {
-    let total = mixture::total(rows[MIXTURES], gas, gases, row as usize);
+    let total = mixture::total(rows[MIXTURES], gases, gas, row as usize);
     let s = t.reach;
-    let reach = flood_fill::reach_links(row, slot, s, rows, marks, words, events);
+    let reach = fill_links::reach_links(row, slot, s, rows, marks, words, events);
     Flood {
         reach,
         popped: t.popped + 1,
@@ -131,7 +131,7 @@ fn pop(
     let neighbours = rows[NEIGHBOURS];
     let planetary = marks[PLANETARY];
     let popped = t.popped;
-    let row = words[index_set::queue_at(ids.len(), neighbours.len()) + popped];
+    let row = words[scratch::queue_at(ids.len(), neighbours.len()) + popped];
     if (settings.allowance as usize) < t.tests + 1 {
         return ended(Going::Over, t.planet, t);
     }
@@ -159,14 +159,14 @@ fn goes_on(t: Flood) -> bool
 // The first turf of a zone is found, pushed, and a node.
 fn start(seed: Seed, n: usize, e: usize, words: &mut [u32]) -> Flood
     requires { ⌜ StartFits n e (seed .kept) (seed .row) (now words) ⌝ }
-    ensures { λ r. ⌜ Starts n e (seed .kept) (seed .used) (λ found owner es. startFill (seed .row) found owner es (seed .tests)) r (now (words .entry)) (now (words .exit)) ⌝ }
+    ensures { λ r. ⌜ ZoneStarts n e (seed .kept) (seed .used) (λ found owner es. startFill (seed .row) found owner es (seed .tests)) r (now (words .entry)) (now (words .exit)) ⌝ }
     ensures { λ r. ⌜ AtStart (seed .used) (seed .tests) r ⌝ }
 {
     let row = seed.row;
-    words[flood_fill::found_at(n, e) + row as usize] = 1;
-    words[index_set::queue_at(n, e)] = row;
-    let first = flood_fill::nodes_at(n, e) + seed.kept;
-    let places = index_set::places_at(n, e);
+    words[scratch::found_at(n, e) + row as usize] = 1;
+    words[scratch::queue_at(n, e)] = row;
+    let first = scratch::nodes_at(n, e) + seed.kept;
+    let places = scratch::places_at(n, e);
     index_set::insert(row, 0, first, places, words);
     let reach = Reached {
         queued: 1,
@@ -196,7 +196,7 @@ pub fn flood_fill(
     events: &mut [u8],
 ) -> Flood
     requires { ⌜ Accepted (boardAt rows marks gases) (length (now gas)) ⌝ }
-    requires { ⌜ Ready (boardAt rows marks gases) (seed .z) (seed .kept) (seed .used) (seed .row) (now words) (now events) ⌝ }
+    requires { ⌜ ZoneFits (boardAt rows marks gases) (seed .z) (seed .kept) (seed .used) (seed .row) (now words) (now events) ⌝ }
     requires { ⌜ seed .tests ≤ settings .allowance ⌝ }
     ensures { λ r. let b = boardAt (rows .entry) (marks .entry) gases in ⌜ Begins (turfCount b) (linkCount b) (seed .z) (seed .kept) (seed .used)
         (λ found owner es. fill b (now (gas .entry)) (settings .limit) (settings .allowance) (seed .z) (seed .row) found owner es (seed .tests)) r

@@ -14,15 +14,15 @@ use Rattle.basics.specs.Floats.{0f}
 use Rattle.basics.specs.declared.Spot.{Spot}
 use Rattle.basics.specs.declared.Spot.the-variants.{At, Nowhere}
 use Rattle.basics.specs.Lists.{Found}
-use Rattle.board_rules.specs.Board.{Board, mixOf}
-use Rattle.mixture_rules.specs.Mixture.{moveAir}
-use Rattle.event_rules.specs.Events.{kindOf, encode, sizeOf}
-use Rattle.event_rules.specs.declared.Event.the-variants.{Pressure}
+use Rattle.rules_board.specs.Board.{Board, mixOf}
+use Rattle.rules_mixture.specs.Mixture.{moveAir}
+use Rattle.rules_events.specs.Events.{kindOf, encode, sizeOf}
+use Rattle.rules_events.specs.declared.Event.the-variants.{Pressure}
 use Rattle.events.proofs.Sizes.{encode-size}
 use Rattle.plan_state.specs.Steps.{ownedBy, backLink}
 use Rattle.plan_state.proofs.Weights.{found-more}
-use Rattle.finish_rules.specs.Lifted.{above}
-use Rattle.finish_send.specs.Areas.{Areas}
+use Rattle.rules_finish.specs.Lifted.{above}
+use Rattle.finish_send.specs.Areas.{FinishAreas}
 use Rattle.finish_send.specs.Sending.{Next, saveAt, zeroAt, shared, Sends}
 
 -- the reverse of a link is one of the links
@@ -89,5 +89,5 @@ unfolding sizeOf kindOf
 pressure-size z x i j = encode-size (Pressure z x i j)
 
 -- the place of the lifted weights, by another name
-pub sends-at : {b : Board} {row k z i j : ℕ} {words : List ℕ} {a a′ : Areas} → i ≡ j → Sends b row k z i words a a′ → Sends b row k z j words a a′
+pub sends-at : {b : Board} {row k z i j : ℕ} {words : List ℕ} {a a′ : FinishAreas} → i ≡ j → Sends b row k z i words a a′ → Sends b row k z j words a a′
 sends-at {b = b} {row = row} {k = k} {z = z} {words = words} {a = a} {a′ = a′} e s = subst (λ (x : ℕ). Sends b row k z x words a a′) e s

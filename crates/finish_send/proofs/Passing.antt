@@ -13,19 +13,20 @@ use Rattle.basics.specs.Floats.{0f}
 use Rattle.basics.specs.Lists.{one, count}
 use Rattle.basics.proofs.Tests.{both, differ}
 use Rattle.basics.proofs.Loops.{up-cons}
-use Rattle.board_rules.specs.Board.{Board, turfCount, linkCount, mixtureCount, mixOf, end}
+use Rattle.rules_board.specs.Board.{Board, turfCount, linkCount, mixtureCount, mixOf, end}
 use Rattle.turfs.specs.Tables.{Accepted}
-use Rattle.mixture_rules.specs.Mixture.{total}
-use Rattle.mixture.specs.Moves.{Holds}
+use Rattle.rules_mixture.specs.Mixture.{total}
+use Rattle.mixture.specs.Moves.{HoldsGas}
 use Rattle.mixture.proofs.Parts.{holds-of}
 use Rattle.reverse_links.specs.Reverse.{InRow}
-use Rattle.plan_rules.specs.Edges.{owned}
-use Rattle.plan_laws.proofs.Sizes.{alter-size}
+use Rattle.rules_plan.specs.Edges.{owned}
+use Rattle.laws_plan.proofs.Sizes.{alter-size}
 use Rattle.plan_state.specs.Steps.{backLink}
 use Rattle.plan_state.proofs.Links.{reverse-within}
-use Rattle.finish_rules.specs.Lifted.{above, pending, Held, sendHeld, giversHeld}
-use Rattle.finish_laws.proofs.Weights.{alter-less}
-use Rattle.finish_send.specs.Areas.{Areas, ownerIn, reverseIn, liftedAt, weightIn, liftedIn, Shows, Ready, Kept}
+use Rattle.rules_finish.specs.Lifted.{above, pending, Held, sendHeld, giversHeld}
+use Rattle.laws_finish.proofs.Weights.{alter-less}
+use Rattle.scratch.specs.View.{ownerIn, reverseIn}
+use Rattle.finish_send.specs.Areas.{FinishAreas, liftedFrom, weightOn, liftedOn, Shows, FinishFits, Kept}
 use Rattle.finish_send.specs.Sending.{Counted, isMarked, Next, SendFits, Sends, pairAs, toSend, Going, Progress, SentTo}
 use Rattle.finish_send.proofs.Ranges.{run-parts, run-last, run-none, run-idle}
 use Rattle.finish_send.proofs.Shown.{owner-at, reverse-at, lifted-at, kept-none, kept-then, sent-kept, sent-lifted, sent-weight, sent-used, sent-shows}
@@ -52,33 +53,33 @@ module _ (p : ℕ → Bool) where
 
 module _ (b : Board) (words : List ℕ) (z k to : ℕ) (h : to ≤ linkCount b) where
   -- what the zone's links hold decides
-  pub to-send-alike : (f f′ : List Float) → ((j : ℕ) → k ≤ j → j < to → owned b (ownerIn (linkCount b) words) z j ≡ true → getD (liftedIn b f′) j nan ≡ getD (liftedIn b f) j nan)
+  pub to-send-alike : (f f′ : List Float) → ((j : ℕ) → k ≤ j → j < to → owned b (ownerIn (linkCount b) words) z j ≡ true → getD (liftedOn b f′) j nan ≡ getD (liftedOn b f) j nan)
       → toSend b words f′ z k to ≡ toSend b words f z k to
   unfolding toSend
-  to-send-alike f f′ e = count-same (isMarked words f′ z (liftedAt b) true) (isMarked words f z (liftedAt b) true) k (to - k) (λ j l u. each j l (omega arith))
+  to-send-alike f f′ e = count-same (isMarked words f′ z (liftedFrom b) true) (isMarked words f z (liftedFrom b) true) k (to - k) (λ j l u. each j l (omega arith))
     where
-      each : (j : ℕ) → k ≤ j → j < to → isMarked words f′ z (liftedAt b) true j ≡ isMarked words f z (liftedAt b) true j
+      each : (j : ℕ) → k ≤ j → j < to → isMarked words f′ z (liftedFrom b) true j ≡ isMarked words f z (liftedFrom b) true j
       each j l u = go (eqb (getD words j 0) (z + 1)) refl
         where
-          go : (t : Bool) → eqb (getD words j 0) (z + 1) ≡ t → t && above (getD f′ (liftedAt b + j) nan) ≡ t && above (getD f (liftedAt b + j) nan)
+          go : (t : Bool) → eqb (getD words j 0) (z + 1) ≡ t → t && above (getD f′ (liftedFrom b + j) nan) ≡ t && above (getD f (liftedFrom b + j) nan)
           go true o =
               ap above (lifted-at b f′ j (omega arith) ∙ e j l u (ap (λ (x : ℕ). eqb x (z + 1)) (sym (owner-at (linkCount b) j words (omega arith))) ∙ o) ∙ sym (lifted-at b f j (omega arith)))
           go false o = refl
 
-  to-send-same : (f f′ : List Float) → liftedIn b f′ ≡ liftedIn b f → toSend b words f′ z k to ≡ toSend b words f z k to
+  to-send-same : (f f′ : List Float) → liftedOn b f′ ≡ liftedOn b f → toSend b words f′ z k to ≡ toSend b words f z k to
   to-send-same f f′ e = to-send-alike f f′ (λ j l u o. ap (λ (x : List Float). getD x j nan) e)
 
-  to-send-skip : (f : List Float) (m : ℕ) → Next (isMarked words f z (liftedAt b) true) k to m → toSend b words f z k to ≡ toSend b words f z m to
+  to-send-skip : (f : List Float) (m : ℕ) → Next (isMarked words f z (liftedFrom b) true) k to m → toSend b words f z k to ≡ toSend b words f z m to
   unfolding toSend
-  to-send-skip f m n = count-skip (isMarked words f z (liftedAt b) true) k (m - k) m to (omega (arith, n .low)) (n .high) (n .none)
+  to-send-skip f m n = count-skip (isMarked words f z (liftedFrom b) true) k (m - k) m to (omega (arith, n .low)) (n .high) (n .none)
 
-  pub to-send-here : (f : List Float) → k < to → isMarked words f z (liftedAt b) true k ≡ true → toSend b words f z k to ≡ 1 + toSend b words f z (k + 1) to
+  pub to-send-here : (f : List Float) → k < to → isMarked words f z (liftedFrom b) true k ≡ true → toSend b words f z k to ≡ 1 + toSend b words f z (k + 1) to
   unfolding toSend
-  to-send-here f l t = count-here (isMarked words f z (liftedAt b) true) k to l ∙ ap (λ (x : Bool). one x + count (isMarked words f z (liftedAt b) true) (upFrom (k + 1) (to - (k + 1)))) t
+  to-send-here f l t = count-here (isMarked words f z (liftedFrom b) true) k to l ∙ ap (λ (x : Bool). one x + count (isMarked words f z (liftedFrom b) true) (upFrom (k + 1) (to - (k + 1)))) t
 
 -- ---- one link
 
-pub ready-kept : {b : Board} {words : List ℕ} {a a′ : Areas} → Ready b words (a .gas) (a .floats) → Kept b a a′ → Ready b words (a′ .gas) (a′ .floats)
+pub ready-kept : {b : Board} {words : List ℕ} {a a′ : FinishAreas} → FinishFits b words (a .gas) (a .floats) → Kept b a a′ → FinishFits b words (a′ .gas) (a′ .floats)
 ready-kept {b} r k = record {
   board = subst (λ (n : ℕ). Accepted b n) (sym (k .gas)) (r .board);
   linked = r .linked;
@@ -92,27 +93,27 @@ module _ (b : Board) (words : List ℕ) (stop : Bool) (z r : ℕ) where
   owner = ownerIn (linkCount b) words
 
   abbrev P : List Float → ℕ → Bool
-  P f = isMarked words f z (liftedAt b) true
+  P f = isMarked words f z (liftedFrom b) true
 
   -- the definition's test is the code's
-  pub test-is : (a : Areas) (h : Held) (k : ℕ) → Shows b a h → k < linkCount b → owned b owner z k && above (getD (h .lifted) k nan) ≡ P (a .floats) k
+  pub test-is : (a : FinishAreas) (h : Held) (k : ℕ) → Shows b a h → k < linkCount b → owned b owner z k && above (getD (h .lifted) k nan) ≡ P (a .floats) k
   test-is a h k v l =
       ap₂ (λ (x : ℕ) (y : Float). eqb x (z + 1) && above y) (sym (owner-at (linkCount b) k words l)) (ap (λ (l : List Float). getD l k nan) (sym (v .lifted)) ∙ sym (lifted-at b (a .floats) k l))
 
-  pair-idle : (f : ℕ → Held → Held) (a : Areas) (h : Held) (k : ℕ) → Shows b a h → k < linkCount b → P (a .floats) k ≡ false → pairAs b owner z stop f r k h ≡ h
+  pair-idle : (f : ℕ → Held → Held) (a : FinishAreas) (h : Held) (k : ℕ) → Shows b a h → k < linkCount b → P (a .floats) k ≡ false → pairAs b owner z stop f r k h ≡ h
   unfolding pairAs
   pair-idle f a h k v l t = rw (test-is a h k v l ∙ t)
 
-  pair-sends : (f : ℕ → Held → Held) (a : Areas) (h : Held) (k : ℕ) → Shows b a h → k < linkCount b → P (a .floats) k ≡ true
-      → stop && lt (total b (a .gas) r) (getD (a .floats) (liftedAt b + k) nan) ≡ false → pairAs b owner z stop f r k h ≡ sendHeld b owner z r k (getD (a .floats) (liftedAt b + k) nan) h
+  pair-sends : (f : ℕ → Held → Held) (a : FinishAreas) (h : Held) (k : ℕ) → Shows b a h → k < linkCount b → P (a .floats) k ≡ true
+      → stop && lt (total b (a .gas) r) (getD (a .floats) (liftedFrom b + k) nan) ≡ false → pairAs b owner z stop f r k h ≡ sendHeld b owner z r k (getD (a .floats) (liftedFrom b + k) nan) h
   unfolding pairAs
   pair-sends f a h k v l t e =
-      let x : getD (h .lifted) k nan ≡ getD (a .floats) (liftedAt b + k) nan = ap (λ (l : List Float). getD l k nan) (sym (v .lifted)) ∙ sym (lifted-at b (a .floats) k l) in
+      let x : getD (h .lifted) k nan ≡ getD (a .floats) (liftedFrom b + k) nan = ap (λ (l : List Float). getD l k nan) (sym (v .lifted)) ∙ sym (lifted-at b (a .floats) k l) in
       let s : stop && lt (total b (h .done .gas) r) (getD (h .lifted) k nan) ≡ false = ap₂ (λ (g : List Float) (y : Float). stop && lt (total b g r) y) (sym (v .gas)) x ∙ e in
       rw (test-is a h k v l ∙ t, s, x)
 
-  module _ (from to : ℕ) (a : Areas) where
-    abbrev Made : ℕ → Areas → Type 0
+  module _ (from to : ℕ) (a : FinishAreas) where
+    abbrev Made : ℕ → FinishAreas → Type 0
     Made at a′ = Progress b words stop z r from to at a a′
 
     pub made-none : from ≤ to → Made from a
@@ -128,7 +129,7 @@ module _ (b : Board) (words : List ℕ) (stop : Bool) (z r : ℕ) where
 
     module _ (e : to ≤ linkCount b) where
       -- links with nothing to send
-      pub made-skip : (i k : ℕ) (a′ : Areas) → Made i a′ → Next (P (a′ .floats)) i to k → Made k a′
+      pub made-skip : (i k : ℕ) (a′ : FinishAreas) → Made i a′ → Next (P (a′ .floats)) i to k → Made k a′
       made-skip i k a′ m n = record {
         kept = m .kept;
         low = omega (arith, m .low, n .low);
@@ -147,46 +148,46 @@ module _ (b : Board) (words : List ℕ) (stop : Bool) (z r : ℕ) where
       }
 
       -- a link that has something to send
-      pub made-send : (k : ℕ) (a′ a″ : Areas) → Made k a′ → Ready b words (a .gas) (a .floats) → r < turfCount b → InRow (b .starts) r k → k < to → P (a′ .floats) k ≡ true
-          → stop && lt (total b (a′ .gas) r) (getD (a′ .floats) (liftedAt b + k) nan) ≡ false
-          → Sends b r k z (liftedAt b) words a′ a″
+      pub made-send : (k : ℕ) (a′ a″ : FinishAreas) → Made k a′ → FinishFits b words (a .gas) (a .floats) → r < turfCount b → InRow (b .starts) r k → k < to → P (a′ .floats) k ≡ true
+          → stop && lt (total b (a′ .gas) r) (getD (a′ .floats) (liftedFrom b + k) nan) ≡ false
+          → Sends b r k z (liftedFrom b) words a′ a″
           → Made (k + 1) a″
       made-send k a′ a″ m ready row i l t enough s =
           let below : k < linkCount b = omega arith in
           let ready′ = ready-kept ready (m .kept) in
-          let lifted = sent-lifted b words z r k a′ a″ ready′ row i below (liftedAt b) s in
+          let lifted = sent-lifted b words z r k a′ a″ ready′ row i below (liftedFrom b) s in
           record {
-            kept = kept-then (m .kept) (sent-kept b words z r k a′ a″ ready′ row i below (liftedAt b) s);
+            kept = kept-then (m .kept) (sent-kept b words z r k a′ a″ ready′ row i below (liftedFrom b) s);
             low = omega (arith, m .low);
             high = omega arith;
             lifted = lifted ∙ m .lifted;
-            fewer = le-trans (subst (λ (w : List Float). pending w ≤ pending (weightIn b (a′ .floats))) (sym (sent-weight b words z r k a′ a″ ready′ row i below (liftedAt b) s)) (alter-less (backLink (reverseIn (linkCount b) words) owner z k) (weightIn b (a′ .floats)))) (m .fewer);
-            room = omega (arith, m .room, sent-used b words z r k a′ a″ ready′ row i below (liftedAt b) s, to-send-same b words z (k + 1) to e (a′ .floats) (a″ .floats) lifted, to-send-here b words z k to e (a′ .floats) l t);
+            fewer = le-trans (subst (λ (w : List Float). pending w ≤ pending (weightOn b (a′ .floats))) (sym (sent-weight b words z r k a′ a″ ready′ row i below (liftedFrom b) s)) (alter-less (backLink (reverseIn (linkCount b) words) owner z k) (weightOn b (a′ .floats)))) (m .fewer);
+            room = omega (arith, m .room, sent-used b words z r k a′ a″ ready′ row i below (liftedFrom b) s, to-send-same b words z (k + 1) to e (a′ .floats) (a″ .floats) lifted, to-send-here b words z k to e (a′ .floats) l t);
             shows = λ f h v.
                 let F = pairAs b owner z stop f r in
                 let g = run F (upFrom from (k - from)) h in
                 let w : Shows b a′ g = m .shows f h v in
-                subst (Shows b a″) (sym (run-last F from k h (m .low) ∙ pair-sends f a′ g k w below t enough)) (sent-shows b words z r k a′ a″ ready′ row i below (liftedAt b) s g w);
+                subst (Shows b a″) (sym (run-last F from k h (m .low) ∙ pair-sends f a′ g k w below t enough)) (sent-shows b words z r k a′ a″ ready′ row i below (liftedFrom b) s g w);
           }
 
-pub sent-size : {b : Board} {r k z up : ℕ} {words : List ℕ} {a a′ : Areas} → Sends b r k z up words a a′ → length (a′ .floats) ≡ length (a .floats)
+pub sent-size : {b : Board} {r k z up : ℕ} {words : List ℕ} {a a′ : FinishAreas} → Sends b r k z up words a a′ → length (a′ .floats) ≡ length (a .floats)
 sent-size {b = b} {k = k} {z = z} {words = words} {a = a} s = ap length (s .weights) ∙ alter-size (backLink (reverseIn (linkCount b) words) (ownerIn (linkCount b) words) z k) (λ y. 0f) (a .floats)
 
 -- ---- the loop, whose lifted weights start at `up`
 
 -- at the loop's head
-pub record At (b : Board) (words : List ℕ) (stop : Bool) (z r up from to : ℕ) (a : Areas) (k : ℕ) (a′ : Areas) : Type 0 where
+pub record At (b : Board) (words : List ℕ) (stop : Bool) (z r up from to : ℕ) (a : FinishAreas) (k : ℕ) (a′ : FinishAreas) : Type 0 where
   pub made : Progress b words stop z r from to k a a′
   pub here : k < to → isMarked words (a′ .floats) z up true k ≡ true
 
-module _ (b : Board) (words : List ℕ) (stop : Bool) (z r up from to : ℕ) (a : Areas) (u : up ≡ liftedAt b) (g : Going b words z r from to a) where
+module _ (b : Board) (words : List ℕ) (stop : Bool) (z r up from to : ℕ) (a : FinishAreas) (u : up ≡ liftedFrom b) (g : Going b words z r from to a) where
   within : to ≤ linkCount b
   within = le-trans (g .high) (g .ready .linked .within r (g .row))
 
   in-row : (k : ℕ) → from ≤ k → k < to → InRow (b .starts) r k
   in-row k l h = record { from = omega (arith, g .low); to = omega (arith, g .high) }
 
-  abbrev Here : ℕ → Areas → Type 0
+  abbrev Here : ℕ → FinishAreas → Type 0
   Here k a′ = At b words stop z r up from to a k a′
 
   -- what the calls in the loop ask
@@ -196,14 +197,14 @@ module _ (b : Board) (words : List ℕ) (stop : Bool) (z r up from to : ℕ) (a 
   pub edge-room : (k : ℕ) (f : List Float) → length f ≡ length (a .floats) → k ≤ to → (z < 4096) × ((k ≤ to) × ((to ≤ length words) × (up + to ≤ length f)))
   edge-room k f q l = let e = within in (g .zone, (l, (omega (arith, g .ready .words), omega (arith, u, g .ready .floats, q))))
 
-  pub short-room : (a′ : Areas) → Kept b a a′ → Counted b r (a′ .gas)
+  pub short-room : (a′ : FinishAreas) → Kept b a a′ → Counted b r (a′ .gas)
   short-room a′ q = record {
     mixed = omega (arith, g .ready .board .mixes, g .row);
     small = omega (arith, g .ready .board .mixes, g .ready .board .turfs .1);
     held = holds-of (a′ .gas) (mixtureCount b) (b .gases) (mixOf b r) (q .gas ∙ g .ready .board .fits) (g .ready .board .mixed r);
   }
 
-  found : (i k : ℕ) (a′ : Areas) → Progress b words stop z r from to i a a′ → Next (isMarked words (a′ .floats) z up true) i to k → Here k a′
+  found : (i k : ℕ) (a′ : FinishAreas) → Progress b words stop z r from to i a a′ → Next (isMarked words (a′ .floats) z up true) i to k → Here k a′
   found i k a′ m n = record {
     made = made-skip b words stop z r from to a within i k a′ m (subst (λ (x : ℕ). Next (isMarked words (a′ .floats) z x true) i to k) u n);
     here = n .here;
@@ -212,8 +213,8 @@ module _ (b : Board) (words : List ℕ) (stop : Bool) (z r up from to : ℕ) (a 
   pub loop-start : (k : ℕ) → Next (isMarked words (a .floats) z up true) from to k → Here k a
   loop-start k n = found from k a (made-none b words stop z r from to a (g .order)) n
 
-  pub send-fits : (k : ℕ) (a′ : Areas) → Here k a′ → k < to
-      → SendFits b r k z (liftedAt b) words a′
+  pub send-fits : (k : ℕ) (a′ : FinishAreas) → Here k a′ → k < to
+      → SendFits b r k z (liftedFrom b) words a′
   send-fits k a′ m l =
       let p = m .made in
       let rd = ready-kept (g .ready) (p .kept) in
@@ -238,12 +239,12 @@ module _ (b : Board) (words : List ℕ) (stop : Bool) (z r up from to : ℕ) (a 
           amounts = rd .board .fits;
         };
         room = omega (arith, p .room, n, g .room, p .kept .events);
-        positive = both (eqb (getD words k 0) (z + 1)) (above (getD (a′ .floats) (liftedAt b + k) nan)) here .1;
+        positive = both (eqb (getD words k 0) (z + 1)) (above (getD (a′ .floats) (liftedFrom b + k) nan)) here .1;
       }
 
-  pub loop-next : (k j : ℕ) (a′ a″ : Areas) (short : Bool) → Here k a′ → k < to → short ≡ false
+  pub loop-next : (k j : ℕ) (a′ a″ : FinishAreas) (short : Bool) → Here k a′ → k < to → short ≡ false
       → short ≡ stop && lt (total b (a′ .gas) r) (getD (a′ .floats) (up + k) nan)
-      → Sends b r k z (liftedAt b) words a′ a″
+      → Sends b r k z (liftedFrom b) words a′ a″
       → Next (isMarked words (a″ .floats) z up true) (k + 1) to j → Here j a″
   loop-next k j a′ a″ short m l q is s n =
       found (k + 1) j a″
@@ -251,7 +252,7 @@ module _ (b : Board) (words : List ℕ) (stop : Bool) (z r up from to : ℕ) (a 
       (subst (λ (x : ℕ). stop && lt (total b (a′ .gas) r) (getD (a′ .floats) (x + k) nan) ≡ false) u (sym is ∙ q))
       s) n
 
-  pub stopped : (k : ℕ) (a′ : Areas) (short : Bool) → Here k a′ → k < to → short ≡ true
+  pub stopped : (k : ℕ) (a′ : FinishAreas) (short : Bool) → Here k a′ → k < to → short ≡ true
       → short ≡ stop && lt (total b (a′ .gas) r) (getD (a′ .floats) (up + k) nan)
       → SentTo b words stop z r from to k a a′
   stopped k a′ short m l q is =
@@ -262,7 +263,7 @@ module _ (b : Board) (words : List ℕ) (stop : Bool) (z r up from to : ℕ) (a 
         short = λ h. (subst (λ (x : ℕ). isMarked words (a′ .floats) z x true k ≡ true) u (m .here l), subst (λ (x : ℕ). lt (total b (a′ .gas) r) (getD (a′ .floats) (x + k) nan) ≡ true) u (s .1));
       }
 
-  pub all-sent : (k : ℕ) (a′ : Areas) → Here k a′ → to ≤ k → SentTo b words stop z r from to to a a′
+  pub all-sent : (k : ℕ) (a′ : FinishAreas) → Here k a′ → to ≤ k → SentTo b words stop z r from to to a a′
   all-sent k a′ m l =
       let e : k ≡ to = omega (arith, m .made .high) in
       record { made = subst (λ (x : ℕ). Progress b words stop z r from to x a a′) e (m .made); whole = λ q. refl; short = λ h. absurd (omega arith) }

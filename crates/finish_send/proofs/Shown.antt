@@ -15,22 +15,23 @@ use Rattle.basics.specs.Floats.{0f}
 use Rattle.basics.specs.declared.Spot.{Spot}
 use Rattle.basics.specs.declared.Spot.the-variants.{At, Nowhere}
 use Rattle.basics.specs.Lists.{Found}
-use Rattle.board_rules.specs.Board.{Board, turfCount, linkCount, mixtureCount, mixOf, idOf, end}
-use Rattle.mixture_rules.specs.Mixture.{moveAir}
+use Rattle.rules_board.specs.Board.{Board, turfCount, linkCount, mixtureCount, mixOf, idOf, end}
+use Rattle.rules_mixture.specs.Mixture.{moveAir}
 use Rattle.mixture.proofs.Parts.{Fits, move-fits}
-use Rattle.event_rules.specs.Events.{encode, encodeAll}
-use Rattle.events.specs.Area.{Wrote, Holds}
-use Rattle.event_rules.specs.declared.Event.the-variants.{Pressure}
-use Rattle.event_rules.specs.declared.Event.{Event}
+use Rattle.rules_events.specs.Events.{encode, encodeAll}
+use Rattle.events.specs.Area.{Wrote, HoldsEvents}
+use Rattle.rules_events.specs.declared.Event.the-variants.{Pressure}
+use Rattle.rules_events.specs.declared.Event.{Event}
 use Rattle.events.proofs.Areas.{wrote-length, wrote-rest, adds-one, adds-adds}
-use Rattle.plan_rules.specs.Edges.{alter}
-use Rattle.plan_laws.proofs.Sizes.{alter-size}
+use Rattle.rules_plan.specs.Edges.{alter}
+use Rattle.laws_plan.proofs.Sizes.{alter-size}
 use Rattle.reverse_links.specs.Reverse.{InRow}
 use Rattle.plan_state.specs.Steps.{backLink}
 use Rattle.plan_state.proofs.Links.{edge-back, reverse-within}
-use Rattle.finish_rules.specs.Finish.{send}
-use Rattle.finish_rules.specs.Lifted.{Held, sendHeld}
-use Rattle.finish_send.specs.Areas.{Areas, Written, ownerIn, reverseIn, fsizes, liftedAt, weightIn, liftedIn, others, Shows, Ready, Kept}
+use Rattle.rules_finish.specs.Finish.{send}
+use Rattle.rules_finish.specs.Lifted.{Held, sendHeld}
+use Rattle.scratch.specs.View.{ownerIn, reverseIn}
+use Rattle.finish_send.specs.Areas.{FinishAreas, Written, floatsOf, liftedFrom, weightOn, liftedOn, others, Shows, FinishFits, Kept}
 use Rattle.finish_send.specs.Sending.{shared, Sends}
 use Rattle.finish_send.proofs.Edge.{back-below, pressure-size}
 
@@ -43,27 +44,27 @@ pub reverse-at : (e k : ℕ) (words : List ℕ) → k < e → getD words (e + k)
 reverse-at e k words h = sym (getD-take e (drop e words) k 0 h ∙ lib.Seq.getD-drop e words k 0)
 
 module _ (b : Board) (f : List Float) (k : ℕ) (h : k < linkCount b) where
-  pub weight-at : getD f k nan ≡ getD (weightIn b f) k nan
-  weight-at = cut-get (fsizes b) f nan 0 k k (omega arith) h (omega arith)
+  pub weight-at : getD f k nan ≡ getD (weightOn b f) k nan
+  weight-at = cut-get (floatsOf b) f nan 0 k k (omega arith) h (omega arith)
 
-  pub lifted-at : getD f (liftedAt b + k) nan ≡ getD (liftedIn b f) k nan
-  lifted-at = cut-get (fsizes b) f nan 2 k (liftedAt b + k) (omega arith) h (omega arith)
+  pub lifted-at : getD f (liftedFrom b + k) nan ≡ getD (liftedOn b f) k nan
+  lifted-at = cut-get (floatsOf b) f nan 2 k (liftedFrom b + k) (omega arith) h (omega arith)
 
 -- ---- a weight set to 0
 
 cut-alter : (b : Board) (s : Spot) (f : List Float) → Found (λ k. k < linkCount b) s
-    → cut (fsizes b) (alter s (λ y. 0f) f) ≡ set (cut (fsizes b) f) 0 (alter s (λ y. 0f) (weightIn b f))
-cut-alter b (At k) f h = cut-set (fsizes b) f 0 k 0f k (omega arith) h (omega arith)
+    → cut (floatsOf b) (alter s (λ y. 0f) f) ≡ set (cut (floatsOf b) f) 0 (alter s (λ y. 0f) (weightOn b f))
+cut-alter b (At k) f h = cut-set (floatsOf b) f 0 k 0f k (omega arith) h (omega arith)
 cut-alter b Nowhere f h = refl
 
 module _ (b : Board) (s : Spot) (f f′ : List Float) (h : Found (λ k. k < linkCount b) s) (e : f′ ≡ alter s (λ y. 0f) f) where
-  cuts : cut (fsizes b) f′ ≡ set (cut (fsizes b) f) 0 (alter s (λ y. 0f) (weightIn b f))
-  cuts = ap (cut (fsizes b)) e ∙ cut-alter b s f h
+  cuts : cut (floatsOf b) f′ ≡ set (cut (floatsOf b) f) 0 (alter s (λ y. 0f) (weightOn b f))
+  cuts = ap (cut (floatsOf b)) e ∙ cut-alter b s f h
 
-  pub altered-weight : weightIn b f′ ≡ alter s (λ y. 0f) (weightIn b f)
+  pub altered-weight : weightOn b f′ ≡ alter s (λ y. 0f) (weightOn b f)
   altered-weight = ap (λ (l : List (List Float)). getD l 0 []) cuts
 
-  pub altered-lifted : liftedIn b f′ ≡ liftedIn b f
+  pub altered-lifted : liftedOn b f′ ≡ liftedOn b f
   altered-lifted = ap (λ (l : List (List Float)). getD l 2 []) cuts
 
   pub altered-others : others b f′ ≡ others b f
@@ -72,10 +73,10 @@ module _ (b : Board) (s : Spot) (f f′ : List Float) (h : Found (λ k. k < link
 
 -- ---- nothing changed, and one change after the other
 
-pub kept-none : (b : Board) (a : Areas) → Kept b a a
+pub kept-none : (b : Board) (a : FinishAreas) → Kept b a a
 kept-none b a = record { gas = refl; floats = refl; events = refl; rest = refl; grown = omega arith; past = refl }
 
-pub kept-then : {b : Board} {a a′ a″ : Areas} → Kept b a a′ → Kept b a′ a″ → Kept b a a″
+pub kept-then : {b : Board} {a a′ a″ : FinishAreas} → Kept b a a′ → Kept b a′ a″ → Kept b a a″
 kept-then {b} {a} {a′} {a″} k l = record {
   gas = l .gas ∙ k .gas;
   floats = l .floats ∙ k .floats;
@@ -93,7 +94,7 @@ kept-then {b} {a} {a′} {a″} k l = record {
 -- ---- the events
 
 -- what an area holds doesn't turn on what was lent
-pub holds-written : {es : List Event} {used : ℕ} {lent area : List ℕ} → Holds es used lent area → Written es used area
+pub holds-written : {es : List Event} {used : ℕ} {lent area : List ℕ} → HoldsEvents es used lent area → Written es used area
 holds-written {es} {used} {lent} {area} h = record {
   wrote = record {
     bytes = h .wrote .bytes ∙ ap (λ (l : List ℕ). encodeAll es ++ l) (sym (wrote-rest (h .wrote)));
@@ -116,7 +117,7 @@ shared-fits b r a x gas f h l = go (eqb (mixOf b r) (mixOf b a))
     go true = refl
     go false = move-fits b (mixOf b r) (mixOf b a) x h l gas f ∙ sym f
 
-module _ (b : Board) (words : List ℕ) (z r k : ℕ) (a a′ : Areas) (ready : Ready b words (a .gas) (a .floats)) (row : r < turfCount b) (i : InRow (b .starts) r k) (below : k < linkCount b)
+module _ (b : Board) (words : List ℕ) (z r k : ℕ) (a a′ : FinishAreas) (ready : FinishFits b words (a .gas) (a .floats)) (row : r < turfCount b) (i : InRow (b .starts) r k) (below : k < linkCount b)
     (up : ℕ)
     (s : Sends b r k z up words a a′) where
   abbrev x : Float
@@ -139,10 +140,10 @@ module _ (b : Board) (words : List ℕ) (z r k : ℕ) (a a′ : Areas) (ready : 
     past = wrote-rest (s .event);
   }
 
-  pub sent-lifted : liftedIn b (a′ .floats) ≡ liftedIn b (a .floats)
+  pub sent-lifted : liftedOn b (a′ .floats) ≡ liftedOn b (a .floats)
   sent-lifted = altered-lifted b back (a .floats) (a′ .floats) back-in (s .weights)
 
-  pub sent-weight : weightIn b (a′ .floats) ≡ alter back (λ y. 0f) (weightIn b (a .floats))
+  pub sent-weight : weightOn b (a′ .floats) ≡ alter back (λ y. 0f) (weightOn b (a .floats))
   sent-weight = altered-weight b back (a .floats) (a′ .floats) back-in (s .weights)
 
   pub sent-used : a′ .used ≡ a .used + 20

@@ -9,26 +9,28 @@ use lib.Ieee.{Float, nan, lt}
 use Rattle.basics.specs.Loops.{run, upFrom, if_then_else_}
 use Rattle.basics.specs.Floats.{0f}
 use Rattle.basics.specs.Lists.{count}
-use Rattle.board_rules.specs.Board.{Board, turfCount, linkCount, mixtureCount, mixOf, end}
-use Rattle.mixture_rules.specs.Mixture.{total, moveAir}
-use Rattle.mixture.specs.Moves.{Holds}
-use Rattle.event_rules.specs.Events.{encode}
+use Rattle.rules_board.specs.Board.{Board, turfCount, linkCount, mixtureCount, mixOf, end}
+use Rattle.rules_mixture.specs.Mixture.{total, moveAir}
+use Rattle.mixture.specs.Moves.{HoldsGas}
+use Rattle.rules_events.specs.Events.{encode}
 use Rattle.events.specs.Area.{Wrote}
-use Rattle.event_rules.specs.declared.Event.the-variants.{Pressure}
-use Rattle.plan_rules.specs.Edges.{alter, owned}
+use Rattle.rules_events.specs.declared.Event.the-variants.{Pressure}
+use Rattle.rules_plan.specs.Edges.{alter, owned}
 use Rattle.plan_state.specs.Steps.{backLink}
-use Rattle.finish_rules.specs.Lifted.{Held, sendHeld, giversHeld, above, pending}
+use Rattle.rules_finish.specs.Lifted.{Held, sendHeld, giversHeld, above, pending}
 use Rattle.finish_send.specs.declared.Turf.{Turf}
 use Rattle.finish_send.specs.declared.Span.{Span}
-use Rattle.finish_send.specs.Areas.{Areas, Shows, Ready, Kept, ownerIn, reverseIn, weightIn, liftedIn, liftedAt}
+use Rattle.scratch.specs.Layout.{reverseAt}
+use Rattle.scratch.specs.View.{ownerIn, reverseIn}
+use Rattle.finish_send.specs.Areas.{FinishAreas, Shows, FinishFits, Kept, weightOn, liftedOn, liftedFrom}
 
 -- above 0, or below it
-abbrev pub sideOf : Bool → Float → Bool
-sideOf up x = if up then lt 0f x else lt x 0f
+abbrev pub onSide : Bool → Float → Bool
+onSide up x = if up then lt 0f x else lt x 0f
 
 -- zone z owns the link j, whose float from `base` on is above 0, or below it
 abbrev pub isMarked : List ℕ → List Float → ℕ → ℕ → Bool → ℕ → Bool
-isMarked words floats z base up j = eqb (getD words j 0) (z + 1) && sideOf up (getD floats (base + j) nan)
+isMarked words floats z base up j = eqb (getD words j 0) (z + 1) && onSide up (getD floats (base + j) nan)
 
 -- r is the first place from k on that passes, and `to` where none does
 pub record Next (p : ℕ → Bool) (k to r : ℕ) : Type 0 where
@@ -55,7 +57,7 @@ shared b r a x gas = if eqb (mixOf b r) (mixOf b a) then gas else moveAir b (mix
 pub record Counted (b : Board) (row : ℕ) (gas : List Float) : Type 0 where
   pub mixed : row < length (b .mixtures)
   pub small : length (b .mixtures) ≤ 4096
-  pub held : Holds gas (b .gases) (mixOf b row)
+  pub held : HoldsGas gas (b .gases) (mixOf b row)
 
 -- what moving air between two turfs may rely on
 pub record MoveFits (b : Board) (row to : ℕ) (gas : List Float) : Type 0 where
@@ -65,13 +67,13 @@ pub record MoveFits (b : Board) (row to : ℕ) (gas : List Float) : Type 0 where
   pub amounts : length gas ≡ mixtureCount b * b .gases
 
 -- what sending over the link k may rely on
-pub record SendFits (b : Board) (row k z up : ℕ) (words : List ℕ) (a : Areas) : Type 0 where
+pub record SendFits (b : Board) (row k z up : ℕ) (words : List ℕ) (a : FinishAreas) : Type 0 where
   pub zone : z < 4096
   pub turfs : turfCount b ≤ 4096
   pub links : linkCount b ≤ 24576
   pub link : k < linkCount b
-  pub area : linkCount b + linkCount b ≤ length words
-  pub back : getD words (linkCount b + k) 0 ≤ linkCount b
+  pub area : reverseAt (linkCount b) (linkCount b) ≤ length words
+  pub back : getD words (reverseAt k (linkCount b)) 0 ≤ linkCount b
   pub weights : linkCount b ≤ length (a .floats)
   pub lifted : up + k < length (a .floats)
   pub rows : (row < turfCount b) × (end b k < turfCount b)
@@ -80,7 +82,7 @@ pub record SendFits (b : Board) (row k z up : ℕ) (words : List ℕ) (a : Areas
   pub positive : above (getD (a .floats) (up + k) nan) ≡ true
 
 -- the reverse weight, the air, the record
-pub record Sends (b : Board) (row k z up : ℕ) (words : List ℕ) (a a′ : Areas) : Type 0 where
+pub record Sends (b : Board) (row k z up : ℕ) (words : List ℕ) (a a′ : FinishAreas) : Type 0 where
   pub weights : a′ .floats ≡ alter (backLink (reverseIn (linkCount b) words) (ownerIn (linkCount b) words) z k) (λ y. 0f) (a .floats)
   pub air : a′ .gas ≡ shared b row (end b k) (getD (a .floats) (up + k) nan) (a .gas)
   pub event : Wrote (encode (Pressure z (getD (a .floats) (up + k) nan) (getD (b .ids) row 0) (getD (b .ids) (end b k) 0))) (a .used) (a′ .used) (a .events) (a′ .events)
@@ -97,34 +99,34 @@ module _ (b : Board) (owner : List ℕ) (z : ℕ) where
 
 -- how many links from k up to `to` have something to send
 unfoldable pub toSend : Board → List ℕ → List Float → ℕ → ℕ → ℕ → ℕ
-toSend b words floats z k to = count (isMarked words floats z (liftedAt b) true) (upFrom k (to - k))
+toSend b words floats z k to = count (isMarked words floats z (liftedFrom b) true) (upFrom k (to - k))
 
 -- the turf r, its links from `from` up to `to`
-pub record Going (b : Board) (words : List ℕ) (z r from to : ℕ) (a : Areas) : Type 0 where
-  pub ready : Ready b words (a .gas) (a .floats)
+pub record Going (b : Board) (words : List ℕ) (z r from to : ℕ) (a : FinishAreas) : Type 0 where
+  pub ready : FinishFits b words (a .gas) (a .floats)
   pub zone : z < 4096
   pub row : r < turfCount b
   pub low : getD (b .starts) r 0 ≤ from
   pub order : from ≤ to
   pub high : to ≤ getD (b .starts) (r + 1) 0
-  pub room : a .used + 20 * pending (weightIn b (a .floats)) + 20 * toSend b words (a .floats) z from to ≤ length (a .events)
+  pub room : a .used + 20 * pending (weightOn b (a .floats)) + 20 * toSend b words (a .floats) z from to ≤ length (a .events)
 
 -- all links of the turf r from `from` up to `at` were gone through
-pub record Progress (b : Board) (words : List ℕ) (stop : Bool) (z r from to at : ℕ) (a a′ : Areas) : Type 0 where
+pub record Progress (b : Board) (words : List ℕ) (stop : Bool) (z r from to at : ℕ) (a a′ : FinishAreas) : Type 0 where
   pub kept : Kept b a a′
   pub low : from ≤ at
   pub high : at ≤ to
-  pub lifted : liftedIn b (a′ .floats) ≡ liftedIn b (a .floats)
-  pub fewer : pending (weightIn b (a′ .floats)) ≤ pending (weightIn b (a .floats))
+  pub lifted : liftedOn b (a′ .floats) ≡ liftedOn b (a .floats)
+  pub fewer : pending (weightOn b (a′ .floats)) ≤ pending (weightOn b (a .floats))
   pub room : a′ .used + 20 * toSend b words (a′ .floats) z at to ≤ a .used + 20 * toSend b words (a .floats) z from to
   pub shows : (f : ℕ → Held → Held) (h : Held) → Shows b a h → Shows b a′ (run (pairAs b (ownerIn (linkCount b) words) z stop f r) (upFrom from (at - from)) h)
 
 -- and there the turf is short, or the links are at their end
-pub record SentTo (b : Board) (words : List ℕ) (stop : Bool) (z r from to at : ℕ) (a a′ : Areas) : Type 0 where
+pub record SentTo (b : Board) (words : List ℕ) (stop : Bool) (z r from to at : ℕ) (a a′ : FinishAreas) : Type 0 where
   pub made : Progress b words stop z r from to at a a′
   pub whole : stop ≡ false → at ≡ to
-  pub short : at < to → (isMarked words (a′ .floats) z (liftedAt b) true at ≡ true) × (lt (total b (a′ .gas) r) (getD (a′ .floats) (liftedAt b + at) nan) ≡ true)
+  pub short : at < to → (isMarked words (a′ .floats) z (liftedFrom b) true at ≡ true) × (lt (total b (a′ .gas) r) (getD (a′ .floats) (liftedFrom b + at) nan) ≡ true)
 
 -- the same of the turf and the links in hand
-abbrev pub SentOver : Board → List ℕ → Turf → Span → Areas → ℕ → Areas → Type 0
+abbrev pub SentOver : Board → List ℕ → Turf → Span → FinishAreas → ℕ → FinishAreas → Type 0
 SentOver b words t l a at a′ = SentTo b words (l .stop) (t .zone) (t .row) (l .from) (l .to) at a a′

@@ -1,7 +1,7 @@
 // What a turf does with its own edges when it is finished: weights are lifted, and a lifted weight above 0 is sent. Of n turfs and e links the words hold
 // by link the owner and the reverse; the floats hold by link the weight, two arrays by row, and from `up` on by link the lifted weight.
 use basics::Spot;
-use event_rules::Event;
+use rules_events::Event;
 use turfs::IDS;
 use turfs::IMMUTABLE;
 use turfs::MIXTURES;
@@ -16,11 +16,11 @@ ghost use lib.Ieee.{nan, lt};
 ghost use Rattle.basics.specs.Loops.{run, upFrom};
 ghost use Rattle.basics.specs.Floats.{0f};
 ghost use Rattle.basics.specs.Lists.{Found};
-ghost use Rattle.mixture_rules.specs.Mixture.{total};
-ghost use Rattle.plan_rules.specs.Edges.{alter};
+ghost use Rattle.rules_mixture.specs.Mixture.{total};
+ghost use Rattle.rules_plan.specs.Edges.{alter};
 ghost use Rattle.turfs.specs.Tables.{boardAt};
-ghost use Rattle.finish_send.specs.Areas.{areasAt, liftedAt};
-ghost use Rattle.finish_send.specs.Sending.{sideOf, isMarked, Next, saveAt, zeroAt, shared, Counted, MoveFits, SendFits, Sends, Going, SentOver};
+ghost use Rattle.finish_send.specs.Areas.{finishAreasAt, liftedFrom};
+ghost use Rattle.finish_send.specs.Sending.{onSide, isMarked, Next, saveAt, zeroAt, shared, Counted, MoveFits, SendFits, Sends, Going, SentOver};
 
 // The turf in hand: its row, its zone, and the board's number of gases.
 pub struct Turf {
@@ -44,7 +44,7 @@ pub struct Sent {
 
 // Above 0 or below it.
 fn side(above: bool, x: f32) -> bool
-    ensures { λ r. ⌜ r ≡ sideOf above x ⌝ }
+    ensures { λ r. ⌜ r ≡ onSide above x ⌝ }
 {
     if above { 0.0 < x } else { x < 0.0 }
 }
@@ -166,7 +166,7 @@ fn move_between(turf: Turf, to: usize, amount: f32, rows: &Rows, marks: &Marks, 
     if giver == taker {
         return;
     }
-    mixture::move_air(marks[IMMUTABLE], gas, turf.gases, giver, taker, amount);
+    mixture::move_air(marks[IMMUTABLE], turf.gases, gas, giver, taker, amount);
 }
 
 // The turf's edge k, whose planned amount was lifted: its reverse is cleared, the air moves, and the record is written.
@@ -181,8 +181,8 @@ fn send(
     floats: &mut [f32],
     events: &mut [u8],
 ) -> usize
-    requires { let b = boardAt rows marks (turf .gases) in ⌜ SendFits b (turf .row) k (turf .zone) (liftedAt b) (now words) (areasAt gas floats events used) ⌝ }
-    ensures { λ r. let b = boardAt (rows .entry) (marks .entry) (turf .gases) in ⌜ Sends b (turf .row) k (turf .zone) (liftedAt b) (now (words .entry)) (areasAt (gas .entry) (floats .entry) (events .entry) used) (areasAt (gas .exit) (floats .exit) (events .exit) r) ⌝ }
+    requires { let b = boardAt rows marks (turf .gases) in ⌜ SendFits b (turf .row) k (turf .zone) (liftedFrom b) (now words) (finishAreasAt gas floats events used) ⌝ }
+    ensures { λ r. let b = boardAt (rows .entry) (marks .entry) (turf .gases) in ⌜ Sends b (turf .row) k (turf .zone) (liftedFrom b) (now (words .entry)) (finishAreasAt (gas .entry) (floats .entry) (events .entry) used) (finishAreasAt (gas .exit) (floats .exit) (events .exit) r) ⌝ }
 {
     let ids = rows[IDS];
     let neighbours = rows[NEIGHBOURS];
@@ -209,7 +209,7 @@ fn is_short(stop: bool, turf: Turf, amount: f32, rows: &Rows, marks: &Marks, gas
     ensures { λ r. ⌜ r ≡ stop && lt (total (boardAt (rows .entry) (marks .entry) (turf .gases)) (now (gas .entry)) (turf .row)) amount ⌝ }
 {
     if stop {
-        return mixture::total(rows[MIXTURES], gas, turf.gases, turf.row) < amount;
+        return mixture::total(rows[MIXTURES], turf.gases, gas, turf.row) < amount;
     }
     false
 }
@@ -226,8 +226,8 @@ pub fn send_edges(
     floats: &mut [f32],
     events: &mut [u8],
 ) -> Sent
-    requires { ⌜ Going (boardAt rows marks (turf .gases)) (now words) (turf .zone) (turf .row) (links .from) (links .to) (areasAt gas floats events used) ⌝ }
-    ensures { λ r. let b = boardAt (rows .entry) (marks .entry) (turf .gases) in ⌜ SentOver b (now (words .entry)) turf links (areasAt (gas .entry) (floats .entry) (events .entry) used) (r .at) (areasAt (gas .exit) (floats .exit) (events .exit) (r .used)) ⌝ }
+    requires { ⌜ Going (boardAt rows marks (turf .gases)) (now words) (turf .zone) (turf .row) (links .from) (links .to) (finishAreasAt gas floats events used) ⌝ }
+    ensures { λ r. let b = boardAt (rows .entry) (marks .entry) (turf .gases) in ⌜ SentOver b (now (words .entry)) turf links (finishAreasAt (gas .entry) (floats .entry) (events .entry) used) (r .at) (finishAreasAt (gas .exit) (floats .exit) (events .exit) (r .used)) ⌝ }
 {
     let zone = turf.zone;
     let to = links.to;

@@ -5,20 +5,21 @@ use Prim.Native.Nat.{ℕ, _≤_}
 use native.Mathlib.Omega.{arith}
 use lib.ListN.{length, drop}
 use Rattle.basics.proofs.Parts.{drop-later}
-use Rattle.board_rules.specs.Board.{Board, turfCount, linkCount}
-use Rattle.event_rules.specs.Events.{encodeAll}
-use Rattle.events.specs.Area.{Holds}
-use Rattle.event_rules.specs.declared.Event.{Event}
+use Rattle.rules_board.specs.Board.{Board, turfCount, linkCount}
+use Rattle.rules_events.specs.Events.{encodeAll}
+use Rattle.events.specs.Area.{HoldsEvents}
+use Rattle.rules_events.specs.declared.Event.{Event}
 use Rattle.events.proofs.Areas.{wrote-rest, wrote-length}
-use Rattle.finish_rules.specs.Finish.{Done}
-use Rattle.finish_rules.specs.Turns.{Zone, finishAll}
-use Rattle.finish_send.specs.Areas.{Areas, Written, ownerIn, weightIn}
+use Rattle.rules_finish.specs.Finish.{Done}
+use Rattle.rules_finish.specs.Turns.{Zone, finishAll}
+use Rattle.scratch.specs.View.{ownerIn}
+use Rattle.finish_send.specs.Areas.{FinishAreas, Written, weightOn}
 use Rattle.finish_send.proofs.Shown.{holds-written}
-use Rattle.finish_turns.specs.Turning.{cursorAt, Same, FinishesAll}
+use Rattle.finish_turns.specs.Turning.{Same, FinishesAll}
 
 -- events held past those that were held, over the same lent area
-pub holds-later : {es es′ : List Event} {used used′ : ℕ} {lent area area′ : List ℕ} → Holds es used lent area → used ≤ used′ → length area′ ≡ length area → drop used′ area′ ≡ drop used′ area
-    → Written es′ used′ area′ → Holds es′ used′ lent area′
+pub holds-later : {es es′ : List Event} {used used′ : ℕ} {lent area area′ : List ℕ} → HoldsEvents es used lent area → used ≤ used′ → length area′ ≡ length area → drop used′ area′ ≡ drop used′ area
+    → Written es′ used′ area′ → HoldsEvents es′ used′ lent area′
 holds-later {es} {es′} {used} {used′} {lent} {area} {area′} h l s p w = record {
   wrote = record {
     bytes = w .wrote .bytes ∙ ap (λ (x : List ℕ). encodeAll es′ ++ x) (p ∙ drop-later used used′ area lent l (wrote-rest (h .wrote)));
@@ -28,12 +29,12 @@ holds-later {es} {es′} {used} {used′} {lent} {area} {area′} h l s p w = re
 }
 
 -- what a call has then
-pub record Ends (b : Board) (lent : List ℕ) (a : Areas) (d : Done) : Type 0 where
+pub record Ends (b : Board) (lent : List ℕ) (a : FinishAreas) (d : Done) : Type 0 where
   pub gas : a .gas ≡ d .gas
-  pub weight : weightIn b (a .floats) ≡ d .weight
-  pub events : Holds (d .events) (a .used) lent (a .events)
+  pub weight : weightOn b (a .floats) ≡ d .weight
+  pub events : HoldsEvents (d .events) (a .used) lent (a .events)
 
-pub finished : (b : Board) (count : ℕ) (turns ws ws′ : List ℕ) (a a′ : Areas) → FinishesAll b count turns ws ws′ a a′ → (zones : List Zone) → Same (turfCount b) (cursorAt b) count ws zones
+pub finished : (b : Board) (count : ℕ) (turns ws ws′ : List ℕ) (a a′ : FinishAreas) → FinishesAll b count turns ws ws′ a a′ → (zones : List Zone) → Same (turfCount b) (linkCount b) count ws zones
     → (lent : List ℕ) (d : Done) → Ends b lent a d → Ends b lent a′ (finishAll b (ownerIn (linkCount b) ws) zones turns d)
 finished b count turns ws ws′ a a′ q zones s lent d h =
     let v = q .done zones s d (record { gas = h .gas; weight = h .weight; events = holds-written (h .events) }) in

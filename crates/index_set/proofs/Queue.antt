@@ -16,7 +16,7 @@ use Rattle.basics.specs.Loops.{member, snoc}
 use Rattle.basics.specs.Lists.{All}
 use Rattle.basics.proofs.Lists.{or-cases, at-member}
 use Rattle.basics.proofs.Lists as lists
-use Rattle.index_set.specs.Line.{Below, Apart, Line, array, Holds}
+use Rattle.index_set.specs.Line.{Below, Apart, Line, array, HoldsSet}
 
 -- ---- rows below a bound
 
@@ -161,7 +161,7 @@ module _ {n count : ℕ} {queue places : List ℕ} (l : Line n count queue place
 
 -- ---- what the code reads
 
-module _ (n count queue places : ℕ) (w : List ℕ) (a : ℕ) (l : Holds n count queue places w) (h : a < n) where
+module _ (n count queue places : ℕ) (w : List ℕ) (a : ℕ) (l : HoldsSet n count queue places w) (h : a < n) where
   place-at : getD w (places + a) 0 ≡ getD (array n places w) a 0
   place-at = sym (getD-take n (drop places w) a 0 h ∙ getD-drop places w a 0)
 

@@ -31,6 +31,6 @@ abbrev pub array : ℕ → ℕ → List ℕ → List ℕ
 array n at w = take n (drop at w)
 
 -- the words hold such a set of n rows: its order from `queue` on, its places from `places` on
-pub record Holds (n count queue places : ℕ) (w : List ℕ) : Type 0 where
+pub record HoldsSet (n count queue places : ℕ) (w : List ℕ) : Type 0 where
   pub room : (queue + n ≤ length w) × (places + n ≤ length w)
   pub line : Line n count (array n queue w) (array n places w)

@@ -3,27 +3,11 @@ ghost use mathlib.Core.Path.{_≡_};
 ghost use Prim.Native.Nat.{_+_, _≤_, _<_};
 ghost use lib.ListN.{length, take, set};
 ghost use Rattle.basics.specs.Loops.{member};
-ghost use Rattle.index_set.specs.Line.{array, Holds};
-
-// Where the rows of the set start in the words of a whole call, of n turfs and e links.
-pub fn queue_at(n: usize, e: usize) -> usize
-    requires { ⌜ (e ≤ 24576) × (n ≤ 4096) ⌝ }
-    ensures { λ r. ⌜ r ≡ e + e + n + n + n ⌝ }
-{
-    e + e + n + n + n
-}
-
-// Where their places start.
-pub fn places_at(n: usize, e: usize) -> usize
-    requires { ⌜ (e ≤ 24576) × (n ≤ 4096) ⌝ }
-    ensures { λ r. ⌜ r ≡ e + e + n + n + n + n ⌝ }
-{
-    e + e + n + n + n + n
-}
+ghost use Rattle.index_set.specs.Line.{array, HoldsSet};
 
 // Whether the row a is one of the `count` rows of the set.
 pub fn contains(a: u32, count: usize, n: usize, queue: usize, places: usize, words: &[u32]) -> bool
-    requires { ⌜ Holds n count queue places (now words) × (a < n) ⌝ }
+    requires { ⌜ HoldsSet n count queue places (now words) × (a < n) ⌝ }
     ensures { λ r. ⌜ r ≡ member a (take count (array n queue (now (words .entry)))) ⌝ }
 {
     let p = words[places + a as usize] as usize;

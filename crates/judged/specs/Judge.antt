@@ -6,13 +6,13 @@ use lib.ListN.{length, drop, replicate}
 use lib.Ieee.{Float}
 use Rattle.basics.specs.Loops.{allOf, upFrom, same}
 use Rattle.basics.specs.Floats.{ofWord, bits, exact}
-use Rattle.board_rules.specs.Board.{Board}
-use Rattle.lent_rules.specs.Lent.{Lent}
-use Rattle.equalize_rules.specs.Equalize.{Ask}
-use Rattle.equalize_rules.specs.Result.{equalizeResult}
-use Rattle.equalize_rules.specs.Worked.{numbers}
-use Rattle.depressurize_rules.specs.Depressurize.{depressurizeResult}
-use Rattle.planet_rules.specs.Planet.{planetResult}
+use Rattle.rules_board.specs.Board.{Board}
+use Rattle.rules_lent.specs.Lent.{Lent}
+use Rattle.rules_equalize.specs.Equalize.{Ask}
+use Rattle.rules_equalize.specs.Result.{equalizeResult}
+use Rattle.rules_equalize.specs.Worked.{numbers}
+use Rattle.rules_depressurize.specs.Depressurize.{depressurizeResult}
+use Rattle.rules_planet.specs.Planet.{planetResult}
 
 -- how long the lent areas are: event bytes, words, floats
 pub record Lengths : Type 0 where

@@ -3,8 +3,8 @@ use mathlib.Core.Path.{_≡_, ap, _∙_}
 use mathlib.Core.List.{List}
 use Prim.Native.Nat.{ℕ}
 use lib.ListN.{getD}
-use Rattle.lent_rules.specs.Lent.{Lent, Result}
-use Rattle.answers.specs.Answers.{Answers}
+use Rattle.rules_lent.specs.Lent.{Lent, Result}
+use Rattle.call_answers.specs.Answers.{Answers}
 
 module _ {A : Type 0} (numbers : A → List ℕ) (a : A) (l : Lent) (o : Result A) where
   pub answers : record { answer = a; lent = l } ≡ o → {w : List ℕ} → w ≡ numbers a → Answers numbers o (getD (numbers a) 0 0) w l

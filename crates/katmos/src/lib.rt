@@ -1,15 +1,15 @@
 // The C interface: each function writes its answer into an array and returns the number, which is the answer's first.
-use fill_rules::Settings;
+use rules_fill::Settings;
 ghost use mathlib.Core.Path.{_≡_};
 ghost use lib.ListN.{getD};
 ghost use Rattle.turfs.specs.Tables.{board};
 ghost use Rattle.events.specs.Interface.{readEvent, writeEvent};
 ghost use Rattle.lent.specs.Given.{lentAt};
-ghost use Rattle.fill_all.specs.Held.{ask};
-ghost use Rattle.equalize_rules.specs.Result.{equalizeResult};
-ghost use Rattle.planet_rules.specs.Planet.{planetResult};
-ghost use Rattle.depressurize_rules.specs.Depressurize.{depressurizeResult};
-ghost use Rattle.answers.specs.Answers.{Answers, equalizeNumbers, planetNumbers, depressurizeNumbers};
+ghost use Rattle.fill_all.specs.Held.{askOf};
+ghost use Rattle.rules_equalize.specs.Result.{equalizeResult};
+ghost use Rattle.rules_planet.specs.Planet.{planetResult};
+ghost use Rattle.rules_depressurize.specs.Depressurize.{depressurizeResult};
+ghost use Rattle.call_answers.specs.Answers.{Answers, equalizeNumbers, planetNumbers, depressurizeNumbers};
 
 // Evens out the gas of the rooms around the hot ones: number, cancelled, processed, tests, zones, apart, bytes.
 #[no_mangle]
@@ -35,7 +35,7 @@ pub extern "C" fn katmos_equalize<'a>(
     answer: &mut [u32; 7],
 ) -> u32
     ensures { λ r. let b = board (now (ids .entry)) (now (flags .entry)) (now (planetary .entry)) (now (mixtures .entry)) (now (starts .entry)) (now (neighbours .entry)) (now («link_flags» .entry)) (now (immutable .entry)) gases in
-        ⌜ Answers equalizeNumbers (equalizeResult b (ask (now (hot .entry)) threshold limit allowance) (now (turns .entry)) (lentAt (amounts .entry) (events .entry) (words .entry) (floats .entry))) r (now (answer .exit)) (lentAt (amounts .exit) (events .exit) (words .exit) (floats .exit)) ⌝ }
+        ⌜ Answers equalizeNumbers (equalizeResult b (askOf (now (hot .entry)) threshold limit allowance) (now (turns .entry)) (lentAt (amounts .entry) (events .entry) (words .entry) (floats .entry))) r (now (answer .exit)) (lentAt (amounts .exit) (events .exit) (words .exit) (floats .exit)) ⌝ }
 {
     let rows = [ids, mixtures, starts, neighbours];
     let marks = [flags, planetary, link_flags, immutable];
@@ -44,7 +44,7 @@ pub extern "C" fn katmos_equalize<'a>(
         limit,
         allowance,
     };
-    let a = equalize_call::equalize(
+    let a = call_equalize::equalize(
         hot,
         turns,
         settings,
@@ -56,7 +56,7 @@ pub extern "C" fn katmos_equalize<'a>(
         floats,
         events,
     );
-    *answer = answers::equalize_numbers(a);
+    *answer = call_answers::equalize_numbers(a);
     a.number
 }
 
@@ -85,7 +85,7 @@ pub extern "C" fn katmos_planet_walk<'a>(
 {
     let rows = [ids, mixtures, starts, neighbours];
     let marks = [flags, planetary, link_flags, immutable];
-    let a = planet_walk::planet_walk(
+    let a = call_planet_walk::planet_walk(
         id,
         limit,
         &rows,
@@ -96,7 +96,7 @@ pub extern "C" fn katmos_planet_walk<'a>(
         floats,
         events,
     );
-    *answer = answers::planet_numbers(a);
+    *answer = call_answers::planet_numbers(a);
     a.number
 }
 
@@ -125,7 +125,7 @@ pub extern "C" fn katmos_depressurize<'a>(
 {
     let rows = [ids, mixtures, starts, neighbours];
     let marks = [flags, planetary, link_flags, immutable];
-    let a = depressurize::depressurize(
+    let a = call_depressurize::depressurize(
         id,
         limit,
         &rows,
@@ -136,7 +136,7 @@ pub extern "C" fn katmos_depressurize<'a>(
         floats,
         events,
     );
-    *answer = answers::depressurize_numbers(a);
+    *answer = call_answers::depressurize_numbers(a);
     a.number
 }
 

@@ -11,14 +11,15 @@ use borrow.Author.Tests.{leb-true}
 use Rattle.basics.specs.Loops.{every, allOf}
 use Rattle.basics.specs.Floats.{0f}
 use Rattle.basics.proofs.Tests.{each}
-use Rattle.board_rules.specs.Board.{Board}
-use Rattle.board_rules.specs.Refuse.{sizesFit, tablesFit, idsFit, linksFit}
+use Rattle.rules_board.specs.Board.{Board}
+use Rattle.rules_board.specs.Refuse.{sizesFit, tablesFit, idsFit, linksFit}
 use Rattle.turfs.specs.Tables.{board, Small}
 use Rattle.turfs.proofs.Tables.{amounts-of, tables-of}
-use Rattle.mixture_rules.specs.Mixture.{amountFits}
-use Rattle.event_rules.specs.declared.Event.{Event}
-use Rattle.lent_rules.specs.Lent.{Lent, Extra, wordsRoom, floatsRoom, firstFailed, refusal, after}
-use Rattle.lent.specs.Given.{cleared, Roomy, Given}
+use Rattle.rules_mixture.specs.Mixture.{amountFits}
+use Rattle.rules_events.specs.declared.Event.{Event}
+use Rattle.rules_lent.specs.Lent.{Lent, Extra, wordsRoom, floatsRoom, firstFailed, refusal, after}
+use Rattle.lent_room.specs.Areas.{cleared, Roomy}
+use Rattle.lent.specs.Given.{Given}
 
 -- ---- the number of a list of requirements
 

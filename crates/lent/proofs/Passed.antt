@@ -10,15 +10,15 @@ use lib.Ieee.{Float}
 use Rattle.basics.specs.Loops.{every}
 use Rattle.basics.specs.Lists.{All}
 use Rattle.basics.proofs.Loops.{all-of}
-use Rattle.board_rules.specs.Board.{Board}
-use Rattle.board_rules.specs.Refuse.{linksFit}
+use Rattle.rules_board.specs.Board.{Board}
+use Rattle.rules_board.specs.Refuse.{linksFit}
 use Rattle.turfs.specs.Tables.{Accepted}
 use Rattle.turfs.proofs.Accepted.{accepted}
-use Rattle.mixture_rules.specs.Mixture.{amountFits}
-use Rattle.event_rules.specs.Events.{encodeAll}
-use Rattle.event_rules.specs.declared.Event.{Event}
-use Rattle.lent_rules.specs.Lent.{Lent, Extra, wordsRoom, floatsRoom, firstFailed, refusal, after}
-use Rattle.lent_rules.specs.Worked as worked  -- checked before the laws
+use Rattle.rules_mixture.specs.Mixture.{amountFits}
+use Rattle.rules_events.specs.Events.{encodeAll}
+use Rattle.rules_events.specs.declared.Event.{Event}
+use Rattle.rules_lent.specs.Lent.{Lent, Extra, wordsRoom, floatsRoom, firstFailed, refusal, after}
+use Rattle.rules_lent.specs.Worked as worked  -- checked before the laws
 
 held : (t : Bool) (n x : ℕ) → zero < n → cond t x n ≡ 0 → T t × (x ≡ 0)
 held true n x h e = (tt, e)

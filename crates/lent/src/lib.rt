@@ -1,33 +1,13 @@
-// What every call is lent beside its tables: when it is refused, and the clearing of its scratch. The definitions stand in specs/.
+// When a call is refused: its tables, its gas, what only equalize is lent, its areas, in this order.
+use lent_room::Room;
 use turfs::IDS;
-use turfs::IMMUTABLE;
 use turfs::Marks;
-use turfs::NEIGHBOURS;
 use turfs::Rows;
 ghost use mathlib.Core.Path.{_≡_};
-ghost use mathlib.Core.List.{[], _∷_};
-ghost use lib.Dec.{leb};
-ghost use Rattle.basics.specs.Loops.{allOf};
-ghost use Rattle.basics.specs.Floats.{0f};
-ghost use Rattle.turfs.specs.Tables.{boardOf, boardAt, Small};
-ghost use Rattle.lent_rules.specs.Lent.{wordsRoom, floatsRoom, noExtra, refusal};
-ghost use Rattle.lent.specs.Given.{roomOf, cleared, lent, extraOf, Roomy};
-
-// The words of the scratch that a call may use.
-pub fn words_room(rows: &Rows, marks: &Marks) -> usize
-    requires { ⌜ Small (boardAt rows marks 0) ⌝ }
-    ensures { λ r. ⌜ r ≡ wordsRoom (boardAt (rows .entry) (marks .entry) 0) ⌝ }
-{
-    16 * rows[IDS].len() + 4 * rows[NEIGHBOURS].len() + 2 * marks[IMMUTABLE].len() + 16
-}
-
-// The floats of the scratch that a call may use.
-pub fn floats_room(rows: &Rows) -> usize
-    requires { ⌜ Small (boardOf (now rows) [] 0) ⌝ }
-    ensures { λ r. ⌜ r ≡ floatsRoom (boardOf (now (rows .entry)) [] 0) ⌝ }
-{
-    4 * rows[IDS].len() + 2 * rows[NEIGHBOURS].len()
-}
+ghost use Rattle.turfs.specs.Tables.{boardAt};
+ghost use Rattle.rules_lent.specs.Lent.{noExtra, refusal};
+ghost use Rattle.lent_room.specs.Areas.{roomOf};
+ghost use Rattle.lent.specs.Given.{lent, extraOf};
 
 // What only equalize is lent, and tests itself: the sizes of the hot ids and of the turns, the threshold, the order of the hot ids.
 pub struct ExtraTests {
@@ -47,35 +27,6 @@ impl ExtraTests {
             hot: true,
         }
     }
-}
-
-// The event bytes that a call may write for each turf, and for each link.
-pub struct Room {
-    pub per_turf: u8,
-    pub per_link: u8,
-}
-
-// Refusal 7, of a call that is lent so many event bytes, words and floats.
-fn areas_fit(
-    rows: &Rows,
-    marks: &Marks,
-    room: Room,
-    words: usize,
-    floats: usize,
-    events: usize,
-) -> bool
-    requires { ⌜ Small (boardAt rows marks 0) ⌝ }
-    ensures { λ r. let b = boardAt (rows .entry) (marks .entry) 0 in ⌜ r ≡ allOf (leb (roomOf b room) events ∷ leb (wordsRoom b) words ∷ leb (floatsRoom b) floats ∷ []) ⌝ }
-{
-    let needed = room.per_link as usize * rows[NEIGHBOURS].len()
-        + room.per_turf as usize * rows[IDS].len();
-    if events < needed {
-        return false;
-    }
-    if words < words_room(rows, marks) {
-        return false;
-    }
-    floats_room(rows) <= floats
 }
 
 // The number of the first refusal that is met; 0 where none is.
@@ -116,18 +67,8 @@ pub fn refusal(
     if !extra.hot {
         return 6;
     }
-    if !areas_fit(rows, marks, room, words.len(), floats.len(), events.len()) {
+    if !lent_room::areas_fit(rows, marks, room, words.len(), floats.len(), events.len()) {
         return 7;
     }
     0
-}
-
-// Clears the scratch that a call may have used, and leaves the rest.
-pub fn clear_scratch(rows: &Rows, marks: &Marks, words: &mut [u32], floats: &mut [f32])
-    requires { ⌜ Roomy (boardAt rows marks 0) (now words) (now floats) ⌝ }
-    ensures { λ _. ⌜ now (words .exit) ≡ cleared 0 (wordsRoom (boardAt (rows .entry) (marks .entry) 0)) (now (words .entry)) ⌝ }
-    ensures { λ _. ⌜ now (floats .exit) ≡ cleared 0f (floatsRoom (boardAt (rows .entry) (marks .entry) 0)) (now (floats .entry)) ⌝ }
-{
-    basics::clear(words, words_room(rows, marks));
-    basics::clear_floats(floats, floats_room(rows));
 }

@@ -14,9 +14,9 @@ use lib.Dec.{eqb}
 use lib.Ieee.{Float, nan}
 use Rattle.basics.specs.Floats.{0f, 1f, _+f_, _*f_, _-f_}
 use Rattle.basics.proofs.Stores.{Far, paste-far, paste-set, paste-next, paste-all}
-use Rattle.board_rules.specs.Board.{Board, immutableMix}
-use Rattle.mixture_rules.specs.Mixture.{scale, plus, ratio, remove, part, putPart, amounts, change, totalMix, moveAir, clearAir}
-use Rattle.mixture.specs.Moves.{Holds, merged, removed}
+use Rattle.rules_board.specs.Board.{Board, immutableMix}
+use Rattle.rules_mixture.specs.Mixture.{scale, plus, ratio, remove, part, putPart, amounts, change, totalMix, moveAir, clearAir}
+use Rattle.mixture.specs.Moves.{HoldsGas, merged, removed}
 use Rattle.mixture.proofs.Parts.{before, part-length, plus-length, Full, Has, scaled-full, plus-full, change-apart}
 
 -- ---- what stands at a place
@@ -64,7 +64,7 @@ module _ (w : List Float) (g m : ℕ) (new : List Float) where
   unfolding stored
   stored-none = paste-zero w (m * g) new
 
-  module _ (h : Holds w g m) (l : length new ≡ g) where
+  module _ (h : HoldsGas w g m) (l : length new ≡ g) where
     -- the places that are still to come, and those of other mixtures, are as they were
     stored-at : (i n : ℕ) → i < g → getD (stored i) (n * g + i) nan ≡ getD w (n * g + i) nan
     unfolding stored
@@ -88,7 +88,7 @@ module _ (w : List Float) (g giver : ℕ) (goes : Float) where
   abbrev pub staying : ℕ → List Float
   staying i = stored w g giver kept i
 
-  module _ (h : Holds w g giver) where
+  module _ (h : HoldsGas w g giver) where
     kept-length : length kept ≡ g
     kept-length = scale-length (1f -f goes) (part g giver w) ∙ part-length g w giver h
 
@@ -112,7 +112,7 @@ module _ (w : List Float) (g giver : ℕ) (goes : Float) where
     abbrev pub joining : ℕ → List Float
     joining i = stored w g taker got i
 
-    module _ (hg : Holds w g giver) (ht : Holds w g taker) where
+    module _ (hg : HoldsGas w g giver) (ht : HoldsGas w g taker) where
       got-length : length got ≡ g
       got-length = plus-length (part g taker w) (scale goes (part g giver w)) ∙ part-length g w taker ht
 
@@ -169,7 +169,7 @@ module _ (b : Board) (m n : ℕ) (ne : m ≡ n → ⊥) (w : List Float) (hm : H
       go false false = put-put
 
 -- a merge and then a removal are a move
-pub moved : (b : Board) (giver taker : ℕ) → (giver ≡ taker → ⊥) → (w : List Float) (g : ℕ) → b .gases ≡ g → Holds w g giver → Holds w g taker
+pub moved : (b : Board) (giver taker : ℕ) → (giver ≡ taker → ⊥) → (w : List Float) (g : ℕ) → b .gases ≡ g → HoldsGas w g giver → HoldsGas w g taker
     → (a goes : Float) → goes ≡ ratio a (totalMix b w giver) → (v v′ : List Float) → v ≡ merged b giver taker goes w → v′ ≡ removed b giver goes v
     → v′ ≡ moveAir b giver taker a w
 unfolding moveAir remove totalMix
@@ -205,7 +205,7 @@ zeros (x ∷ xs) = ap (λ (r : List Float). 0f ∷ r) (zeros xs)
 
 module _ (b : Board) (m : ℕ) (w : List Float) where
   -- the mixture's part came back as zeros
-  pub cleared : (g k : ℕ) (ys : List Float) → b .gases ≡ g → immutableMix b m ≡ false → Holds w g m → k ≡ g → ys ≡ replicate g 0f ++ drop g (take k (drop (m * g) w))
+  pub cleared : (g k : ℕ) (ys : List Float) → b .gases ≡ g → immutableMix b m ≡ false → HoldsGas w g m → k ≡ g → ys ≡ replicate g 0f ++ drop g (take k (drop (m * g) w))
       → take (m * g) w ++ (ys ++ drop k (drop (m * g) w)) ≡ clearAir b m w
   unfolding clearAir change amounts
   cleared g k ys e i h q y =

@@ -11,20 +11,20 @@ use lib.Dec.{T}
 use lib.ListN.{length, take, drop, length-append, length-drop, length-map, take-append-drop}
 use lib.Seq.{length-take-le, take-append-le, drop-append-le, drop-append-add, drop-drop, take-at, drop-at}
 use lib.Ieee.{Float}
-use Rattle.board_rules.specs.Board.{Board, mixtureCount, immutableMix}
-use Rattle.mixture_rules.specs.Mixture.{part, putPart, scale, plus, remove, amounts, change, moveAir}
-use Rattle.mixture_rules.specs.Worked as worked  -- checked before the laws
-use Rattle.mixture.specs.Moves.{Holds}
+use Rattle.rules_board.specs.Board.{Board, mixtureCount, immutableMix}
+use Rattle.rules_mixture.specs.Mixture.{part, putPart, scale, plus, remove, amounts, change, moveAir}
+use Rattle.rules_mixture.specs.Worked as worked  -- checked before the laws
+use Rattle.mixture.specs.Moves.{HoldsGas}
 
 -- the end of a mixture that comes before another
 pub before : (g : ℕ) {m n : ℕ} → m < n → m * g + g ≤ n * g
 before g {m} {n} h = subst (λ (k : ℕ). k ≤ n * g) (suc-mul m g) (mul-le-mul-right g h)
 
 -- a list of so many mixtures holds each of them
-pub holds-of : (gas : List Float) (count g m : ℕ) → length gas ≡ count * g → m < count → Holds gas g m
+pub holds-of : (gas : List Float) (count g m : ℕ) → length gas ≡ count * g → m < count → HoldsGas gas g m
 holds-of gas count g m e h = subst (λ (k : ℕ). m * g + g ≤ k) (sym e) (before g h)
 
-module _ (g : ℕ) (gas : List Float) (m : ℕ) (new : List Float) (h : Holds gas g m) (l : length new ≡ g) where
+module _ (g : ℕ) (gas : List Float) (m : ℕ) (new : List Float) (h : HoldsGas gas g m) (l : length new ≡ g) where
   head : length (take (m * g) gas) ≡ m * g
   head = length-take-le (m * g) gas (omega arith)
 
@@ -74,7 +74,7 @@ module _ (g : ℕ) (gas : List Float) (m : ℕ) (new : List Float) (h : Holds ga
       go (no i) (yes j) = above n j
       go (no i) (no j) = absurd (ne (omega arith))
 
-pub part-length : (g : ℕ) (gas : List Float) (m : ℕ) → Holds gas g m → length (part g m gas) ≡ g
+pub part-length : (g : ℕ) (gas : List Float) (m : ℕ) → HoldsGas gas g m → length (part g m gas) ≡ g
 part-length g gas m h = length-take-le g (drop (m * g) gas) (subst (λ (x : ℕ). g ≤ x) (sym (length-drop (m * g) gas)) (omega arith))
 
 pub plus-length : (xs ys : List Float) → length (plus xs ys) ≡ length xs
@@ -93,7 +93,7 @@ module _ (b : Board) where
 
   -- the gas has room for a mixture
   abbrev pub Has : List Float → ℕ → Type 0
-  Has gas m = Holds gas (b .gases) m
+  Has gas m = HoldsGas gas (b .gases) m
 
   pub amounts-full : (gas : List Float) (m : ℕ) → Has gas m → Full (amounts b gas m)
   unfolding amounts

@@ -4,12 +4,12 @@ use Prim.Native.Nat.{ℕ, _+_, _*_, _≤_}
 use lib.ListN.{length}
 use lib.Ieee.{Float}
 use Rattle.basics.specs.Floats.{1f, _-f_}
-use Rattle.board_rules.specs.Board.{Board}
-use Rattle.mixture_rules.specs.Mixture.{scale, plus, amounts, change}
+use Rattle.rules_board.specs.Board.{Board}
+use Rattle.rules_mixture.specs.Mixture.{scale, plus, amounts, change}
 
 -- the list holds a mixture's amounts, of g to a mixture
-abbrev pub Holds : List Float → ℕ → ℕ → Type 0
-Holds gas g m = m * g + g ≤ length gas
+abbrev pub HoldsGas : List Float → ℕ → ℕ → Type 0
+HoldsGas gas g m = m * g + g ≤ length gas
 
 module _ (b : Board) where
   -- what goes of the giver is merged into the taker

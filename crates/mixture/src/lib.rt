@@ -5,9 +5,9 @@ ghost use Prim.Native.Nat.{_<_};
 ghost use lib.ListN.{length, getD};
 ghost use Rattle.basics.specs.Loops.{every};
 ghost use Rattle.basics.specs.Floats.{finiteSignClear};
-ghost use Rattle.board_rules.specs.Board.{Board};
-ghost use Rattle.mixture_rules.specs.Mixture.{sum, ratio, total, totalMix, moveAir, clearAir, amountFits};
-ghost use Rattle.mixture.specs.Moves.{Holds, merged, removed};
+ghost use Rattle.rules_board.specs.Board.{Board};
+ghost use Rattle.rules_mixture.specs.Mixture.{sum, ratio, total, totalMix, moveAir, clearAir, amountFits};
+ghost use Rattle.mixture.specs.Moves.{HoldsGas, merged, removed};
 
 // The sum of the amounts from the left.
 fn sum(amounts: &[f32]) -> f32
@@ -23,8 +23,8 @@ fn sum(amounts: &[f32]) -> f32
 }
 
 // The total of a mixture.
-pub fn total_mix(gas: &[f32], gases: usize, mix: usize) -> f32
-    requires { ⌜ Holds (now gas) gases mix ⌝ }
+pub fn total_mix(gases: usize, gas: &[f32], mix: usize) -> f32
+    requires { ⌜ HoldsGas (now gas) gases mix ⌝ }
     ensures { λ r. ⌜ ((b : Board) → b .gases ≡ gases → r ≡ totalMix b (now (gas .entry)) mix) ⌝ }
 {
     let from = mix * gases;
@@ -33,11 +33,11 @@ pub fn total_mix(gas: &[f32], gases: usize, mix: usize) -> f32
 }
 
 // The total of a turf.
-pub fn total(mixtures: &[u32], gas: &[f32], gases: usize, row: usize) -> f32
-    requires { ⌜ (row < length (now mixtures)) × Holds (now gas) gases (getD (now mixtures) row 0) ⌝ }
+pub fn total(mixtures: &[u32], gases: usize, gas: &[f32], row: usize) -> f32
+    requires { ⌜ (row < length (now mixtures)) × HoldsGas (now gas) gases (getD (now mixtures) row 0) ⌝ }
     ensures { λ r. ⌜ ((b : Board) → b .mixtures ≡ now (mixtures .entry) → b .gases ≡ gases → r ≡ total b (now (gas .entry)) row) ⌝ }
 {
-    total_mix(gas, gases, mixtures[row] as usize)
+    total_mix(gases, gas, mixtures[row] as usize)
 }
 
 // The ratio of a removal: at 1 or more it is 1.
@@ -49,9 +49,9 @@ fn ratio(amount: f32, total: f32) -> f32
 }
 
 // Merges what goes of the giver's amounts into the taker's, unless the taker is immutable. The giver has not lost it yet, so no copy is made.
-fn merge(immutable: &[u8], gas: &mut [f32], gases: usize, giver: usize, taker: usize, goes: f32)
+fn merge(immutable: &[u8], gases: usize, gas: &mut [f32], giver: usize, taker: usize, goes: f32)
     requires { ⌜ taker < length (now immutable) ⌝ }
-    requires { ⌜ Holds (now gas) gases giver × Holds (now gas) gases taker ⌝ }
+    requires { ⌜ HoldsGas (now gas) gases giver × HoldsGas (now gas) gases taker ⌝ }
     ensures { λ _. ⌜ ((b : Board) → b .immutable ≡ now (immutable .entry) → b .gases ≡ gases → now (gas .exit) ≡ merged b giver taker goes (now (gas .entry))) ⌝ }
 {
     if immutable[taker] != 0 {
@@ -68,8 +68,8 @@ fn merge(immutable: &[u8], gas: &mut [f32], gases: usize, giver: usize, taker: u
 }
 
 // Leaves what stays of a mixture's amounts, unless it is immutable.
-fn remove(immutable: &[u8], gas: &mut [f32], gases: usize, giver: usize, goes: f32)
-    requires { ⌜ (giver < length (now immutable)) × Holds (now gas) gases giver ⌝ }
+fn remove(immutable: &[u8], gases: usize, gas: &mut [f32], giver: usize, goes: f32)
+    requires { ⌜ (giver < length (now immutable)) × HoldsGas (now gas) gases giver ⌝ }
     ensures { λ _. ⌜ ((b : Board) → b .immutable ≡ now (immutable .entry) → b .gases ≡ gases → now (gas .exit) ≡ removed b giver goes (now (gas .entry))) ⌝ }
 {
     if immutable[giver] != 0 {
@@ -88,26 +88,26 @@ fn remove(immutable: &[u8], gas: &mut [f32], gases: usize, giver: usize, goes: f
 // Removes the amount from one mixture and merges what was removed into another one. The two parts of the list lie apart, so the merge may come first.
 pub fn move_air(
     immutable: &[u8],
-    gas: &mut [f32],
     gases: usize,
+    gas: &mut [f32],
     giver: usize,
     taker: usize,
     amount: f32,
 )
     requires { ⌜ (giver < length (now immutable)) × (taker < length (now immutable)) ⌝ }
-    requires { ⌜ Holds (now gas) gases giver × Holds (now gas) gases taker ⌝ }
+    requires { ⌜ HoldsGas (now gas) gases giver × HoldsGas (now gas) gases taker ⌝ }
     requires { ⌜ (giver ≡ taker → ⊥) ⌝ }
     ensures { λ _. ⌜ ((b : Board) → b .immutable ≡ now (immutable .entry) → b .gases ≡ gases → now (gas .exit) ≡ moveAir b giver taker amount (now (gas .entry))) ⌝ }
 {
-    let total = total_mix(gas, gases, giver);
+    let total = total_mix(gases, gas, giver);
     let goes = ratio(amount, total);
-    merge(immutable, gas, gases, giver, taker, goes);
-    remove(immutable, gas, gases, giver, goes);
+    merge(immutable, gases, gas, giver, taker, goes);
+    remove(immutable, gases, gas, giver, goes);
 }
 
 // Sets every amount of a mixture to 0, unless it is immutable.
-pub fn clear_air(immutable: &[u8], gas: &mut [f32], gases: usize, mix: usize)
-    requires { ⌜ (mix < length (now immutable)) × Holds (now gas) gases mix ⌝ }
+pub fn clear_air(immutable: &[u8], gases: usize, gas: &mut [f32], mix: usize)
+    requires { ⌜ (mix < length (now immutable)) × HoldsGas (now gas) gases mix ⌝ }
     ensures { λ _. ⌜ ((b : Board) → b .immutable ≡ now (immutable .entry) → b .gases ≡ gases → now (gas .exit) ≡ clearAir b mix (now (gas .entry))) ⌝ }
 {
     if immutable[mix] != 0 {

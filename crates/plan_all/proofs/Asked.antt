@@ -6,19 +6,19 @@ use mathlib.Core.List.{List}
 use lib.Dec.{T}
 use lib.ListN.{length}
 use lib.Ieee.{Float}
-use Rattle.board_rules.specs.Board.{Board, turfCount, linkCount}
-use Rattle.board_rules.specs.Refuse.{linksFit}
+use Rattle.rules_board.specs.Board.{Board, turfCount, linkCount}
+use Rattle.rules_board.specs.Refuse.{linksFit}
 use Rattle.turfs.specs.Tables.{Accepted}
-use Rattle.lent_rules.specs.Lent.{wordsRoom, floatsRoom}
+use Rattle.rules_lent.specs.Lent.{wordsRoom, floatsRoom}
 use Rattle.fill_zone.proofs.Boards.{gas-holds}
-use Rattle.equalize_rules.specs.Equalize.{Ask, fillAll}
-use Rattle.equalize.proofs.Zones.{zone-has}
+use Rattle.rules_equalize.specs.Equalize.{Ask, fillAll}
+use Rattle.laws_equalize.proofs.Zones.{zone-has}
 use Rattle.fill_all.specs.Held.{FillsAll}
 use Rattle.fill_all.specs.declared.Filling.{Filling}
 use Rattle.fill_all.proofs.Words.{nodes-few, zones-are}
 use Rattle.reverse_links.proofs.Accepted.{linked}
 use Rattle.plan_zone.specs.Zone.{Gassed}
-use Rattle.plan_all.specs.Zones.{Plannable, Room, Zoned}
+use Rattle.plan_all.specs.Zones.{Plannable, PlanRoom, Zoned}
 use Rattle.plan_all.proofs.Calls.{zoned-of}
 
 module _ (b : Board) (q : Ask) (gas : List Float) (s : Filling) {w₀ w : List ℕ} {f₀ f : List Float} {a₀ a : List ℕ} (d : FillsAll (turfCount b) (linkCount b) (fillAll b gas q) s w₀ w f₀ f a₀ a)
@@ -32,7 +32,7 @@ module _ (b : Board) (q : Ask) (gas : List Float) (s : Filling) {w₀ w : List �
   gassed : Gassed n (b .mixtures) (b .gases) gas
   gassed = record { mixtures-n = h .mixes; within = λ r p. gas-holds h gas refl r }
 
-  room : Room n e w f
+  room : PlanRoom n e w f
   unfolding wordsRoom floatsRoom
   room = record { sizes = d .stored .sizes; words = omega (arith, words-room); floats = omega (arith, floats-room) }
 

@@ -7,39 +7,39 @@ use lib.ListN.{length, drop, length-drop, length-map}
 use lib.Seq.{length-take-le}
 use lib.Ieee.{Float}
 use Rattle.basics.specs.Loops.{run, upFrom}
-use Rattle.basics.specs.Regions.{region}
 use Rattle.basics.proofs.Lists.{upFrom-length}
 use Rattle.basics.proofs.Regions.{cut-length}
-use Rattle.board_rules.specs.Board.{Board, turfCount, linkCount}
+use Rattle.rules_board.specs.Board.{Board, turfCount, linkCount}
 use Rattle.turfs.proofs.Line.{Line, line-short}
 use Rattle.index_set.specs.Line.{Below}
 use Rattle.index_set.proofs.Queue.{all-below}
-use Rattle.flood_fill.specs.Held.{sizes}
-use Rattle.plan_rules.specs.Plan.{planZone}
-use Rattle.finish_rules.specs.Turns.{Zone, zoneAt}
-use Rattle.equalize_rules.specs.Equalize.{Filled, planAll}
-use Rattle.plan_state.specs.Held.{area, view}
-use Rattle.plan_all.specs.Zones.{zoneOf, startOf, Room, Zoned, blank, PlansAll}
+use Rattle.scratch.specs.Layout.{wordSizes}
+use Rattle.scratch.specs.View.{ownerIn, nodesIn}
+use Rattle.rules_plan.specs.Plan.{planZone}
+use Rattle.rules_finish.specs.Turns.{Zone, zoneAt}
+use Rattle.rules_equalize.specs.Equalize.{Filled, planAll}
+use Rattle.plan_state.specs.Held.{area, planView}
+use Rattle.plan_all.specs.Zones.{zoneOf, nodesFrom, PlanRoom, Zoned, blank, PlansAll}
 use Rattle.plan_all.proofs.Plans.{zone-is}
 
 -- ---- before
 
 -- zones whose nodes stand one after the other, each with a node, none twice
-pub zoned-of : (b : Board) {e zones : ℕ} {w : List ℕ} {f : List Float} (zs : List Zone) → Room (turfCount b) e w f → zones ≤ turfCount b
+pub zoned-of : (b : Board) {e zones : ℕ} {w : List ℕ} {f : List Float} (zs : List Zone) → PlanRoom (turfCount b) e w f → zones ≤ turfCount b
     → zs ≡ map (zoneOf (turfCount b) e w f) (upFrom 0 zones)
-    → ((z : ℕ) → z < zones → (startOf (turfCount b) e w z ≤ startOf (turfCount b) e w (z + 1)) × (startOf (turfCount b) e w (z + 1) ≤ turfCount b + e))
+    → ((z : ℕ) → z < zones → (nodesFrom (turfCount b) e w z ≤ nodesFrom (turfCount b) e w (z + 1)) × (nodesFrom (turfCount b) e w (z + 1) ≤ turfCount b + e))
     → ((z : ℕ) → z < length zs → (1 ≤ length (zoneAt zs z .nodes)) × Line b (zoneAt zs z .nodes))
     → Zoned (turfCount b) e zones w f
 zoned-of b {e} {zones} {w} {f} zs r few same rise has =
     let n : ℕ = turfCount b in
     let count : length zs ≡ zones = ap length same ∙ length-map (upFrom 0 zones) (zoneOf n e w f) ∙ upFrom-length 0 zones in
     let node : (z : ℕ) → z < zones → zoneAt zs z ≡ zoneOf n e w f z = λ z l. ap (λ (v : List Zone). zoneAt v z) same ∙ zone-is (zoneOf n e w f) zones z l in
-    let long : length (region (sizes n e) 12 w) ≡ n + e = cut-length (sizes n e) w 12 (omega arith) (omega (arith, r .words)) in
-    let size : (z : ℕ) → z < zones → length (zoneAt zs z .nodes) ≡ startOf n e w (z + 1) - startOf n e w z =
+    let long : length (nodesIn n e w) ≡ n + e = cut-length (wordSizes n e) w 11 (omega arith) (omega (arith, r .words)) in
+    let size : (z : ℕ) → z < zones → length (zoneAt zs z .nodes) ≡ nodesFrom n e w (z + 1) - nodesFrom n e w z =
     λ z l.
     ap (λ (v : Zone). length (v .nodes)) (node z l)
-    ∙ length-take-le (startOf n e w (z + 1) - startOf n e w z) (drop (startOf n e w z) (region (sizes n e) 12 w))
-    (omega (arith, rise z l .0, rise z l .1, long, length-drop (startOf n e w z) (region (sizes n e) 12 w))) in
+    ∙ length-take-le (nodesFrom n e w (z + 1) - nodesFrom n e w z) (drop (nodesFrom n e w z) (nodesIn n e w))
+    (omega (arith, rise z l .0, rise z l .1, long, length-drop (nodesFrom n e w z) (nodesIn n e w))) in
     record {
       room = r;
       few = few;
@@ -57,8 +57,8 @@ zoned-of b {e} {zones} {w} {f} zs r few same rise has =
 
 -- the plan of the whole board, of what filling came to
 pub planned-filled : (b : Board) (s : Filled) {zones : ℕ} {gas : List Float} {w w′ : List ℕ} {f f′ : List Float}
-    → PlansAll (turfCount b) (linkCount b) zones b gas w w′ f f′ → s .owner ≡ region (sizes (turfCount b) (linkCount b)) 0 w
-    → s .zones ≡ map (zoneOf (turfCount b) (linkCount b) w f) (upFrom 0 zones) → view (turfCount b) (linkCount b) (area w′ f′) .plan ≡ planAll b gas s
+    → PlansAll (turfCount b) (linkCount b) zones b gas w w′ f f′ → s .owner ≡ ownerIn (linkCount b) w
+    → s .zones ≡ map (zoneOf (turfCount b) (linkCount b) w f) (upFrom 0 zones) → planView (turfCount b) (linkCount b) (area w′ f′) .plan ≡ planAll b gas s
 unfolding planAll
 planned-filled b s {zones} {gas = gas} {w = w} {f = f} p eo ez =
     p .plan

@@ -10,29 +10,30 @@ use Rattle.basics.specs.Regions.{region, base}
 use Rattle.basics.proofs.Regions.{cut-get, region-part, later-same}
 use Rattle.basics.proofs.Parts.{part-alike, take-in}
 use Rattle.index_set.specs.Line.{Below}
-use Rattle.flood_fill.specs.Held.{sizes, startsAt, nodesAt}
-use Rattle.finish_rules.specs.Turns.{Zone}
+use Rattle.scratch.specs.Layout.{wordSizes, planWords, floatSizes, planFloats, foundAt, startsAt, nodesAt, molesAt}
+use Rattle.scratch.specs.View.{startsIn, nodesIn, molesIn}
+use Rattle.rules_finish.specs.Turns.{Zone}
 use Rattle.reverse_links.specs.Words.{Outside, But}
-use Rattle.plan_state.specs.Held.{Area, area, wsizes, fsizes, view, Fit, Frame, top, Nodes, nodesOf}
+use Rattle.plan_state.specs.Held.{Area, area, planView, PlanFits, Frame, Nodes, nodesOf}
 use Rattle.plan_state.proofs.Nodes.{rest-is}
-use Rattle.fill_all.specs.Held.{floatSizes, molesAt, zoneIn}
-use Rattle.plan_all.specs.Zones.{zoneOf, startOf, Room, Ready, Zoned}
+use Rattle.fill_all.specs.Held.{zoneIn}
+use Rattle.plan_all.specs.Zones.{zoneOf, nodesFrom, PlanRoom, ZoneReady, Zoned}
 
 -- ---- the same zones
 
 pub record Alike (n e : ℕ) (w w′ : List ℕ) (f f′ : List Float) : Type 0 where
-  pub starts : region (sizes n e) 11 w′ ≡ region (sizes n e) 11 w
-  pub nodes : region (sizes n e) 12 w′ ≡ region (sizes n e) 12 w
-  pub moles : region (floatSizes n e) 4 f′ ≡ region (floatSizes n e) 4 f
+  pub starts : startsIn n e w′ ≡ startsIn n e w
+  pub nodes : nodesIn n e w′ ≡ nodesIn n e w
+  pub moles : molesIn n e f′ ≡ molesIn n e f
 
 module _ {n e : ℕ} {w w′ : List ℕ} {f f′ : List Float} (h : Alike n e w w′ f f′) where
   pub zone-alike : zoneOf n e w′ f′ ≡ zoneOf n e w f
   zone-alike = λ i. zoneIn (h .starts i) (h .nodes i) (h .moles i)
 
-  pub ready-alike : (z : ℕ) → Ready n e z w f → Ready n e z w′ f′
+  pub ready-alike : (z : ℕ) → ZoneReady n e z w f → ZoneReady n e z w′ f′
   ready-alike z r =
-      let s : startOf n e w′ z ≡ startOf n e w z = ap (λ (l : List ℕ). getD l z 0) (h .starts) in
-      let t : startOf n e w′ (z + 1) ≡ startOf n e w (z + 1) = ap (λ (l : List ℕ). getD l (z + 1) 0) (h .starts) in
+      let s : nodesFrom n e w′ z ≡ nodesFrom n e w z = ap (λ (l : List ℕ). getD l z 0) (h .starts) in
+      let t : nodesFrom n e w′ (z + 1) ≡ nodesFrom n e w (z + 1) = ap (λ (l : List ℕ). getD l (z + 1) 0) (h .starts) in
       record {
         some = omega (arith, r .some, s, t);
         few = omega (arith, r .few, s, t);
@@ -58,11 +59,11 @@ region-later own all k w w′ h l e =
 
 -- planning leaves the zones
 pub frame-alike : {n e : ℕ} {a a′ : Area} → Frame n e a a′ → Alike n e (a .words) (a′ .words) (a .floats) (a′ .floats)
-unfolding view
+unfolding planView
 frame-alike {n} {e} {a} {a′} fr = record {
-  starts = region-later (wsizes n e) (sizes n e) 11 (a .words) (a′ .words) (omega arith) (omega arith) (fr .restW);
-  nodes = region-later (wsizes n e) (sizes n e) 12 (a .words) (a′ .words) (omega arith) (omega arith) (fr .restW);
-  moles = region-later (fsizes n e) (floatSizes n e) 4 (a .floats) (a′ .floats) (omega arith) (omega arith) (fr .restF);
+  starts = region-later (planWords n e) (wordSizes n e) 10 (a .words) (a′ .words) (omega arith) (omega arith) (fr .restW);
+  nodes = region-later (planWords n e) (wordSizes n e) 11 (a .words) (a′ .words) (omega arith) (omega arith) (fr .restW);
+  moles = region-later (planFloats n e) (floatSizes n e) 3 (a .floats) (a′ .floats) (omega arith) (omega arith) (fr .restF);
 }
 
 -- ---- a part beside the changed one
@@ -73,66 +74,66 @@ part-same {w = w} {w′ = w′} b at size h out =
     part-alike at size w′ w (b .len) (λ i k. b .same (at + i) (out (at + i) (omega arith) (omega (arith, k))))
 
 -- an array of the whole call, likewise
-pub region-same : {lo hi : ℕ} {w w′ : List ℕ} (n e k : ℕ) → But lo hi w w′ → k < length (sizes n e)
-    → base (sizes n e) k + getD (sizes n e) k 0 ≤ length w
-    → ((i : ℕ) → base (sizes n e) k ≤ i → i < base (sizes n e) k + getD (sizes n e) k 0 → Outside lo hi i)
-    → region (sizes n e) k w′ ≡ region (sizes n e) k w
+pub region-same : {lo hi : ℕ} {w w′ : List ℕ} (n e k : ℕ) → But lo hi w w′ → k < length (wordSizes n e)
+    → base (wordSizes n e) k + getD (wordSizes n e) k 0 ≤ length w
+    → ((i : ℕ) → base (wordSizes n e) k ≤ i → i < base (wordSizes n e) k + getD (wordSizes n e) k 0 → Outside lo hi i)
+    → region (wordSizes n e) k w′ ≡ region (wordSizes n e) k w
 region-same {w = w} {w′ = w′} n e k b h l out =
-    region-part (sizes n e) w′ k h ∙ part-same b (base (sizes n e) k) (getD (sizes n e) k 0) l out ∙ sym (region-part (sizes n e) w k h)
+    region-part (wordSizes n e) w′ k h ∙ part-same b (base (wordSizes n e) k) (getD (wordSizes n e) k 0) l out ∙ sym (region-part (wordSizes n e) w k h)
 
 -- ---- what the code reads of zone z
 
 module _ (n e z : ℕ) (w : List ℕ) (f : List Float) (h : z < n) where
-  pub start-at : getD w (startsAt n e + z) 0 ≡ startOf n e w z
-  start-at = cut-get (sizes n e) w 0 11 z (startsAt n e + z) (omega arith) (omega arith) (omega arith)
+  pub start-at : getD w (startsAt n e + z) 0 ≡ nodesFrom n e w z
+  start-at = cut-get (wordSizes n e) w 0 10 z (startsAt n e + z) (omega arith) (omega arith) (omega arith)
 
-  pub next-at : getD w (startsAt n e + z + 1) 0 ≡ startOf n e w (z + 1)
-  next-at = cut-get (sizes n e) w 0 11 (z + 1) (startsAt n e + z + 1) (omega arith) (omega arith) (omega arith)
+  pub next-at : getD w (startsAt n e + z + 1) 0 ≡ nodesFrom n e w (z + 1)
+  next-at = cut-get (wordSizes n e) w 0 10 (z + 1) (startsAt n e + z + 1) (omega arith) (omega arith) (omega arith)
 
   pub moles-at : getD f (molesAt n e + z) nan ≡ zoneOf n e w f z .moles
-  moles-at = cut-get (floatSizes n e) f nan 4 z (molesAt n e + z) (omega arith) h (omega arith)
+  moles-at = cut-get (floatSizes n e) f nan 3 z (molesAt n e + z) (omega arith) h (omega arith)
 
   -- the nodes as planning takes them
-  pub nodes-are : startOf n e w z ≤ startOf n e w (z + 1) → startOf n e w (z + 1) ≤ n + e
-      → nodesOf n e (view n e (area w f)) (nodesAt n e + startOf n e w z) (startOf n e w (z + 1) - startOf n e w z) ≡ zoneOf n e w f z .nodes
+  pub nodes-are : nodesFrom n e w z ≤ nodesFrom n e w (z + 1) → nodesFrom n e w (z + 1) ≤ n + e
+      → nodesOf n e (planView n e (area w f)) (nodesAt n e + nodesFrom n e w z) (nodesFrom n e w (z + 1) - nodesFrom n e w z) ≡ zoneOf n e w f z .nodes
   nodes-are up low =
-      nodes-in (startOf n e w z) (startOf n e w (z + 1) - startOf n e w z) (omega (arith, up, low))
+      nodes-in (nodesFrom n e w z) (nodesFrom n e w (z + 1) - nodesFrom n e w z) (omega (arith, up, low))
     where
       nodes-in : (s c : ℕ) → s + c ≤ n + e
-          → take c (drop (nodesAt n e + s - top n e) (view n e (area w f) .restW)) ≡ take c (drop s (region (sizes n e) 12 w))
+          → take c (drop (nodesAt n e + s - foundAt n e) (planView n e (area w f) .restW)) ≡ take c (drop s (nodesIn n e w))
       nodes-in s c l =
-          let k : top n e + (nodesAt n e + s - top n e) ≡ nodesAt n e + s = omega arith in
-          let at : base (sizes n e) 12 ≡ nodesAt n e = omega arith in
-          ap (λ (r : List ℕ). take c (drop (nodesAt n e + s - top n e) r)) (rest-is n e (area w f))
-          ∙ ap (take c) (drop-drop (nodesAt n e + s - top n e) (top n e) w)
+          let k : foundAt n e + (nodesAt n e + s - foundAt n e) ≡ nodesAt n e + s = omega arith in
+          let at : base (wordSizes n e) 11 ≡ nodesAt n e = omega arith in
+          ap (λ (r : List ℕ). take c (drop (nodesAt n e + s - foundAt n e) r)) (rest-is n e (area w f))
+          ∙ ap (take c) (drop-drop (nodesAt n e + s - foundAt n e) (foundAt n e) w)
           ∙ ap (λ (m : ℕ). take c (drop m w)) k
           ∙ ap (take c) (sym (drop-drop s (nodesAt n e) w))
           ∙ sym (take-in (drop (nodesAt n e) w) s c (n + e) l)
           ∙ ap (λ (m : ℕ). take c (drop s (take (n + e) (drop m w)))) (sym at)
-          ∙ ap (λ (x : List ℕ). take c (drop s x)) (sym (region-part (sizes n e) w 12 (omega arith)))
+          ∙ ap (λ (x : List ℕ). take c (drop s x)) (sym (region-part (wordSizes n e) w 11 (omega arith)))
 
-pub room-fit : {n e : ℕ} {w : List ℕ} {f : List Float} → Room n e w f → Fit n e (area w f)
+pub room-fit : {n e : ℕ} {w : List ℕ} {f : List Float} → PlanRoom n e w f → PlanFits n e (area w f)
 room-fit r = record { words = omega (arith, r .words); floats = omega (arith, r .floats); turfs = r .sizes .turfs; links = r .sizes .links }
 
 -- zone z as the code hands it on, with `s` where the starts are and `q` where the nodes are
-module _ {n e z s : ℕ} {w : List ℕ} {f : List Float} (es : s ≡ startsAt n e) (h : z < n) (t : Ready n e z w f) where
-  from-is : getD w (s + z) 0 ≡ startOf n e w z
+module _ {n e z s : ℕ} {w : List ℕ} {f : List Float} (es : s ≡ startsAt n e) (h : z < n) (t : ZoneReady n e z w f) where
+  from-is : getD w (s + z) 0 ≡ nodesFrom n e w z
   from-is = ap (λ (m : ℕ). getD w (m + z) 0) es ∙ start-at n e z w f h
 
-  to-is : getD w (s + z + 1) 0 ≡ startOf n e w (z + 1)
+  to-is : getD w (s + z + 1) 0 ≡ nodesFrom n e w (z + 1)
   to-is = ap (λ (m : ℕ). getD w (m + z + 1) 0) es ∙ next-at n e z w f h
 
   pub from-to : (getD w (s + z) 0 < getD w (s + z + 1) 0) × ((getD w (s + z + 1) 0 ≤ n + e) × (getD w (s + z + 1) 0 ≤ getD w (s + z) 0 + n))
   from-to = (omega (arith, t .some, from-is, to-is), (omega (arith, t .within, to-is), omega (arith, t .few, from-is, to-is)))
 
   module _ {q : ℕ} (eq : q ≡ nodesAt n e) where
-    pub nodes-handed : nodesOf n e (view n e (area w f)) (q + getD w (s + z) 0) (getD w (s + z + 1) 0 - getD w (s + z) 0) ≡ zoneOf n e w f z .nodes
+    pub nodes-handed : nodesOf n e (planView n e (area w f)) (q + getD w (s + z) 0) (getD w (s + z + 1) 0 - getD w (s + z) 0) ≡ zoneOf n e w f z .nodes
     nodes-handed =
-        ap (λ (m : ℕ). nodesOf n e (view n e (area w f)) (m + getD w (s + z) 0) (getD w (s + z + 1) 0 - getD w (s + z) 0)) eq
-        ∙ ap₂ (λ (x y : ℕ). nodesOf n e (view n e (area w f)) (nodesAt n e + x) (y - x)) from-is to-is
+        ap (λ (m : ℕ). nodesOf n e (planView n e (area w f)) (m + getD w (s + z) 0) (getD w (s + z + 1) 0 - getD w (s + z) 0)) eq
+        ∙ ap₂ (λ (x y : ℕ). nodesOf n e (planView n e (area w f)) (nodesAt n e + x) (y - x)) from-is to-is
         ∙ nodes-are n e z w f h (omega (arith, t .some)) (t .within)
 
-    pub handed : Room n e w f → Nodes n e (q + getD w (s + z) 0) (getD w (s + z + 1) 0 - getD w (s + z) 0) (area w f)
+    pub handed : PlanRoom n e w f → Nodes n e (q + getD w (s + z) 0) (getD w (s + z + 1) 0 - getD w (s + z) 0) (area w f)
     handed r = record {
       some = omega (arith, from-to .0);
       few = omega (arith, from-to .0, from-to .1 .1);

@@ -1,13 +1,13 @@
 // Planning of all zones, as filling left them: the reverses once, then zone after zone.
 ghost use Prim.Native.Nat.{_<_};
 ghost use Rattle.basics.specs.Loops.{upFrom};
-ghost use Rattle.board_rules.specs.Board.{turfCount, linkCount};
+ghost use Rattle.rules_board.specs.Board.{turfCount, linkCount};
 ghost use Rattle.turfs.specs.Tables.{boardAt};
-ghost use Rattle.plan_rules.specs.Plan.{planZone};
+ghost use Rattle.rules_plan.specs.Plan.{planZone};
 ghost use Rattle.reverse_links.specs.Reverse.{Reverses};
-ghost use Rattle.plan_state.specs.Held.{areaAt, view, Fit};
+ghost use Rattle.plan_state.specs.Held.{areaAt, planView, PlanFits};
 ghost use Rattle.plan_zone.specs.Zone.{Plans};
-ghost use Rattle.plan_all.specs.Zones.{zoneHeld, Plannable, Room, Ready, Zoned, Blanks, planZones, PlansAll};
+ghost use Rattle.plan_all.specs.Zones.{zoneHeld, Plannable, PlanRoom, ZoneReady, Zoned, Blanks, planZones, PlansAll};
 use plan_state::ZoneAt;
 use turfs::IDS;
 use turfs::Marks;
@@ -17,13 +17,15 @@ use turfs::STARTS;
 
 // Nothing is planned yet: no weights, no planning state.
 fn clear_plan(n: usize, e: usize, words: &mut [u32], floats: &mut [f32])
-    requires { ⌜ Fit n e (areaAt words floats) ⌝ }
+    requires { ⌜ PlanFits n e (areaAt words floats) ⌝ }
     ensures { λ _. ⌜ Blanks n e (areaAt (words .entry) (floats .entry)) (areaAt (words .exit) (floats .exit)) ⌝ }
 {
-    let pairs = e + e;
-    basics::clear_part(words, pairs, n + n);
-    basics::clear_part(words, pairs + n + n, n);
-    basics::clear_floats(floats, e + n + n);
+    let pairs = scratch::direction_at(0, e);
+    let fast = scratch::fast_at(0, n, e);
+    let queue = scratch::queue_at(n, e);
+    basics::clear_part(words, pairs, fast - pairs);
+    basics::clear_part(words, fast, queue - fast);
+    basics::clear_floats(floats, scratch::lifted_at(n, e));
 }
 
 // The zone z.
@@ -37,23 +39,23 @@ fn plan_zone_at(
     floats: &mut [f32],
 )
     requires { ⌜ Plannable (boardAt rows marks gases) (now gas) ⌝ }
-    requires { let b = boardAt rows marks gases in ⌜ Room (turfCount b) (linkCount b) (now words) (now floats) ⌝ }
+    requires { let b = boardAt rows marks gases in ⌜ PlanRoom (turfCount b) (linkCount b) (now words) (now floats) ⌝ }
     requires { ⌜ z < turfCount (boardAt rows marks gases) ⌝ }
-    requires { let b = boardAt rows marks gases in ⌜ Reverses b (turfCount b) (view (turfCount b) (linkCount b) (areaAt words floats) .reverse) ⌝ }
-    requires { let b = boardAt rows marks gases in ⌜ Ready (turfCount b) (linkCount b) z (now words) (now floats) ⌝ }
+    requires { let b = boardAt rows marks gases in ⌜ Reverses b (turfCount b) (planView (turfCount b) (linkCount b) (areaAt words floats) .reverse) ⌝ }
+    requires { let b = boardAt rows marks gases in ⌜ ZoneReady (turfCount b) (linkCount b) z (now words) (now floats) ⌝ }
     ensures { λ _. let b = boardAt (rows .entry) (marks .entry) gases in let a = areaAt (words .entry) (floats .entry) in ⌜ Plans (turfCount b) (linkCount b) (λ o p. planZone b o z (now (gas .entry)) (zoneHeld b a z .nodes) (zoneHeld b a z .moles) p) a (areaAt (words .exit) (floats .exit)) ⌝ }
 {
     let ids = rows[IDS];
     let neighbours = rows[NEIGHBOURS];
     let n = ids.len();
     let e = neighbours.len();
-    let at = flood_fill::starts_at(n, e) + z;
+    let at = scratch::starts_at(n, e) + z;
     let from = words[at] as usize;
     let to = words[at + 1] as usize;
-    let total = plan_state::moles_at(z, n, e);
+    let total = scratch::moles_at(n, e) + z;
     let zone = ZoneAt {
         z: z as u32,
-        first: flood_fill::nodes_at(n, e) + from,
+        first: scratch::nodes_at(n, e) + from,
         count: to - from,
         moles: floats[total],
         n,
@@ -74,7 +76,7 @@ fn plan_zones(
 )
     requires { ⌜ Plannable (boardAt rows marks gases) (now gas) ⌝ }
     requires { let b = boardAt rows marks gases in ⌜ Zoned (turfCount b) (linkCount b) zones (now words) (now floats) ⌝ }
-    requires { let b = boardAt rows marks gases in ⌜ Reverses b (turfCount b) (view (turfCount b) (linkCount b) (areaAt words floats) .reverse) ⌝ }
+    requires { let b = boardAt rows marks gases in ⌜ Reverses b (turfCount b) (planView (turfCount b) (linkCount b) (areaAt words floats) .reverse) ⌝ }
     ensures { λ _. let b = boardAt (rows .entry) (marks .entry) gases in let a = areaAt (words .entry) (floats .entry) in ⌜ Plans (turfCount b) (linkCount b) (planZones b (now (gas .entry)) (zoneHeld b a) (upFrom 0 zones)) a (areaAt (words .exit) (floats .exit)) ⌝ }
 {
     let mut z = 0;

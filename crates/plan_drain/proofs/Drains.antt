@@ -14,10 +14,12 @@ use Rattle.basics.specs.declared.Spot.{Spot}
 use Rattle.basics.specs.declared.Spot.the-variants.{At}
 use Rattle.basics.specs.Lists.{All, Found}
 use Rattle.basics.proofs.Loops.{run-back, run-back-end}
+use Rattle.scratch.specs.Layout.{planWords, reverseAt, viaAt, queueAt, amountAt}
+use Rattle.scratch.specs.View.{ownerIn, reverseIn}
 use Rattle.basics.proofs.Regions.{cut-length}
-use Rattle.plan_rules.specs.Plan.{Plan, load}
-use Rattle.plan_rules.specs.declared.MonstermosInfo.{MonstermosInfo}
-use Rattle.plan_state.specs.Held.{Area, area, wsizes, View, view, Fit, Does}
+use Rattle.rules_plan.specs.Plan.{Plan, load}
+use Rattle.rules_plan.specs.declared.MonstermosInfo.{MonstermosInfo}
+use Rattle.plan_state.specs.Held.{Area, area, PlanView, planView, PlanFits, PlanDoes}
 use Rattle.plan_state.specs.Steps.{backLink, adjustAt}
 use Rattle.plan_state.proofs.Stores.{does-as, does-then, does-none, amount-at, amount-set, via-at, queue-at, reverse-at}
 use Rattle.plan_state.proofs.Weights.{adjusted, back-found}
@@ -26,24 +28,29 @@ use Rattle.plan_trade.specs.Steps.{handOn, drainVia}
 
 -- ---- one turf
 
-module _ (n e r d : ℕ) (there back : Spot) (w : List ℕ) (f f′ : List Float) (h : Fit n e (area w f)) (hr : r < n) (hd : d < n)
-    (ht : Found (λ k. k < e) there) (hb : Found (λ k. k < e) back) (s : f′ ≡ adjustAt there back (getD f (e + r + r + 1) nan) f) where
-  pub handed : Does n e (λ o p. handOn there back r d p) (area w f)
-      (area w (set (set f′ (e + d + d + 1) (getD f′ (e + d + d + 1) nan +f getD f (e + r + r + 1) nan)) (e + r + r + 1) 0f))
+module _ (n e r d : ℕ) (there back : Spot) (w : List ℕ) (f f′ : List Float) (h : PlanFits n e (area w f)) (hr : r < n) (hd : d < n)
+    (ht : Found (λ k. k < e) there) (hb : Found (λ k. k < e) back) where
+  handed-at : f′ ≡ adjustAt there back (getD f (amountAt r e) nan) f
+      → PlanDoes n e (λ o p. handOn there back r d p) (area w f) (area w (set (set f′ (amountAt d e) (getD f′ (amountAt d e) nan +f getD f (amountAt r e) nan)) (amountAt r e) 0f))
   unfolding handOn
-  handed =
-      let x : Float = getD f (e + r + r + 1) nan in
-      let y : Float = getD f′ (e + d + d + 1) nan +f x in
+  handed-at s =
+      let x : Float = getD f (amountAt r e) nan in
+      let y : Float = getD f′ (amountAt d e) nan +f x in
       let d₁ = adjusted n e there back x w f f′ ht hb s h in
       let d₂ = amount-set n e d w f′ hd (d₁ .fit) y in
-      let d₃ = amount-set n e r w (set f′ (e + d + d + 1) y) hr (d₂ .fit) 0f in
-      let ex : x ≡ getD (view n e (area w f) .plan .amount) r nan = amount-at n e r w f hr in
-      let ey : getD f′ (e + d + d + 1) nan ≡ getD (view n e (area w f) .plan .amount) d nan = amount-at n e d w f′ hd ∙ ap (λ (v : View). getD (v .plan .amount) d nan) (d₁ .same) in
+      let d₃ = amount-set n e r w (set f′ (amountAt d e) y) hr (d₂ .fit) 0f in
+      let ex : x ≡ getD (planView n e (area w f) .plan .amount) r nan = amount-at n e r w f hr in
+      let ey : getD f′ (amountAt d e) nan ≡ getD (planView n e (area w f) .plan .amount) d nan = amount-at n e d w f′ hd ∙ ap (λ (v : PlanView). getD (v .plan .amount) d nan) (d₁ .same) in
       does-as (does-then _ (does-then _ d₁ d₂) d₃) (rw (ey, ex))
 
-module _ (n e z r : ℕ) (i : MonstermosInfo) (w : List ℕ) (f : List Float) (ei : i ≡ load (view n e (area w f) .plan) r) (h : Fit n e (area w f)) where
+  -- the same, with the places as the code has them
+  pub handed : (i j : ℕ) → i ≡ amountAt r e → j ≡ amountAt d e → f′ ≡ adjustAt there back (getD f i nan) f
+      → PlanDoes n e (λ o p. handOn there back r d p) (area w f) (area w (set (set f′ j (getD f′ j nan +f getD f i nan)) i 0f))
+  handed i j ei ej s = rw (ei, ej) (handed-at (rw ei at s))
+
+module _ (n e z r : ℕ) (i : MonstermosInfo) (w : List ℕ) (f : List Float) (ei : i ≡ load (planView n e (area w f) .plan) r) (h : PlanFits n e (area w f)) where
   abbrev Drains : Area → Type 0
-  Drains B = Does n e (λ o p. drainVia (view n e (area w f) .reverse) (view n e (area w f) .via) z o r p) (area w f) B
+  Drains B = PlanDoes n e (λ o p. drainVia (planView n e (area w f) .reverse) (planView n e (area w f) .via) z o r p) (area w f) B
 
   pub drained-none : ne (i .amount) 0f ≡ false → Drains (area w f)
   unfolding drainVia
@@ -53,37 +60,37 @@ module _ (n e z r : ℕ) (i : MonstermosInfo) (w : List ℕ) (f : List Float) (e
   unfolding drainVia
   drained-still t d = does-none _ h (simp (rw ei at t, eq-eqb _ _ (rw ei at d)))
 
-  drained-by : {B : Area} (k : ℕ) (there : Spot) → k ≡ getD (view n e (area w f) .via) r 0 → there ≡ backLink (view n e (area w f) .reverse) (view n e (area w f) .owner) z k
-      → ne (i .amount) 0f ≡ true → (i .direction ≡ 0 → ⊥) → Does n e (λ o p. handOn there (At k) r (i .direction - 1) p) (area w f) B → Drains B
+  drained-by : {B : Area} (k : ℕ) (there : Spot) → k ≡ getD (planView n e (area w f) .via) r 0 → there ≡ backLink (planView n e (area w f) .reverse) (planView n e (area w f) .owner) z k
+      → ne (i .amount) 0f ≡ true → (i .direction ≡ 0 → ⊥) → PlanDoes n e (λ o p. handOn there (At k) r (i .direction - 1) p) (area w f) B → Drains B
   unfolding drainVia
   drained-by k there ek et t d q = does-as q (rw (et, ek, ei) (simp (rw ei at t, ne-eqb _ _ (rw ei at d))))
 
   -- what the way back reads
-  module _ (hr : r < n) (hw : Within n e (view n e (area w f)) r) (some : i .direction ≡ 0 → ⊥) where
-    within : (i .direction - 1 < n) × ((getD (view n e (area w f) .via) r 0 < e) × (getD (view n e (area w f) .reverse) (getD (view n e (area w f) .via) r 0) 0 ≤ e))
+  module _ (hr : r < n) (hw : Within n e (planView n e (area w f)) r) (some : i .direction ≡ 0 → ⊥) (at : ℕ) (ea : at ≡ viaAt r e) where
+    within : (i .direction - 1 < n) × ((getD (planView n e (area w f) .via) r 0 < e) × (getD (planView n e (area w f) .reverse) (getD (planView n e (area w f) .via) r 0) 0 ≤ e))
     within = hw .at (i .direction - 1) (ap (λ (j : MonstermosInfo). j .direction) (sym ei) ∙ omega (arith, some))
 
     pub back-row : i .direction - 1 < n
     back-row = within .0
 
-    via-is : getD w (e + e + r + r + 1) 0 ≡ getD (view n e (area w f) .via) r 0
-    via-is = via-at n e r w f hr
+    via-is : getD w at 0 ≡ getD (planView n e (area w f) .via) r 0
+    via-is = ap (λ (m : ℕ). getD w m 0) ea ∙ via-at n e r w f hr
 
-    pub back-k : getD w (e + e + r + r + 1) 0 < e
+    pub back-k : getD w at 0 < e
     back-k = rw via-is (within .1 .0)
 
-    pub back-p : getD w (e + getD w (e + e + r + r + 1) 0) 0 ≤ e
-    back-p = rw (via-is, reverse-at n e (getD (view n e (area w f) .via) r 0) w f (within .1 .0)) (within .1 .1)
+    pub back-p : getD w (reverseAt (getD w at 0) e) 0 ≤ e
+    back-p = rw (via-is, reverse-at n e (getD (planView n e (area w f) .via) r 0) w f (within .1 .0)) (within .1 .1)
 
-    module _ (there : Spot) (et : there ≡ backLink (take e (drop e w)) (take e w) z (getD w (e + e + r + r + 1) 0)) where
+    module _ (there : Spot) (et : there ≡ backLink (reverseIn e w) (ownerIn e w) z (getD w at 0)) where
       pub back-there : Found (λ j. j < e) there
       back-there =
-          back-found (take e (drop e w)) (take e w) z (getD w (e + e + r + r + 1) 0) e there et
-          (rw (getD-take e (drop e w) (getD w (e + e + r + r + 1) 0) 0 back-k, getD-drop e w (getD w (e + e + r + r + 1) 0) 0) back-p)
+          back-found (reverseIn e w) (ownerIn e w) z (getD w at 0) e there et
+          (rw (getD-take e (drop e w) (getD w at 0) 0 back-k, getD-drop e w (getD w at 0) 0) back-p)
 
-      pub drained : {B : Area} → ne (i .amount) 0f ≡ true → Does n e (λ o p. handOn there (At (getD w (e + e + r + r + 1) 0)) r (i .direction - 1) p) (area w f) B → Drains B
-      unfolding view
-      drained t q = drained-by (getD w (e + e + r + r + 1) 0) there via-is et t some q
+      pub drained : {B : Area} → ne (i .amount) 0f ≡ true → PlanDoes n e (λ o p. handOn there (At (getD w at 0)) r (i .direction - 1) p) (area w f) B → Drains B
+      unfolding planView
+      drained t q = drained-by (getD w at 0) there via-is et t some q
 
 -- ---- the loop
 
@@ -95,33 +102,33 @@ take-few zero xs = omega arith
 take-few (suc k) [] = omega arith
 take-few (suc k) (x ∷ xs) = omega (arith, take-few k xs)
 
-pub queue-length : (n e : ℕ) (a : Area) → Fit n e a → length (view n e a .queue) ≡ n
-unfolding view
-queue-length n e a h = cut-length (wsizes n e) (a .words) 4 (omega arith) (omega (arith, h .words))
+pub queue-length : (n e : ℕ) (a : Area) → PlanFits n e a → length (planView n e a .queue) ≡ n
+unfolding planView
+queue-length n e a h = cut-length (planWords n e) (a .words) 4 (omega arith) (omega (arith, h .words))
 
 -- in the loop the words stay, and so does all that is read of them
-module _ (n e from j : ℕ) (w : List ℕ) (f₀ : List Float) (at : ℕ) (ea : at ≡ e + e + n + n + n) (l : j < n) where
-  row-is : getD w (at + j) 0 ≡ getD (view n e (area w f₀) .queue) j 0
+module _ (n e from j : ℕ) (w : List ℕ) (f₀ : List Float) (at : ℕ) (ea : at ≡ queueAt n e) (l : j < n) where
+  row-is : getD w (at + j) 0 ≡ getD (planView n e (area w f₀) .queue) j 0
   row-is = ap (λ (m : ℕ). getD w (m + j) 0) ea ∙ queue-at n e j w f₀ l
 
-  pub row-within : (f : List Float) → (getD (view n e (area w f₀) .queue) j 0 < n) × Within n e (view n e (area w f₀)) (getD (view n e (area w f₀) .queue) j 0)
-      → (getD w (at + j) 0 < n) × Within n e (view n e (area w f)) (getD w (at + j) 0)
-  unfolding view
+  pub row-within : (f : List Float) → (getD (planView n e (area w f₀) .queue) j 0 < n) × Within n e (planView n e (area w f₀)) (getD (planView n e (area w f₀) .queue) j 0)
+      → (getD w (at + j) 0 < n) × Within n e (planView n e (area w f)) (getD w (at + j) 0)
+  unfolding planView
   row-within f g = rw row-is (g .0, record { at = g .1 .at })
 
-  pub row-next : (G : ℕ → Plan → Plan) (i : ℕ) → j + 1 ≡ i → from ≤ j → length (view n e (area w f₀) .queue) ≡ n → (p : Plan)
-      → run G (reverse (take (i - from) (drop from (view n e (area w f₀) .queue)))) p
-      ≡ run G (reverse (take (j - from) (drop from (view n e (area w f₀) .queue)))) (G (getD w (at + j) 0) p)
+  pub row-next : (G : ℕ → Plan → Plan) (i : ℕ) → j + 1 ≡ i → from ≤ j → length (planView n e (area w f₀) .queue) ≡ n → (p : Plan)
+      → run G (reverse (take (i - from) (drop from (planView n e (area w f₀) .queue)))) p
+      ≡ run G (reverse (take (j - from) (drop from (planView n e (area w f₀) .queue)))) (G (getD w (at + j) 0) p)
   row-next G i e′ h long p =
-      let q : List ℕ = view n e (area w f₀) .queue in
+      let q : List ℕ = planView n e (area w f₀) .queue in
       let k : from + (j - from) ≡ j = omega (arith, h) in
       let row : getD (drop from q) (j - from) 0 ≡ getD w (at + j) 0 = getD-drop from q (j - from) 0 ∙ ap (λ (m : ℕ). getD q m 0) k ∙ sym row-is in
       run-back G (drop from q) (i - from) (j - from) p (omega (arith, e′, h)) (omega (arith, l, long, h, length-drop from q))
       ∙ ap (λ (x : ℕ). run G (reverse (take (j - from) (drop from q))) (G x p)) row
 
-pub drained-same : (n e z r : ℕ) (w : List ℕ) (f f₀ : List Float) {A B : Area} → Does n e (λ o p. drainVia (view n e (area w f) .reverse) (view n e (area w f) .via) z o r p) A B
-    → Does n e (λ o p. drainVia (view n e (area w f₀) .reverse) (view n e (area w f₀) .via) z o r p) A B
-unfolding view
+pub drained-same : (n e z r : ℕ) (w : List ℕ) (f f₀ : List Float) {A B : Area} → PlanDoes n e (λ o p. drainVia (planView n e (area w f) .reverse) (planView n e (area w f) .via) z o r p) A B
+    → PlanDoes n e (λ o p. drainVia (planView n e (area w f₀) .reverse) (planView n e (area w f₀) .via) z o r p) A B
+unfolding planView
 drained-same n e z r w f f₀ d = d
 
 -- ---- all rows of the queue, from its end

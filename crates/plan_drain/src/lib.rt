@@ -4,7 +4,7 @@ ghost use Prim.Native.Nat.{_-_, _≤_, _<_};
 ghost use lib.ListN.{take, drop};
 ghost use Rattle.basics.specs.Lists.{Found};
 ghost use Rattle.basics.specs.Loops.{run};
-ghost use Rattle.plan_state.specs.Held.{areaAt, view, Fit, Does};
+ghost use Rattle.plan_state.specs.Held.{areaAt, planView, PlanFits, PlanDoes};
 ghost use Rattle.plan_trade.specs.Search.{Within, AllWithin};
 ghost use Rattle.plan_trade.specs.Steps.{handOn, drainVia};
 use basics::Spot;
@@ -23,26 +23,28 @@ fn hand_on(
     words: &[u32],
     floats: &mut [f32],
 )
-    requires { ⌜ Fit n e (areaAt words floats) ⌝ }
+    requires { ⌜ PlanFits n e (areaAt words floats) ⌝ }
     requires { ⌜ r < n ⌝ }
     requires { ⌜ d < n ⌝ }
     requires { ⌜ Found (λ k. k < e) there ⌝ }
     requires { ⌜ Found (λ k. k < e) back ⌝ }
-    ensures { λ _. ⌜ Does n e (λ o p. handOn there back r d p) (areaAt (words .entry) (floats .entry)) (areaAt (words .exit) (floats .exit)) ⌝ }
+    ensures { λ _. ⌜ PlanDoes n e (λ o p. handOn there back r d p) (areaAt (words .entry) (floats .entry)) (areaAt (words .exit) (floats .exit)) ⌝ }
 {
-    let x = floats[e + r + r + 1];
+    let from = scratch::amount_at(r, e);
+    let to = scratch::amount_at(d, e);
+    let x = floats[from];
     adjust_eq_movement(there, back, x, floats);
-    floats[e + d + d + 1] = floats[e + d + d + 1] + x;
-    floats[e + r + r + 1] = 0.0;
+    floats[to] = floats[to] + x;
+    floats[from] = 0.0;
 }
 
 // The turf r of the queue, on the way back.
 fn drain_turf(r: u32, z: u32, n: usize, e: usize, words: &[u32], floats: &mut [f32])
-    requires { ⌜ Fit n e (areaAt words floats) ⌝ }
+    requires { ⌜ PlanFits n e (areaAt words floats) ⌝ }
     requires { ⌜ z < 4096 ⌝ }
     requires { ⌜ r < n ⌝ }
-    requires { ⌜ Within n e (view n e (areaAt words floats)) r ⌝ }
-    ensures { λ _. let v = view n e (areaAt (words .entry) (floats .entry)) in ⌜ Does n e (λ o p. drainVia (v .reverse) (v .via) z o r p) (areaAt (words .entry) (floats .entry)) (areaAt (words .exit) (floats .exit)) ⌝ }
+    requires { ⌜ Within n e (planView n e (areaAt words floats)) r ⌝ }
+    ensures { λ _. let v = planView n e (areaAt (words .entry) (floats .entry)) in ⌜ PlanDoes n e (λ o p. drainVia (v .reverse) (v .via) z o r p) (areaAt (words .entry) (floats .entry)) (areaAt (words .exit) (floats .exit)) ⌝ }
 {
     let row = r as usize;
     let i = load(row, n, e, words, floats);
@@ -50,7 +52,7 @@ fn drain_turf(r: u32, z: u32, n: usize, e: usize, words: &[u32], floats: &mut [f
     let direction = i.direction as usize;
     if amount != 0.0 {
         if direction != 0 {
-            let k = words[e + e + row + row + 1] as usize;
+            let k = words[scratch::via_at(row, e)] as usize;
             let there = back_link(k, z, e, words);
             hand_on(there, Spot::At(k), row, direction - 1, n, e, words, floats);
         }
@@ -59,13 +61,13 @@ fn drain_turf(r: u32, z: u32, n: usize, e: usize, words: &[u32], floats: &mut [f
 
 // The rows of the queue from the place `to` back to the place `from`.
 pub fn drain(from: usize, to: usize, z: u32, n: usize, e: usize, words: &[u32], floats: &mut [f32])
-    requires { ⌜ Fit n e (areaAt words floats) ⌝ }
+    requires { ⌜ PlanFits n e (areaAt words floats) ⌝ }
     requires { ⌜ z < 4096 ⌝ }
     requires { ⌜ to ≤ n ⌝ }
-    requires { ⌜ AllWithin n e (view n e (areaAt words floats)) to ⌝ }
-    ensures { λ _. let v = view n e (areaAt (words .entry) (floats .entry)) in ⌜ Does n e (λ o p. run (drainVia (v .reverse) (v .via) z o) (reverse (take (to - from) (drop from (v .queue)))) p) (areaAt (words .entry) (floats .entry)) (areaAt (words .exit) (floats .exit)) ⌝ }
+    requires { ⌜ AllWithin n e (planView n e (areaAt words floats)) to ⌝ }
+    ensures { λ _. let v = planView n e (areaAt (words .entry) (floats .entry)) in ⌜ PlanDoes n e (λ o p. run (drainVia (v .reverse) (v .via) z o) (reverse (take (to - from) (drop from (v .queue)))) p) (areaAt (words .entry) (floats .entry)) (areaAt (words .exit) (floats .exit)) ⌝ }
 {
-    let queue = index_set::queue_at(n, e);
+    let queue = scratch::queue_at(n, e);
     let mut i = to;
     while i > from {
         i -= 1;

@@ -6,7 +6,7 @@ use mathlib.Core.List.{List, [], _∷_}
 use mathlib.Core.Bool.{Bool, true, false, cond}
 use lib.Dec.{eqb}
 use lib.IntN.{pos}
-use lib.ListN.{length, getD, set, take, drop}
+use lib.ListN.{length, getD, set}
 use lib.Seq.{set-getD}
 use lib.Ieee.{Float, lt, ofInt, binary32}
 use Rattle.basics.specs.Floats.{0f, _+f_, _-f_, _/f_}
@@ -15,13 +15,13 @@ use Rattle.basics.specs.declared.Spot.{Spot}
 use Rattle.basics.specs.declared.Spot.the-variants.{At}
 use Rattle.basics.specs.Lists.{All}
 use Rattle.basics.proofs.Loops.{run-both, run-keep}
-use Rattle.basics.proofs.Regions.{region-part}
-use Rattle.board_rules.specs.Board.{Board, end, linksOf}
-use Rattle.plan_rules.specs.Edges.{edgesOf, edge, adjust}
-use Rattle.plan_rules.specs.Plan.{Plan, load, store, reweigh, withDelta, countOf, eligible, fastMove, fastTurf}
-use Rattle.plan_rules.specs.declared.MonstermosInfo.{MonstermosInfo}
+use Rattle.scratch.specs.View.{ownerIn, fastIn}
+use Rattle.rules_board.specs.Board.{Board, end, linksOf}
+use Rattle.rules_plan.specs.Edges.{edgesOf, edge, adjust}
+use Rattle.rules_plan.specs.Plan.{Plan, load, store, reweigh, withDelta, countOf, eligible, fastMove, fastTurf}
+use Rattle.rules_plan.specs.declared.MonstermosInfo.{MonstermosInfo}
 use Rattle.reverse_links.specs.Reverse.{InRow, Linked, Reverses}
-use Rattle.plan_state.specs.Held.{Area, area, wsizes, View, view, Does}
+use Rattle.plan_state.specs.Held.{Area, area, PlanView, planView, PlanDoes}
 use Rattle.plan_state.specs.Steps.{backLink, adjustAt}
 use Rattle.plan_state.proofs.Stores.{setDelta, does-as, does-then, does-frame, store-delta}
 use Rattle.plan_state.proofs.Links.{edge-there, edge-back, reverse-within}
@@ -110,51 +110,49 @@ abbrev shared : Board → List ℕ → ℕ → ℕ → Plan → MonstermosInfo �
 shared b o z r s i ks =
     run (λ k t. fastMove b o z r (i .delta /f countOf ks) (end b k) t) ks (store s r (marked i))
 
-fast-is : (n e : ℕ) (w : List ℕ) (f : List Float) → take n (drop (e + e + n + n) w) ≡ view n e (area w f) .plan .fast
-unfolding view
-fast-is n e w f =
-    let q : e + e + n + n ≡ e + (e + (n + n + 0)) = omega arith in
-    ap (λ (m : ℕ). take n (drop m w)) q ∙ sym (region-part (wsizes n e) w 3 (omega arith))
+fast-is : (n e : ℕ) (w : List ℕ) (f : List Float) → fastIn n e w ≡ planView n e (area w f) .plan .fast
+unfolding planView
+fast-is n e w f = refl
 
-owner-is : (n e : ℕ) (w : List ℕ) (f : List Float) → take e w ≡ view n e (area w f) .owner
-unfolding view
+owner-is : (n e : ℕ) (w : List ℕ) (f : List Float) → ownerIn e w ≡ planView n e (area w f) .owner
+unfolding planView
 owner-is n e w f = refl
 
-module _ (b : Board) (n e z r : ℕ) (i : MonstermosInfo) (A : Area) (ei : i ≡ load (view n e A .plan) r) where
+module _ (b : Board) (n e z r : ℕ) (i : MonstermosInfo) (A : Area) (ei : i ≡ load (planView n e A .plan) r) where
   whole : (s : Plan) (o : List ℕ) → i ≡ load s r → shared b o z r s i (cond (lt 0f (i .delta)) (eligible b o z (store s r (marked i)) r) []) ≡ fastTurf b o z r s
   unfolding fastTurf
   whole s o q = ap (λ (j : MonstermosInfo). shared b o z r s j (cond (lt 0f (j .delta)) (eligible b o z (store s r (marked j)) r) [])) q
 
-  pub fast-none : {B : Area} → lt 0f (i .delta) ≡ false → Does n e (λ o p. store p r (marked i)) A B → Does n e (λ o p. fastTurf b o z r p) A B
+  pub fast-none : {B : Area} → lt 0f (i .delta) ≡ false → PlanDoes n e (λ o p. store p r (marked i)) A B → PlanDoes n e (λ o p. fastTurf b o z r p) A B
   unfolding run
   fast-none t d =
       does-as d
-      (sym (ap (λ (c : Bool). shared b (view n e A .owner) z r (view n e A .plan) i (cond c (eligible b (view n e A .owner) z (store (view n e A .plan) r (marked i)) r) [])) t)
-      ∙ whole (view n e A .plan) (view n e A .owner) ei)
+      (sym (ap (λ (c : Bool). shared b (planView n e A .owner) z r (planView n e A .plan) i (cond c (eligible b (planView n e A .owner) z (store (planView n e A .plan) r (marked i)) r) [])) t)
+      ∙ whole (planView n e A .plan) (planView n e A .owner) ei)
 
-  module _ (t : Linked n (b .starts) (b .neighbours)) (h : r < n) (v : Reverses b n (view n e A .reverse)) (w : List ℕ) (f : List Float)
-      (d : Does n e (λ o p. store p r (marked i)) A (area w f)) where
-    rev-is : view n e (area w f) .reverse ≡ view n e A .reverse
+  module _ (t : Linked n (b .starts) (b .neighbours)) (h : r < n) (v : Reverses b n (planView n e A .reverse)) (w : List ℕ) (f : List Float)
+      (d : PlanDoes n e (λ o p. store p r (marked i)) A (area w f)) where
+    rev-is : planView n e (area w f) .reverse ≡ planView n e A .reverse
     rev-is = does-frame d .reverse
 
     -- the reverses of its links are among the links
-    pub fast-within : length (b .neighbours) ≡ e → (k : ℕ) → getD (b .starts) r 0 ≤ k → k < getD (b .starts) (r + 1) 0 → getD (view n e (area w f) .reverse) k 0 ≤ e
-    fast-within len k l m = rw rev-is (omega (arith, len, reverse-within b n t (view n e A .owner) z (view n e A .reverse) v r k h (record { from = l; to = m })))
+    pub fast-within : length (b .neighbours) ≡ e → (k : ℕ) → getD (b .starts) r 0 ≤ k → k < getD (b .starts) (r + 1) 0 → getD (planView n e (area w f) .reverse) k 0 ≤ e
+    fast-within len k l m = rw rev-is (omega (arith, len, reverse-within b n t (planView n e A .owner) z (planView n e A .reverse) v r k h (record { from = l; to = m })))
 
     pub fast-some : (count : ℕ) {C : Area} → lt 0f (i .delta) ≡ true
-        → count ≡ run (λ k c. tallyStep (take e w) (take n (drop (e + e + n + n) w)) z k (end b k) c) (upFrom (getD (b .starts) r 0) (getD (b .starts) (r + 1) 0 - getD (b .starts) r 0)) 0
-        → Does n e (λ o p. run (λ k s. fastVia (view n e (area w f) .reverse) z r (i .delta /f ofInt binary32 (pos count)) o k (end b k) s)
+        → count ≡ run (λ k c. tallyStep (ownerIn e w) (fastIn n e w) z k (end b k) c) (upFrom (getD (b .starts) r 0) (getD (b .starts) (r + 1) 0 - getD (b .starts) r 0)) 0
+        → PlanDoes n e (λ o p. run (λ k s. fastVia (planView n e (area w f) .reverse) z r (i .delta /f ofInt binary32 (pos count)) o k (end b k) s)
         (upFrom (getD (b .starts) r 0) (getD (b .starts) (r + 1) 0 - getD (b .starts) r 0)) p) (area w f) C
-        → Does n e (λ o p. fastTurf b o z r p) A C
+        → PlanDoes n e (λ o p. fastTurf b o z r p) A C
     unfolding linksOf
     fast-some count c ec d′ =
-        let o : List ℕ = view n e A .owner in
-        let s : Plan = view n e A .plan in
+        let o : List ℕ = planView n e A .owner in
+        let s : Plan = planView n e A .plan in
         let p : Plan = store s r (marked i) in
         let ks : List ℕ = eligible b o z p r in
-        let rev : List ℕ = view n e A .reverse in
-        let eo : take e w ≡ o = owner-is n e w f ∙ ap (λ (u : View). u .owner) (d .same) in
-        let ef : take n (drop (e + e + n + n) w) ≡ p .fast = fast-is n e w f ∙ ap (λ (u : View). u .plan .fast) (d .same) in
+        let rev : List ℕ = planView n e A .reverse in
+        let eo : ownerIn e w ≡ o = owner-is n e w f ∙ ap (λ (u : PlanView). u .owner) (d .same) in
+        let ef : fastIn n e w ≡ p .fast = fast-is n e w f ∙ ap (λ (u : PlanView). u .plan .fast) (d .same) in
         let c₁ : count ≡ length ks =
         ec ∙ ap₂ (λ (x y : List ℕ). run (λ k c. tallyStep x y z k (end b k) c) (linksOf b r) 0) eo ef
         ∙ counted b o z r p in
@@ -166,5 +164,5 @@ module _ (b : Board) (n e z r : ℕ) (i : MonstermosInfo) (A : Area) (ei : i ≡
         ∙ whole s o ei)
 
 -- a marked state that was stored
-pub stored : {n e r : ℕ} {m : MonstermosInfo} {A B : Area} (i : MonstermosInfo) → m ≡ marked i → Does n e (λ o p. store p r m) A B → Does n e (λ o p. store p r (marked i)) A B
-stored {n} {e} {r} {A = A} {B = B} i q d = subst (λ (j : MonstermosInfo). Does n e (λ o p. store p r j) A B) q d
+pub stored : {n e r : ℕ} {m : MonstermosInfo} {A B : Area} (i : MonstermosInfo) → m ≡ marked i → PlanDoes n e (λ o p. store p r m) A B → PlanDoes n e (λ o p. store p r (marked i)) A B
+stored {n} {e} {r} {A = A} {B = B} i q d = subst (λ (j : MonstermosInfo). PlanDoes n e (λ o p. store p r j) A B) q d

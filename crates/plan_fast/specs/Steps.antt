@@ -9,7 +9,7 @@ use Rattle.basics.specs.Loops.{if_then_else_}
 use Rattle.basics.specs.Floats.{_+f_, _-f_}
 use Rattle.basics.specs.declared.Spot.{Spot}
 use Rattle.basics.specs.declared.Spot.the-variants.{At}
-use Rattle.plan_rules.specs.Plan.{Plan}
+use Rattle.rules_plan.specs.Plan.{Plan}
 use Rattle.plan_state.specs.Steps.{backLink, adjustAt}
 use Rattle.plan_fast.specs.declared.Share.{Share}
 

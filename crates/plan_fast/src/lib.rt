@@ -1,12 +1,14 @@
 // `monstermos_fast_process`: the fast pass over the nodes of a zone.
 ghost use mathlib.Core.Path.{_≡_};
 ghost use Prim.Native.Nat.{ℕ, _+_, _-_, _≤_, _<_};
-ghost use lib.ListN.{length, getD, take, drop};
+ghost use lib.ListN.{length, getD};
 ghost use Rattle.basics.specs.Lists.{Found};
 ghost use Rattle.basics.specs.Loops.{run, upFrom};
+ghost use Rattle.scratch.specs.Layout.{Sizes, queueAt};
+ghost use Rattle.scratch.specs.View.{ownerIn, fastIn};
 ghost use Rattle.turfs.specs.Tables.{boardAt};
-ghost use Rattle.plan_rules.specs.Plan.{fastTurf};
-ghost use Rattle.plan_state.specs.Held.{areaAt, view, Fit, Ends, Planning, Does, Nodes, zoneNodes};
+ghost use Rattle.rules_plan.specs.Plan.{fastTurf};
+ghost use Rattle.plan_state.specs.Held.{areaAt, planView, PlanFits, Ends, Planning, PlanDoes, Nodes, nodesInHand};
 ghost use Rattle.plan_fast.specs.Steps.{tallyStep, moveAt, shareOver};
 use basics::Spot;
 use plan_state::ZoneAt;
@@ -22,17 +24,18 @@ use turfs::STARTS;
 
 // Counts the link k, which ends at the row a, if it is the zone's and that turf has no fast mark.
 fn tally(k: usize, a: u32, z: u32, n: usize, e: usize, c: u16, words: &[u32]) -> u16
-    requires { ⌜ e + e + n + n + n ≤ length (now words) ⌝ }
+    requires { ⌜ queueAt n e ≤ length (now words) ⌝ }
     requires { ⌜ k < e ⌝ }
     requires { ⌜ a < n ⌝ }
     requires { ⌜ z < 4096 ⌝ }
     requires { ⌜ c < 24576 ⌝ }
-    ensures { λ r. ⌜ r ≡ tallyStep (take e (now (words .entry))) (take n (drop (e + e + n + n) (now (words .entry)))) z k a c ⌝ }
+    requires { ⌜ Sizes n e ⌝ }
+    ensures { λ r. ⌜ r ≡ tallyStep (ownerIn e (now (words .entry))) (fastIn n e (now (words .entry))) z k a c ⌝ }
 {
     if words[k] != z + 1 {
         return c;
     }
-    if words[e + e + n + n + a as usize] != 0 {
+    if words[scratch::fast_at(a as usize, n, e)] != 0 {
         return c;
     }
     c + 1
@@ -48,14 +51,14 @@ fn count_eligible(
     neighbours: &[u32],
     words: &[u32],
 ) -> u16
-    requires { ⌜ e + e + n + n + n ≤ length (now words) ⌝ }
+    requires { ⌜ queueAt n e ≤ length (now words) ⌝ }
     requires { ⌜ z < 4096 ⌝ }
-    requires { ⌜ e ≤ 24576 ⌝ }
+    requires { ⌜ Sizes n e ⌝ }
     requires { ⌜ from ≤ to ⌝ }
     requires { ⌜ to ≤ e ⌝ }
     requires { ⌜ length (now neighbours) ≡ e ⌝ }
     requires { ⌜ ((k : ℕ) → k < e → getD (now neighbours) k 0 < n) ⌝ }
-    ensures { λ r. let w = now (words .entry) in ⌜ r ≡ run (λ k c. tallyStep (take e w) (take n (drop (e + e + n + n) w)) z k (getD (now (neighbours .entry)) k 0) c) (upFrom from (to - from)) 0 ⌝ }
+    ensures { λ r. let w = now (words .entry) in ⌜ r ≡ run (λ k c. tallyStep (ownerIn e w) (fastIn n e w) z k (getD (now (neighbours .entry)) k 0) c) (upFrom from (to - from)) 0 ⌝ }
 {
     let mut c = 0;
     let mut k = from;
@@ -77,30 +80,30 @@ pub struct Share {
 
 // The share moves to the neighbour a, over the edges at hand.
 fn fast_move(share: Share, there: Spot, back: Spot, a: usize, words: &[u32], floats: &mut [f32])
-    requires { ⌜ Fit (share .n) (share .e) (areaAt words floats) ⌝ }
+    requires { ⌜ PlanFits (share .n) (share .e) (areaAt words floats) ⌝ }
     requires { ⌜ share .r < share .n ⌝ }
     requires { ⌜ a < share .n ⌝ }
     requires { ⌜ Found (λ k. k < share .e) there ⌝ }
     requires { ⌜ Found (λ k. k < share .e) back ⌝ }
-    ensures { λ _. ⌜ Does (share .n) (share .e) (λ o p. moveAt there back (share .r) (share .x) a p) (areaAt (words .entry) (floats .entry)) (areaAt (words .exit) (floats .exit)) ⌝ }
+    ensures { λ _. ⌜ PlanDoes (share .n) (share .e) (λ o p. moveAt there back (share .r) (share .x) a p) (areaAt (words .entry) (floats .entry)) (areaAt (words .exit) (floats .exit)) ⌝ }
 {
     let r = share.r;
     let x = share.x;
     let e = share.e;
     adjust_eq_movement(there, back, x, floats);
-    let from = e + r + r;
-    let to = e + a + a;
+    let from = scratch::delta_at(r, e);
+    let to = scratch::delta_at(a, e);
     floats[from] = floats[from] - x;
     floats[to] = floats[to] + x;
 }
 
 // The link k of the giver: its share moves if the turf at the end has no fast mark.
 fn fast_link(share: Share, k: usize, neighbours: &[u32], words: &[u32], floats: &mut [f32])
-    requires { ⌜ Fit (share .n) (share .e) (areaAt words floats) ⌝ }
+    requires { ⌜ PlanFits (share .n) (share .e) (areaAt words floats) ⌝ }
     requires { ⌜ share .z < 4096 ⌝ }
     requires { ⌜ Ends (share .n) (share .e) (share .r) (k + 1) (now neighbours) ⌝ }
-    requires { ⌜ getD (view (share .n) (share .e) (areaAt words floats) .reverse) k 0 ≤ share .e ⌝ }
-    ensures { λ _. let a = areaAt (words .entry) (floats .entry) in let rev = view (share .n) (share .e) a .reverse in ⌜ Does (share .n) (share .e) (λ o p. shareOver share (now (neighbours .entry)) rev o k p) a (areaAt (words .exit) (floats .exit)) ⌝ }
+    requires { ⌜ getD (planView (share .n) (share .e) (areaAt words floats) .reverse) k 0 ≤ share .e ⌝ }
+    ensures { λ _. let a = areaAt (words .entry) (floats .entry) in let rev = planView (share .n) (share .e) a .reverse in ⌜ PlanDoes (share .n) (share .e) (λ o p. shareOver share (now (neighbours .entry)) rev o k p) a (areaAt (words .exit) (floats .exit)) ⌝ }
 {
     let z = share.z;
     let n = share.n;
@@ -109,7 +112,7 @@ fn fast_link(share: Share, k: usize, neighbours: &[u32], words: &[u32], floats: 
         return;
     }
     let a = neighbours[k] as usize;
-    if words[e + e + n + n + a] != 0 {
+    if words[scratch::fast_at(a, n, e)] != 0 {
         return;
     }
     let back = back_link(k, z, e, words);
@@ -125,12 +128,12 @@ fn fast_row(
     words: &[u32],
     floats: &mut [f32],
 )
-    requires { ⌜ Fit (share .n) (share .e) (areaAt words floats) ⌝ }
+    requires { ⌜ PlanFits (share .n) (share .e) (areaAt words floats) ⌝ }
     requires { ⌜ share .z < 4096 ⌝ }
     requires { ⌜ Ends (share .n) (share .e) (share .r) to (now neighbours) ⌝ }
     requires { ⌜ from ≤ to ⌝ }
-    requires { ⌜ ((k : ℕ) → from ≤ k → k < to → getD (view (share .n) (share .e) (areaAt words floats) .reverse) k 0 ≤ share .e) ⌝ }
-    ensures { λ _. let a = areaAt (words .entry) (floats .entry) in let rev = view (share .n) (share .e) a .reverse in ⌜ Does (share .n) (share .e) (λ o p. run (shareOver share (now (neighbours .entry)) rev o) (upFrom from (to - from)) p) a (areaAt (words .exit) (floats .exit)) ⌝ }
+    requires { ⌜ ((k : ℕ) → from ≤ k → k < to → getD (planView (share .n) (share .e) (areaAt words floats) .reverse) k 0 ≤ share .e) ⌝ }
+    ensures { λ _. let a = areaAt (words .entry) (floats .entry) in let rev = planView (share .n) (share .e) a .reverse in ⌜ PlanDoes (share .n) (share .e) (λ o p. run (shareOver share (now (neighbours .entry)) rev o) (upFrom from (to - from)) p) a (areaAt (words .exit) (floats .exit)) ⌝ }
 {
     let mut k = from;
     while k < to {
@@ -151,7 +154,7 @@ fn fast_turf(
 )
     requires { ⌜ Planning (boardAt rows marks gases) (zone .n) (zone .e) (zone .z) (areaAt words floats) ⌝ }
     requires { ⌜ r < zone .n ⌝ }
-    ensures { λ _. let b = boardAt (rows .entry) (marks .entry) gases in ⌜ Does (zone .n) (zone .e) (λ o p. fastTurf b o (zone .z) r p) (areaAt (words .entry) (floats .entry)) (areaAt (words .exit) (floats .exit)) ⌝ }
+    ensures { λ _. let b = boardAt (rows .entry) (marks .entry) gases in ⌜ PlanDoes (zone .n) (zone .e) (λ o p. fastTurf b o (zone .z) r p) (areaAt (words .entry) (floats .entry)) (areaAt (words .exit) (floats .exit)) ⌝ }
 {
     let z = zone.z;
     let n = zone.n;
@@ -188,7 +191,7 @@ pub fn fast_all(
 )
     requires { ⌜ Planning (boardAt rows marks gases) (zone .n) (zone .e) (zone .z) (areaAt words floats) ⌝ }
     requires { ⌜ Nodes (zone .n) (zone .e) (zone .first) (zone .count) (areaAt words floats) ⌝ }
-    ensures { λ _. let b = boardAt (rows .entry) (marks .entry) gases in let a = areaAt (words .entry) (floats .entry) in ⌜ Does (zone .n) (zone .e) (λ o p. run (fastTurf b o (zone .z)) (zoneNodes zone a) p) a (areaAt (words .exit) (floats .exit)) ⌝ }
+    ensures { λ _. let b = boardAt (rows .entry) (marks .entry) gases in let a = areaAt (words .entry) (floats .entry) in ⌜ PlanDoes (zone .n) (zone .e) (λ o p. run (fastTurf b o (zone .z)) (nodesInHand zone a) p) a (areaAt (words .exit) (floats .exit)) ⌝ }
 {
     let first = zone.first;
     let count = zone.count;

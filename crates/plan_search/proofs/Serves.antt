@@ -17,19 +17,20 @@ use Rattle.basics.specs.declared.Spot.the-variants.{At}
 use Rattle.basics.specs.Lists.{All}
 use Rattle.basics.proofs.Loops.{run-both}
 use Rattle.basics.proofs.Regions.{cut-set, cut-length}
-use Rattle.board_rules.specs.Board.{Board, turfCount}
-use Rattle.plan_rules.specs.Edges.{edge, adjust}
-use Rattle.plan_rules.specs.Plan.{Plan, Seek, load, store, reweigh, withAmount, drainTo, drain, serve, seekNext}
-use Rattle.plan_rules.specs.declared.MonstermosInfo.{MonstermosInfo}
-use Rattle.plan_rules.specs.declared.Side.{Side}
+use Rattle.scratch.specs.Layout.{planWords, planFloats, queueAt, placesAt}
+use Rattle.rules_board.specs.Board.{Board, turfCount}
+use Rattle.rules_plan.specs.Edges.{edge, adjust}
+use Rattle.rules_plan.specs.Plan.{Plan, Seek, load, store, reweigh, withAmount, drainTo, drain, serve, seekNext}
+use Rattle.rules_plan.specs.declared.MonstermosInfo.{MonstermosInfo}
+use Rattle.rules_plan.specs.declared.Side.{Side}
 use Rattle.index_set.specs.Line.{Below, Apart, Line}
 use Rattle.index_set.proofs.Queue.{take-more, line-more}
 use Rattle.reverse_links.specs.Reverse.{Linked, Reverses}
-use Rattle.plan_state.specs.Held.{Area, area, wsizes, fsizes, View, viewIn, view, Fit, Does, Serves}
+use Rattle.plan_state.specs.Held.{Area, area, PlanView, planViewIn, planView, PlanFits, PlanDoes, Serves}
 use Rattle.plan_state.specs.Steps.{backLink, adjustAt}
 use Rattle.plan_state.proofs.Stores.{does-frame, store-amount, setAmount, direction-length, amount-length}
 use Rattle.plan_state.proofs.Links.{link-below, edge-there, edge-back, reverse-within}
-use Rattle.plan_trade.specs.Search.{Seeking, seekOf, Leaves, Searched, Leads, Met, AllMet, Idle, Within}
+use Rattle.plan_trade.specs.Search.{Seeking, seekOf, Leaves, Searched, LeadsOver, MetOver, AllMet, Idle, Within}
 use Rattle.plan_trade.specs.Steps.{handOn, drainVia}
 use Rattle.plan_drain.proofs.Drains.{all-of-rows, all-back}
 use Rattle.plan_trade.proofs.Seeks.{none-left}
@@ -51,9 +52,9 @@ hand-is b o z r d s =
 module _ (b : Board) (n : ℕ) (t : Linked n (b .starts) (b .neighbours)) (rev via o dirs : List ℕ) (v : Reverses b n rev) (z : ℕ) where
   -- a turf that points at d was met over a link of the zone from there
   abbrev Way : ℕ → Type 0
-  Way r = (d : ℕ) → getD dirs r 0 ≡ d + 1 → Leads n (b .starts) (b .neighbours) d (getD via r 0) r × (getD o (getD via r 0) 0 ≡ z + 1)
+  Way r = (d : ℕ) → getD dirs r 0 ≡ d + 1 → LeadsOver n (b .starts) (b .neighbours) d (getD via r 0) r × (getD o (getD via r 0) 0 ≡ z + 1)
 
-  via-edges : (r d : ℕ) (s : Plan) → Leads n (b .starts) (b .neighbours) d (getD via r 0) r → getD o (getD via r 0) 0 ≡ z + 1
+  via-edges : (r d : ℕ) (s : Plan) → LeadsOver n (b .starts) (b .neighbours) d (getD via r 0) r → getD o (getD via r 0) 0 ≡ z + 1
       → handOn (backLink rev o z (getD via r 0)) (At (getD via r 0)) r d s ≡ drainTo b o z r d s
   via-edges r d s l w =
       let k : ℕ = getD via r 0 in
@@ -90,26 +91,26 @@ module _ (b : Board) (n : ℕ) (t : Linked n (b .starts) (b .neighbours)) (rev v
 
 -- ---- the turf in hand stands at the queue's start
 
-pub points-nowhere : (n e g : ℕ) (x y : Float) (m : ℕ) {A B : Area} → Fit n e A → g < n → Does n e (λ o p. store p g (record { delta = x; amount = y; direction = 0; fast = m })) A B
-    → getD (view n e B .plan .direction) g 0 ≡ 0
+pub points-nowhere : (n e g : ℕ) (x y : Float) (m : ℕ) {A B : Area} → PlanFits n e A → g < n → PlanDoes n e (λ o p. store p g (record { delta = x; amount = y; direction = 0; fast = m })) A B
+    → getD (planView n e B .plan .direction) g 0 ≡ 0
 points-nowhere n e g x y m {A} h l d =
-    ap (λ (v : View). getD (v .plan .direction) g 0) (d .same) ∙ getD-set-same (view n e A .plan .direction) g 0 0 (omega (arith, direction-length n e A h))
+    ap (λ (v : PlanView). getD (v .plan .direction) g 0) (d .same) ∙ getD-set-same (planView n e A .plan .direction) g 0 0 (omega (arith, direction-length n e A h))
 
-pub moves-nothing : (n e g : ℕ) (x : Float) (m : ℕ) {A B : Area} → Fit n e A → g < n → Does n e (λ o p. store p g (record { delta = x; amount = 0f; direction = 0; fast = m })) A B
-    → ne (getD (view n e B .plan .amount) g nan) 0f ≡ false
+pub moves-nothing : (n e g : ℕ) (x : Float) (m : ℕ) {A B : Area} → PlanFits n e A → g < n → PlanDoes n e (λ o p. store p g (record { delta = x; amount = 0f; direction = 0; fast = m })) A B
+    → ne (getD (planView n e B .plan .amount) g nan) 0f ≡ false
 moves-nothing n e g x m {A} h l d =
-    ap (λ (v : View). ne (getD (v .plan .amount) g nan) 0f) (d .same)
-    ∙ ap (λ (y : Float). ne y 0f) (getD-set-same (view n e A .plan .amount) g 0f nan (omega (arith, l, amount-length n e A h)))
+    ap (λ (v : PlanView). ne (getD (v .plan .amount) g nan) 0f) (d .same)
+    ∙ ap (λ (y : Float). ne y 0f) (getD-set-same (planView n e A .plan .amount) g 0f nan (omega (arith, l, amount-length n e A h)))
     ∙ none-left
 
 -- a queue with no rows, whatever the words hold
-seeking-none : (n e : ℕ) (a : Area) → Fit n e a → Seeking n e 0 a
-unfolding view Below Apart
+seeking-none : (n e : ℕ) (a : Area) → PlanFits n e a → Seeking n e 0 a
+unfolding planView Below Apart
 seeking-none n e a h = record {
   fit = h;
   line = record {
-    queue-n = cut-length (wsizes n e) (a .words) 4 (omega arith) (omega (arith, h .words));
-    places-n = cut-length (wsizes n e) (a .words) 5 (omega arith) (omega (arith, h .words));
+    queue-n = cut-length (planWords n e) (a .words) 4 (omega arith) (omega (arith, h .words));
+    places-n = cut-length (planWords n e) (a .words) 5 (omega arith) (omega (arith, h .words));
     few = omega arith;
     rows = tt;
     apart = tt;
@@ -117,145 +118,145 @@ seeking-none n e a h = record {
   };
 }
 
-module _ (n e g : ℕ) (w w′ : List ℕ) (f : List Float) (h : Fit n e (area w f)) (hg : g < n) (queue places : ℕ) (eq : queue ≡ e + e + n + n + n) (ep : places ≡ e + e + n + n + n + n)
+module _ (n e g : ℕ) (w w′ : List ℕ) (f : List Float) (h : PlanFits n e (area w f)) (hg : g < n) (queue places : ℕ) (eq : queue ≡ queueAt n e) (ep : places ≡ placesAt n e)
     (s : w′ ≡ set (set w (queue + 0) g) (places + g) 0) where
-  empty : member g (take 0 (view n e (area w f) .queue)) ≡ false
+  empty : member g (take 0 (planView n e (area w f) .queue)) ≡ false
   unfolding member
   empty = refl
 
-  begun-view : view n e (area w′ f) ≡ record {
-    owner = view n e (area w f) .owner;
-    reverse = view n e (area w f) .reverse;
-    plan = view n e (area w f) .plan;
-    via = view n e (area w f) .via;
-    queue = set (view n e (area w f) .queue) 0 g;
-    places = set (view n e (area w f) .places) g 0;
-    list = view n e (area w f) .list;
-    restW = view n e (area w f) .restW;
-    restF = view n e (area w f) .restF;
+  begun-view : planView n e (area w′ f) ≡ record {
+    owner = planView n e (area w f) .owner;
+    reverse = planView n e (area w f) .reverse;
+    plan = planView n e (area w f) .plan;
+    via = planView n e (area w f) .via;
+    queue = set (planView n e (area w f) .queue) 0 g;
+    places = set (planView n e (area w f) .places) g 0;
+    list = planView n e (area w f) .list;
+    restW = planView n e (area w f) .restW;
+    restF = planView n e (area w f) .restF;
   }
-  unfolding view
+  unfolding planView
   begun-view =
-      rw s (ap (λ rs. viewIn rs (cut (fsizes n e) f))
-      (cut-set (wsizes n e) (set w (queue + 0) g) 5 g 0 (places + g) (omega arith) hg (omega arith)
-      ∙ ap (λ rs. set rs 5 (set (getD rs 5 []) g 0)) (cut-set (wsizes n e) w 4 0 g (queue + 0) (omega arith) (omega arith) (omega arith))))
+      rw s (ap (λ rs. planViewIn rs (cut (planFloats n e) f))
+      (cut-set (planWords n e) (set w (queue + 0) g) 5 g 0 (places + g) (omega arith) hg (omega arith)
+      ∙ ap (λ rs. set rs 5 (set (getD rs 5 []) g 0)) (cut-set (planWords n e) w 4 0 g (queue + 0) (omega arith) (omega arith) (omega arith))))
 
   pub begun : Seeking n e 1 (area w′ f)
   begun = record {
     fit = record { words = rw s (simp lib.ListN.length-set (h .words)); floats = h .floats; turfs = h .turfs; links = h .links };
-    line = subst (λ (v : View). Line n 1 (v .queue) (v .places)) (sym begun-view) (line-more (seeking-none n e (area w f) h .line) g hg empty);
+    line = subst (λ (v : PlanView). Line n 1 (v .queue) (v .places)) (sym begun-view) (line-more (seeking-none n e (area w f) h .line) g hg empty);
   }
 
   -- it points nowhere
-  pub begun-met : (z : ℕ) (starts neighbours : List ℕ) → getD (view n e (area w f) .plan .direction) g 0 ≡ 0 → AllMet n z starts neighbours (view n e (area w′ f)) 1
+  pub begun-met : (z : ℕ) (starts neighbours : List ℕ) → getD (planView n e (area w f) .plan .direction) g 0 ≡ 0 → AllMet n z starts neighbours (planView n e (area w′ f)) 1
   begun-met z starts neighbours q i l =
       let e₀ : i ≡ 0 = omega arith in
-      let row : getD (view n e (area w′ f) .queue) i 0 ≡ g =
-      ap₂ (λ (x : View) (j : ℕ). getD (x .queue) j 0) begun-view e₀ ∙ getD-set-same (view n e (area w f) .queue) 0 g 0 (omega (arith, seeking-none n e (area w f) h .line .queue-n)) in
-      let dir : getD (view n e (area w′ f) .plan .direction) g 0 ≡ 0 = ap (λ (x : View). getD (x .plan .direction) g 0) begun-view ∙ q in
-      subst (Met n z starts neighbours (view n e (area w′ f))) (sym row) (record { over = λ d x. absurd (omega (arith, dir, x)) })
+      let row : getD (planView n e (area w′ f) .queue) i 0 ≡ g =
+      ap₂ (λ (x : PlanView) (j : ℕ). getD (x .queue) j 0) begun-view e₀ ∙ getD-set-same (planView n e (area w f) .queue) 0 g 0 (omega (arith, seeking-none n e (area w f) h .line .queue-n)) in
+      let dir : getD (planView n e (area w′ f) .plan .direction) g 0 ≡ 0 = ap (λ (x : PlanView). getD (x .plan .direction) g 0) begun-view ∙ q in
+      subst (MetOver n z starts neighbours (planView n e (area w′ f))) (sym row) (record { over = λ d x. absurd (omega (arith, dir, x)) })
 
-  begun-seek : seekOf (view n e (area w′ f)) 1 0 ≡ record { queue = g ∷ []; looked = 0; plan = view n e (area w f) .plan }
+  begun-seek : seekOf (planView n e (area w′ f)) 1 0 ≡ record { queue = g ∷ []; looked = 0; plan = planView n e (area w f) .plan }
   begun-seek =
-      ap (λ (v : View). seekOf v 1 0) begun-view
-      ∙ ap (λ (q : List ℕ). record { queue = q; looked = 0; plan = view n e (area w f) .plan })
+      ap (λ (v : PlanView). seekOf v 1 0) begun-view
+      ∙ ap (λ (q : List ℕ). record { queue = q; looked = 0; plan = planView n e (area w f) .plan })
       (take-more (seeking-none n e (area w f) h .line) g hg empty)
 
   -- it has nothing to hand on
-  pub begun-idle : (first : ℕ) → ne (getD (view n e (area w f) .plan .amount) g nan) 0f ≡ false → Idle (view n e (area w′ f)) 1 first
+  pub begun-idle : (first : ℕ) → ne (getD (planView n e (area w f) .plan .amount) g nan) 0f ≡ false → Idle (planView n e (area w′ f)) 1 first
   begun-idle first q i l k =
       let e₀ : i ≡ 0 = omega arith in
-      let row : getD (view n e (area w′ f) .queue) i 0 ≡ g =
-      ap₂ (λ (x : View) (j : ℕ). getD (x .queue) j 0) begun-view e₀ ∙ getD-set-same (view n e (area w f) .queue) 0 g 0 (omega (arith, seeking-none n e (area w f) h .line .queue-n)) in
-      rw row (ap (λ (x : View). ne (getD (x .plan .amount) g nan) 0f) begun-view ∙ q)
+      let row : getD (planView n e (area w′ f) .queue) i 0 ≡ g =
+      ap₂ (λ (x : PlanView) (j : ℕ). getD (x .queue) j 0) begun-view e₀ ∙ getD-set-same (planView n e (area w f) .queue) 0 g 0 (omega (arith, seeking-none n e (area w f) h .line .queue-n)) in
+      rw row (ap (λ (x : PlanView). ne (getD (x .plan .amount) g nan) 0f) begun-view ∙ q)
 
   -- the search leaves rows that point at rows it looked at
-  pub searched-near : (b : Board) (z count seen : ℕ) (side : Side) {C : Area} → getD (view n e (area w f) .plan .direction) g 0 ≡ 0
-      → Searched n e (λ o t. times (seekNext b o z side g) n t) 1 count seen (area w′ f) C → Near seen (seekOf (view n e C) count seen)
+  pub searched-near : (b : Board) (z count seen : ℕ) (side : Side) {C : Area} → getD (planView n e (area w f) .plan .direction) g 0 ≡ 0
+      → Searched n e (λ o t. times (seekNext b o z side g) n t) 1 count seen (area w′ f) C → Near seen (seekOf (planView n e C) count seen)
   searched-near b z count seen side {C} still q =
-      let o : List ℕ = view n e (area w′ f) .owner in
-      let s₀ : Seek = seekOf (view n e (area w′ f)) 1 0 in
+      let o : List ℕ = planView n e (area w′ f) .owner in
+      let s₀ : Seek = seekOf (planView n e (area w′ f)) 1 0 in
       let start : Near 0 s₀ = subst (Near 0) (sym begun-seek) (record { within = omega arith; at = λ i l d x. absurd (points i l d x) }) in
       let t : Seek = times (seekNext b o z side g) n s₀ in
-      let same : seekOf (view n e C) count seen ≡ t = λ i. record { queue = q .queue i; looked = q .looked i; plan = q .plan i } in
+      let same : seekOf (planView n e C) count seen ≡ t = λ i. record { queue = q .queue i; looked = q .looked i; plan = q .plan i } in
       subst (λ (u : Seek). Near (u .looked) u) (sym same) (near-times b o z side g n s₀ start)
     where
-      points : (i : ℕ) → i < 1 → (d : ℕ) → getD (view n e (area w f) .plan .direction) (getD (g ∷ []) i 0) 0 ≡ d + 1 → ⊥
+      points : (i : ℕ) → i < 1 → (d : ℕ) → getD (planView n e (area w f) .plan .direction) (getD (g ∷ []) i 0) 0 ≡ d + 1 → ⊥
       points i l d x =
           let e₀ : i ≡ 0 = omega arith in
-          absurd (omega (arith, still, ap (λ (j : ℕ). getD (view n e (area w f) .plan .direction) (getD (g ∷ []) j 0) 0) (sym e₀) ∙ x))
+          absurd (omega (arith, still, ap (λ (j : ℕ). getD (planView n e (area w f) .plan .direction) (getD (g ∷ []) j 0) 0) (sym e₀) ∙ x))
 
   begun-leaves : Leaves n e (area w f) (area w′ f)
   begun-leaves = record {
     frame = record {
-      owner = ap (λ (v : View). v .owner) begun-view;
-      reverse = ap (λ (v : View). v .reverse) begun-view;
-      restW = ap (λ (v : View). v .restW) begun-view;
-      restF = ap (λ (v : View). v .restF) begun-view;
+      owner = ap (λ (v : PlanView). v .owner) begun-view;
+      reverse = ap (λ (v : PlanView). v .reverse) begun-view;
+      restW = ap (λ (v : PlanView). v .restW) begun-view;
+      restF = ap (λ (v : PlanView). v .restF) begun-view;
     };
-    list = ap (λ (v : View). v .list) begun-view;
+    list = ap (λ (v : PlanView). v .list) begun-view;
   }
 
   -- the reverses stand as they stood
-  pub reverses-after : {b : Board} {st : List ℕ → Plan → Plan} {F : List ℕ → Seek → Seek} {count seen : ℕ} {A C : Area} → Reverses b n (view n e A .reverse) → Does n e st A (area w f)
-      → Searched n e F 1 count seen (area w′ f) C → Reverses b n (view n e C .reverse)
+  pub reverses-after : {b : Board} {st : List ℕ → Plan → Plan} {F : List ℕ → Seek → Seek} {count seen : ℕ} {A C : Area} → Reverses b n (planView n e A .reverse) → PlanDoes n e st A (area w f)
+      → Searched n e F 1 count seen (area w′ f) C → Reverses b n (planView n e C .reverse)
   reverses-after {b} v d q = subst (Reverses b n) (sym (q .rest .frame .reverse ∙ begun-leaves .frame .reverse ∙ does-frame d .reverse)) v
 
-  pub served : (b : Board) → turfCount b ≡ n → (z count seen : ℕ) (side : Side) (i : MonstermosInfo) {A C D : Area} → i ≡ load (view n e A .plan) g
-      → Does n e (λ o p. store p g (record { delta = i .delta; amount = 0f; direction = 0; fast = i .fast })) A (area w f)
+  pub served : (b : Board) → turfCount b ≡ n → (z count seen : ℕ) (side : Side) (i : MonstermosInfo) {A C D : Area} → i ≡ load (planView n e A .plan) g
+      → PlanDoes n e (λ o p. store p g (record { delta = i .delta; amount = 0f; direction = 0; fast = i .fast })) A (area w f)
       → Searched n e (λ o t. times (seekNext b o z side g) n t) 1 count seen (area w′ f) C
-      → Does n e (λ o p. run (drain b o z) (reverse (take count (view n e C .queue))) p) C D
+      → PlanDoes n e (λ o p. run (drain b o z) (reverse (take count (planView n e C .queue))) p) C D
       → Serves n e (λ o p. serve b o z side g p) A D
   unfolding serve
   served b many z count seen side i {A} {C} {D} ei d₁ q d₂ =
-      let o : List ℕ = view n e A .owner in
-      let fr : Leaves n e A (area w′ f) = leaves-then (record { frame = does-frame d₁; list = ap (λ (v : View). v .list) (d₁ .same) }) begun-leaves in
-      let o₁ : view n e (area w′ f) .owner ≡ o = fr .frame .owner in
-      let o₂ : view n e C .owner ≡ o = q .rest .frame .owner ∙ o₁ in
-      let start : Plan = store (view n e A .plan) g (record { delta = getD (view n e A .plan .delta) g nan; amount = 0f; direction = 0; fast = getD (view n e A .plan .fast) g 0 }) in
-      let p₁ : view n e (area w f) .plan ≡ start =
-      ap (λ (v : View). v .plan) (d₁ .same)
-      ∙ ap (λ (j : MonstermosInfo). store (view n e A .plan) g (record { delta = j .delta; amount = 0f; direction = 0; fast = j .fast })) ei in
-      let t₁ : seekOf (view n e (area w′ f)) 1 0 ≡ record { queue = g ∷ []; looked = 0; plan = start } = begun-seek ∙ ap (λ (p : Plan). record { queue = g ∷ []; looked = 0; plan = p }) p₁ in
+      let o : List ℕ = planView n e A .owner in
+      let fr : Leaves n e A (area w′ f) = leaves-then (record { frame = does-frame d₁; list = ap (λ (v : PlanView). v .list) (d₁ .same) }) begun-leaves in
+      let o₁ : planView n e (area w′ f) .owner ≡ o = fr .frame .owner in
+      let o₂ : planView n e C .owner ≡ o = q .rest .frame .owner ∙ o₁ in
+      let start : Plan = store (planView n e A .plan) g (record { delta = getD (planView n e A .plan .delta) g nan; amount = 0f; direction = 0; fast = getD (planView n e A .plan .fast) g 0 }) in
+      let p₁ : planView n e (area w f) .plan ≡ start =
+      ap (λ (v : PlanView). v .plan) (d₁ .same)
+      ∙ ap (λ (j : MonstermosInfo). store (planView n e A .plan) g (record { delta = j .delta; amount = 0f; direction = 0; fast = j .fast })) ei in
+      let t₁ : seekOf (planView n e (area w′ f)) 1 0 ≡ record { queue = g ∷ []; looked = 0; plan = start } = begun-seek ∙ ap (λ (p : Plan). record { queue = g ∷ []; looked = 0; plan = p }) p₁ in
       let t₂ = ap₂ (λ (x : List ℕ) (u : Seek). times (seekNext b x z side g) n u) o₁ t₁ in
       let t₃ = t₂ ∙ ap (λ (m : ℕ). times (seekNext b o z side g) m (record { queue = g ∷ []; looked = 0; plan = start })) (sym many) in
-      let all : Leaves n e A D = leaves-then (leaves-then fr (q .rest)) (record { frame = does-frame d₂; list = ap (λ (v : View). v .list) (d₂ .same) }) in
+      let all : Leaves n e A D = leaves-then (leaves-then fr (q .rest)) (record { frame = does-frame d₂; list = ap (λ (v : PlanView). v .list) (d₂ .same) }) in
       record {
         fit = d₂ .fit;
         frame = all .frame;
         list = all .list;
-        plan = ap (λ (v : View). v .plan) (d₂ .same)
-            ∙ ap (λ (x : List ℕ). run (drain b x z) (reverse (take count (view n e C .queue))) (view n e C .plan)) o₂
+        plan = ap (λ (v : PlanView). v .plan) (d₂ .same)
+            ∙ ap (λ (x : List ℕ). run (drain b x z) (reverse (take count (planView n e C .queue))) (planView n e C .plan)) o₂
             ∙ ap₂ (λ (y : List ℕ) (p : Plan). run (drain b o z) (reverse y) p) (q .queue) (q .plan)
             ∙ ap (λ (u : Seek). run (drain b o z) (reverse (u .queue)) (u .plan)) t₃;
       }
 
 -- ---- the way back after the search
 
-module _ (n e z count : ℕ) (b : Board) (t : Linked n (b .starts) (b .neighbours)) (len : length (b .neighbours) ≡ e) {C : Area} (h : Seeking n e count C) (m : AllMet n z (b .starts) (b .neighbours) (view n e C) count)
-    (v : Reverses b n (view n e C .reverse)) where
+module _ (n e z count : ℕ) (b : Board) (t : Linked n (b .starts) (b .neighbours)) (len : length (b .neighbours) ≡ e) {C : Area} (h : Seeking n e count C) (m : AllMet n z (b .starts) (b .neighbours) (planView n e C) count)
+    (v : Reverses b n (planView n e C .reverse)) where
   -- what it reads is within the areas
-  met-within : (i : ℕ) → i < count → Within n e (view n e C) (getD (view n e C .queue) i 0)
+  met-within : (i : ℕ) → i < count → Within n e (planView n e C) (getD (planView n e C .queue) i 0)
   met-within i l = record {
     at = λ d q.
         let u = m i l .over d q .0 in (
           u .row,
           (
-            omega (arith, len, link-below b n t (view n e C .owner) z d _ (u .row) (u .link)),
-            omega (arith, len, reverse-within b n t (view n e C .owner) z (view n e C .reverse) v d _ (u .row) (u .link)),
+            omega (arith, len, link-below b n t (planView n e C .owner) z d _ (u .row) (u .link)),
+            omega (arith, len, reverse-within b n t (planView n e C .owner) z (planView n e C .reverse) v d _ (u .row) (u .link)),
           ),
         );
   }
 
-  pub rows-within : (i : ℕ) → i < count → (getD (view n e C .queue) i 0 < n) × Within n e (view n e C) (getD (view n e C .queue) i 0)
+  pub rows-within : (i : ℕ) → i < count → (getD (planView n e C .queue) i 0 < n) × Within n e (planView n e C) (getD (planView n e C .queue) i 0)
   rows-within i l = (queue-below h i l, met-within i l)
 
-  pub drained-by-edges : {D : Area} → Does n e (λ o p. run (drainVia (view n e C .reverse) (view n e C .via) z o) (reverse (take count (view n e C .queue))) p) C D
-      → Does n e (λ o p. run (drain b o z) (reverse (take count (view n e C .queue))) p) C D
+  pub drained-by-edges : {D : Area} → PlanDoes n e (λ o p. run (drainVia (planView n e C .reverse) (planView n e C .via) z o) (reverse (take count (planView n e C .queue))) p) C D
+      → PlanDoes n e (λ o p. run (drain b o z) (reverse (take count (planView n e C .queue))) p) C D
   drained-by-edges d =
-      let long : length (take count (view n e C .queue)) ≡ count = length-take-le count (view n e C .queue) (omega (arith, h .line .few, h .line .queue-n)) in
+      let long : length (take count (planView n e C .queue)) ≡ count = length-take-le count (planView n e C .queue) (omega (arith, h .line .few, h .line .queue-n)) in
       Rattle.plan_state.proofs.Stores.does-as d
-      (drain-by-via b n t (view n e C .reverse) (view n e C .via) (view n e C .owner) (view n e C .plan .direction) v z
-      (reverse (take count (view n e C .queue))) (view n e C .plan) refl
-      (all-back _ (take count (view n e C .queue))
-      (all-of-rows _ (take count (view n e C .queue)) (λ i l. let k : i < count = omega (arith, long, l) in rw (getD-take count (view n e C .queue) i 0 k) (m i k .over)))))
+      (drain-by-via b n t (planView n e C .reverse) (planView n e C .via) (planView n e C .owner) (planView n e C .plan .direction) v z
+      (reverse (take count (planView n e C .queue))) (planView n e C .plan) refl
+      (all-back _ (take count (planView n e C .queue))
+      (all-of-rows _ (take count (planView n e C .queue)) (λ i l. let k : i < count = omega (arith, long, l) in rw (getD-take count (planView n e C .queue) i 0 k) (m i k .over)))))

@@ -17,8 +17,8 @@ use Rattle.plan_state.specs.Steps.{backLink}
 use Rattle.basics.specs.Loops.{run}
 use Rattle.basics.specs.Lists.{All}
 use Rattle.basics.proofs.Loops.{All-imp, run-back, run-still}
-use Rattle.plan_rules.specs.Plan.{Plan, load}
-use Rattle.plan_state.specs.Held.{Area, area, View, view, Does}
+use Rattle.rules_plan.specs.Plan.{Plan, load}
+use Rattle.plan_state.specs.Held.{Area, area, PlanView, planView, PlanDoes}
 use Rattle.plan_state.proofs.Stores.{does-as, does-then}
 use Rattle.plan_trade.specs.Search.{Seeking, seekOf, Idle, Within}
 use Rattle.plan_trade.specs.Steps.{lesser, handOn, drainVia}
@@ -136,15 +136,15 @@ module _ (rev via : List ℕ) (z : ℕ) (o : List ℕ) where
 
 -- what it reads, while only the floats change
 pub rows-later : (n e count : ℕ) (w : List ℕ) (f f′ : List Float)
-    → ((i : ℕ) → i < count → (getD (view n e (area w f) .queue) i 0 < n) × Within n e (view n e (area w f)) (getD (view n e (area w f) .queue) i 0))
-    → (m : ℕ) → m ≤ count → (i : ℕ) → i < m → (getD (view n e (area w f′) .queue) i 0 < n) × Within n e (view n e (area w f′)) (getD (view n e (area w f′) .queue) i 0)
-unfolding view
+    → ((i : ℕ) → i < count → (getD (planView n e (area w f) .queue) i 0 < n) × Within n e (planView n e (area w f)) (getD (planView n e (area w f) .queue) i 0))
+    → (m : ℕ) → m ≤ count → (i : ℕ) → i < m → (getD (planView n e (area w f′) .queue) i 0 < n) × Within n e (planView n e (area w f′)) (getD (planView n e (area w f′) .queue) i 0)
+unfolding planView
 rows-later n e count w f f′ h m l i k = let g = h i (omega (arith, l)) in (g .0, record { at = g .1 .at })
 
 module _ (n e z count traded first looked low : ℕ) (w : List ℕ) (f : List Float) (h : Seeking n e count (area w f)) (ef : first ≡ lesser traded count) (el : low ≡ lesser first looked)
-    (near : Near looked (seekOf (view n e (area w f)) count looked)) (idle : Idle (view n e (area w f)) count traded) where
-  abbrev v : View
-  v = view n e (area w f)
+    (near : Near looked (seekOf (planView n e (area w f)) count looked)) (idle : Idle (planView n e (area w f)) count traded) where
+  abbrev v : PlanView
+  v = planView n e (area w f)
 
   long : length (take count (v .queue)) ≡ count
   long = length-take-le count (v .queue) (omega (arith, h .line .few, h .line .queue-n))
@@ -163,10 +163,10 @@ module _ (n e z count traded first looked low : ℕ) (w : List ℕ) (f : List Fl
   apart-in : (i j : ℕ) → i < count → j < count → getD (v .queue) i 0 ≡ getD (v .queue) j 0 → i ≡ j
   apart-in i j l m q = sym (h .line .placed i l) ∙ ap (λ (x : ℕ). getD (v .places) x 0) q ∙ h .line .placed j m
 
-  pub skipped : (f′ : List Float) {B : Area} → Does n e (λ o p. run (drainVia (view n e (area w f) .reverse) (view n e (area w f) .via) z o) (reverse (take (count - first) (drop first (view n e (area w f) .queue)))) p) (area w f) (area w f′)
-      → Does n e (λ o p. run (drainVia (view n e (area w f′) .reverse) (view n e (area w f′) .via) z o) (reverse (take (low - 0) (drop 0 (view n e (area w f′) .queue)))) p) (area w f′) B
-      → Does n e (λ o p. run (drainVia (view n e (area w f) .reverse) (view n e (area w f) .via) z o) (reverse (take count (view n e (area w f) .queue))) p) (area w f) B
-  unfolding view
+  pub skipped : (f′ : List Float) {B : Area} → PlanDoes n e (λ o p. run (drainVia (planView n e (area w f) .reverse) (planView n e (area w f) .via) z o) (reverse (take (count - first) (drop first (planView n e (area w f) .queue)))) p) (area w f) (area w f′)
+      → PlanDoes n e (λ o p. run (drainVia (planView n e (area w f′) .reverse) (planView n e (area w f′) .via) z o) (reverse (take (low - 0) (drop 0 (planView n e (area w f′) .queue)))) p) (area w f′) B
+      → PlanDoes n e (λ o p. run (drainVia (planView n e (area w f) .reverse) (planView n e (area w f) .via) z o) (reverse (take count (planView n e (area w f) .queue))) p) (area w f) B
+  unfolding planView
   skipped f′ d d′ =
       does-as (does-then _ d d′)
       (rw (sub-zero, el)

@@ -1,162 +1,31 @@
 // `give_to_takers` and `take_from_givers` for one turf: a search from it through the zone, then the way back. One body serves both; what differs
 // is the tests.
 ghost use mathlib.Core.Path.{_≡_};
-ghost use mathlib.Core.Bool.{true, false};
-ghost use Prim.Native.Nat.{_+_, _-_, _≤_, _<_};
-ghost use lib.Ieee.{nan};
-ghost use lib.ListN.{length, getD};
+ghost use Prim.Native.Nat.{_-_, _≤_, _<_};
+ghost use lib.ListN.{length};
 ghost use Rattle.basics.specs.Loops.{run, times, upFrom};
 ghost use Rattle.turfs.specs.Tables.{boardAt};
-ghost use Rattle.plan_rules.specs.Plan.{settled, seekNext, serve};
+ghost use Rattle.rules_plan.specs.Plan.{seekNext, serve};
 ghost use Rattle.reverse_links.specs.Reverse.{Linked};
-ghost use Rattle.plan_state.specs.Held.{areaAt, view, Sized, Ends, Planning, Serves};
+ghost use Rattle.plan_state.specs.Held.{areaAt, planView, Sized, Ends, Planning, Serves};
 ghost use Rattle.plan_trade.specs.Search.{Searched, AllMet, Idle};
 ghost use Rattle.plan_trade.specs.Steps.{along};
-ghost use Rattle.plan_search.specs.Hands.{Searching, Open, alongAll, Goes, GoesTurf, PassesBy};
-use index_set::contains;
+ghost use Rattle.plan_trade.specs.Hands.{Searching, Unsettled, alongAll, SearchGoes, GoesTurf, PassesBy};
 use index_set::insert;
 use plan_drain::drain;
-use plan_rules::MonstermosInfo;
-use plan_rules::Side;
 use plan_state::load;
 use plan_state::store;
 use plan_tests::settled;
-use plan_tests::wants;
-use plan_trade::first_traded;
+use plan_trade::Hand;
+use plan_trade::Reach;
 use plan_trade::least;
-use plan_trade::meet;
-use plan_trade::point;
-use plan_trade::settles;
+use plan_trade::pass_link;
+use plan_trade::seek_link;
+use rules_plan::MonstermosInfo;
 use turfs::Marks;
 use turfs::NEIGHBOURS;
 use turfs::Rows;
 use turfs::STARTS;
-
-// The turf in hand: its side, its row, its zone, and the turfs and links of the board.
-pub struct Hand {
-    pub side: Side,
-    pub g: usize,
-    pub z: u32,
-    pub n: usize,
-    pub e: usize,
-}
-
-// How many rows the queue has, and the first place whose row traded; n if none did.
-pub struct Reach {
-    pub count: usize,
-    pub first: usize,
-}
-
-// The same after a link, and whether the turf in hand is settled then.
-pub struct Step {
-    pub count: usize,
-    pub first: usize,
-    pub done: bool,
-}
-
-// The link k of the turf r. The turf in hand isn't settled.
-fn seek_link(
-    hand: Hand,
-    r: u32,
-    k: usize,
-    reach: Reach,
-    neighbours: &[u32],
-    words: &mut [u32],
-    floats: &mut [f32],
-) -> Step
-    requires { ⌜ Searching hand (reach .count) (areaAt words floats) ⌝ }
-    requires { ⌜ Open hand (areaAt words floats) ⌝ }
-    requires { ⌜ Ends (hand .n) (hand .e) r (k + 1) (now neighbours) ⌝ }
-    ensures { λ s. let ends = now (neighbours .entry) in ⌜ Goes hand r k (k + 1) ends (λ o t. along (hand .side) (hand .g) r ends (hand .z) o k t) (reach .count) (reach .first) (s .count) (s .first) (areaAt (words .entry) (floats .entry)) (areaAt (words .exit) (floats .exit)) ⌝ }
-    ensures { λ s. ⌜ s .done ≡ settled (hand .side) (getD (now (floats .exit)) (hand .e + hand .g + hand .g) nan) ⌝ }
-{
-    let side = hand.side;
-    let g = hand.g;
-    let z = hand.z;
-    let n = hand.n;
-    let e = hand.e;
-    let count = reach.count;
-    let first = reach.first;
-    if words[k] != z + 1 {
-        return Step {
-            count,
-            first,
-            done: false,
-        };
-    }
-    let queue = index_set::queue_at(n, e);
-    let places = index_set::places_at(n, e);
-    let a = neighbours[k];
-    if contains(a, count, n, queue, places, words) {
-        return Step {
-            count,
-            first,
-            done: false,
-        };
-    }
-    insert(a, count, queue, places, words);
-    let row = a as usize;
-    words[e + e + row + row + 1] = k as u32;
-    let traded = meet(side, g, r, row, n, e, words, floats);
-    Step {
-        count: count + 1,
-        first: first_traded(traded, first, count),
-        done: settles(traded, side, floats[e + g + g]),
-    }
-}
-
-// How many rows the queue has after a link, and whether the link leads to a new row that wants: then nothing is done yet.
-pub struct Passed {
-    pub count: usize,
-    pub wants: bool,
-}
-
-// The link k of the turf r, unless there is something to trade.
-fn pass_link(
-    hand: Hand,
-    r: u32,
-    k: usize,
-    count: usize,
-    neighbours: &[u32],
-    words: &mut [u32],
-    floats: &mut [f32],
-) -> Passed
-    requires { ⌜ Searching hand count (areaAt words floats) ⌝ }
-    requires { ⌜ Ends (hand .n) (hand .e) r (k + 1) (now neighbours) ⌝ }
-    ensures { λ p. ⌜ (p .wants ≡ true → areaAt (words .exit) (floats .exit) ≡ areaAt (words .entry) (floats .entry)) ⌝ }
-    ensures { λ p. let ends = now (neighbours .entry) in ⌜ (p .wants ≡ false → PassesBy hand (λ g o s. along (hand .side) g r ends (hand .z) o k s) r k (k + 1) ends count (p .count) (areaAt (words .entry) (floats .entry)) (areaAt (words .exit) (floats .exit))) ⌝ }
-{
-    let side = hand.side;
-    let z = hand.z;
-    let n = hand.n;
-    let e = hand.e;
-    if words[k] != z + 1 {
-        return Passed {
-            count,
-            wants: false,
-        };
-    }
-    let queue = index_set::queue_at(n, e);
-    let places = index_set::places_at(n, e);
-    let a = neighbours[k];
-    if contains(a, count, n, queue, places, words) {
-        return Passed {
-            count,
-            wants: false,
-        };
-    }
-    let row = a as usize;
-    if wants(side, floats[e + row + row]) {
-        return Passed { count, wants: true };
-    }
-    insert(a, count, queue, places, words);
-    words[e + e + row + row + 1] = k as u32;
-    point(row, r + 1, n, e, words, floats);
-    Passed {
-        count: count + 1,
-        wants: false,
-    }
-}
 
 // How many rows the queue has, and the link that a pass came to.
 pub struct Pass {
@@ -207,10 +76,10 @@ fn seek_row(
     floats: &mut [f32],
 ) -> Reach
     requires { ⌜ Searching hand (reach .count) (areaAt words floats) ⌝ }
-    requires { ⌜ Open hand (areaAt words floats) ⌝ }
+    requires { ⌜ Unsettled hand (areaAt words floats) ⌝ }
     requires { ⌜ Ends (hand .n) (hand .e) r to (now neighbours) ⌝ }
     requires { ⌜ from ≤ to ⌝ }
-    ensures { λ c. let ends = now (neighbours .entry) in ⌜ Goes hand r from to ends (alongAll hand r ends from to) (reach .count) (reach .first) (c .count) (c .first) (areaAt (words .entry) (floats .entry)) (areaAt (words .exit) (floats .exit)) ⌝ }
+    ensures { λ c. let ends = now (neighbours .entry) in ⌜ SearchGoes hand r from to ends (alongAll hand r ends from to) (reach .count) (reach .first) (c .count) (c .first) (areaAt (words .entry) (floats .entry)) (areaAt (words .exit) (floats .exit)) ⌝ }
 {
     let mut c = reach.count;
     let mut f = reach.first;
@@ -244,7 +113,7 @@ fn seek_turf(
     floats: &mut [f32],
 ) -> Reach
     requires { ⌜ Searching hand (reach .count) (areaAt words floats) ⌝ }
-    requires { ⌜ Open hand (areaAt words floats) ⌝ }
+    requires { ⌜ Unsettled hand (areaAt words floats) ⌝ }
     requires { ⌜ r < hand .n ⌝ }
     requires { ⌜ Linked (hand .n) (now starts) (now neighbours) ⌝ }
     requires { ⌜ length (now neighbours) ≡ hand .e ⌝ }
@@ -274,11 +143,11 @@ fn seek(
 ) -> Sweep
     requires { ⌜ Searching hand 1 (areaAt words floats) ⌝ }
     requires { ⌜ Sized (boardAt rows marks gases) (hand .n) (hand .e) ⌝ }
-    requires { let b = boardAt rows marks gases in ⌜ AllMet (hand .n) (hand .z) (b .starts) (b .neighbours) (view (hand .n) (hand .e) (areaAt words floats)) 1 ⌝ }
-    requires { ⌜ Idle (view (hand .n) (hand .e) (areaAt words floats)) 1 (hand .n) ⌝ }
+    requires { let b = boardAt rows marks gases in ⌜ AllMet (hand .n) (hand .z) (b .starts) (b .neighbours) (planView (hand .n) (hand .e) (areaAt words floats)) 1 ⌝ }
+    requires { ⌜ Idle (planView (hand .n) (hand .e) (areaAt words floats)) 1 (hand .n) ⌝ }
     ensures { λ c. let b = boardAt (rows .entry) (marks .entry) gases in ⌜ Searched (hand .n) (hand .e) (λ o s. times (seekNext b o (hand .z) (hand .side) (hand .g)) (hand .n) s) 1 (c .count) (c .looked) (areaAt (words .entry) (floats .entry)) (areaAt (words .exit) (floats .exit)) ⌝ }
-    ensures { λ c. let b = boardAt (rows .entry) (marks .entry) gases in ⌜ AllMet (hand .n) (hand .z) (b .starts) (b .neighbours) (view (hand .n) (hand .e) (areaAt (words .exit) (floats .exit))) (c .count) ⌝ }
-    ensures { λ c. ⌜ Idle (view (hand .n) (hand .e) (areaAt (words .exit) (floats .exit))) (c .count) (c .first) ⌝ }
+    ensures { λ c. let b = boardAt (rows .entry) (marks .entry) gases in ⌜ AllMet (hand .n) (hand .z) (b .starts) (b .neighbours) (planView (hand .n) (hand .e) (areaAt (words .exit) (floats .exit))) (c .count) ⌝ }
+    ensures { λ c. ⌜ Idle (planView (hand .n) (hand .e) (areaAt (words .exit) (floats .exit))) (c .count) (c .first) ⌝ }
 {
     let side = hand.side;
     let g = hand.g;
@@ -286,12 +155,13 @@ fn seek(
     let e = hand.e;
     let starts = rows[STARTS];
     let neighbours = rows[NEIGHBOURS];
-    let queue = index_set::queue_at(n, e);
+    let queue = scratch::queue_at(n, e);
+    let own = scratch::delta_at(g, e);
     let mut count = 1;
     let mut first = n;
     let mut looked = 0;
     while looked < count {
-        if settled(side, floats[e + g + g]) {
+        if settled(side, floats[own]) {
             return Sweep {
                 count,
                 first,
@@ -337,8 +207,8 @@ pub fn serve(
         fast: i.fast,
     };
     store(g, start, n, e, words, floats);
-    let queue = index_set::queue_at(n, e);
-    let places = index_set::places_at(n, e);
+    let queue = scratch::queue_at(n, e);
+    let places = scratch::places_at(n, e);
     insert(g as u32, 0, queue, places, words);
     let sweep = seek(hand, rows, marks, gases, words, floats);
     let first = least(sweep.first, sweep.count);

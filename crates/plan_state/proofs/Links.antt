@@ -12,10 +12,10 @@ use Rattle.basics.specs.declared.Spot.{Spot}
 use Rattle.basics.specs.declared.Spot.the-variants.{At, Nowhere}
 use Rattle.basics.specs.Lists.{Found}
 use Rattle.basics.proofs.Loops.{first-found, first-passes}
-use Rattle.board_rules.specs.Board.{Board, end, linksOf}
-use Rattle.plan_rules.specs.Edges.{owned, edge}
+use Rattle.rules_board.specs.Board.{Board, end, linksOf}
+use Rattle.rules_plan.specs.Edges.{owned, edge}
 use Rattle.reverse_links.proofs.Firsts.{first-none, first-only, first-nowhere, up-all}
-use Rattle.reverse_links.specs.Reverse.{InRow, Linked, reverseOf, wordOf, Reverses}
+use Rattle.reverse_links.specs.Reverse.{InRow, Linked, reverseOf, wordFor, Reverses}
 use Rattle.plan_state.specs.Steps.{ownedBy, backLink}
 
 -- ---- the links of a turf
@@ -69,7 +69,7 @@ module _ (b : Board) (n : ℕ) (t : Linked n (b .starts) (b .neighbours)) (owner
     pub reverse-within : getD reverse k 0 ≤ length (b .neighbours)
     reverse-within = rw (v .at r k h i) (go (reverseOf b r k) found)
       where
-        go : (s : Spot) → Found Back s → wordOf s ≤ length (b .neighbours)
+        go : (s : Spot) → Found Back s → wordFor s ≤ length (b .neighbours)
         go (At j) f = omega (arith, link-below (end b k) j (link-end r k h i) (f .0))
         go Nowhere f = omega arith
 
@@ -103,7 +103,7 @@ module _ (b : Board) (n : ℕ) (t : Linked n (b .starts) (b .neighbours)) (owner
     unfolding backLink
     edge-back = go (reverseOf b r k) refl found ∙ sym (ap (ownedBy owner z) (v .at r k h i))
       where
-        go : (s : Spot) → reverseOf b r k ≡ s → Found Back s → edge b owner z (end b k) r ≡ ownedBy owner z (wordOf s)
+        go : (s : Spot) → reverseOf b r k ≡ s → Found Back s → edge b owner z (end b k) r ≡ ownedBy owner z (wordFor s)
         go (At j) e f =
             let q : j + 1 - 1 ≡ j = omega arith in
             one j f ∙ sym (rw (ne-eqb (j + 1) 0 (λ x. omega arith), q))

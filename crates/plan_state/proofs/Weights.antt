@@ -7,7 +7,7 @@ use mathlib.Core.Logic.{_≢_}
 use mathlib.Core.Bool.{Bool, true, false, cond}
 use native.Mathlib.Decide.{ℕ-discrete}
 use lib.Dec.{eqb}
-use lib.ListN.{length, getD, set, take, drop}
+use lib.ListN.{length, getD, set, drop}
 use lib.Seq.{getD-take, getD-drop}
 use borrow.Author.Tests.{eq-eqb, ne-eqb}
 use lib.Ieee.{Float, nan}
@@ -16,11 +16,13 @@ use Rattle.basics.specs.Regions.{cut, region}
 use Rattle.basics.specs.declared.Spot.{Spot}
 use Rattle.basics.specs.declared.Spot.the-variants.{At, Nowhere}
 use Rattle.basics.specs.Lists.{Found}
+use Rattle.scratch.specs.Layout.{planWords, planFloats, reverseAt}
+use Rattle.scratch.specs.View.{ownerIn, reverseIn}
 use Rattle.basics.proofs.Regions.{cut-set, cut-get}
-use Rattle.plan_rules.specs.Edges.{alter}
-use Rattle.plan_rules.specs.Plan.{reweigh}
-use Rattle.plan_laws.proofs.Sizes.{alter-size}
-use Rattle.plan_state.specs.Held.{area, wsizes, fsizes, viewIn, view, Fit, Does}
+use Rattle.rules_plan.specs.Edges.{alter}
+use Rattle.rules_plan.specs.Plan.{reweigh}
+use Rattle.laws_plan.proofs.Sizes.{alter-size}
+use Rattle.plan_state.specs.Held.{area, planViewIn, planView, PlanFits, PlanDoes}
 use Rattle.plan_state.specs.Steps.{ownedBy, backLink, adjustAt}
 
 -- what a search found, by its case
@@ -39,23 +41,23 @@ found-as m m′ s q f = subst (λ (j : ℕ). Found (λ k. k < j) s) q f
 
 -- the weights stand first among the floats
 cut-alter : (n e : ℕ) (s : Spot) (f : Float → Float) (w : List Float) → Found (λ k. k < e) s
-    → cut (fsizes n e) (alter s f w) ≡ set (cut (fsizes n e) w) 0 (alter s f (region (fsizes n e) 0 w))
+    → cut (planFloats n e) (alter s f w) ≡ set (cut (planFloats n e) w) 0 (alter s f (region (planFloats n e) 0 w))
 cut-alter n e (At k) f w h =
-    cut-set (fsizes n e) w 0 k (f (getD w k nan)) k (omega arith) h (omega arith)
-    ∙ ap (λ (x : Float). set (cut (fsizes n e) w) 0 (set (region (fsizes n e) 0 w) k (f x))) (cut-get (fsizes n e) w nan 0 k k (omega arith) h (omega arith))
+    cut-set (planFloats n e) w 0 k (f (getD w k nan)) k (omega arith) h (omega arith)
+    ∙ ap (λ (x : Float). set (cut (planFloats n e) w) 0 (set (region (planFloats n e) 0 w) k (f x))) (cut-get (planFloats n e) w nan 0 k k (omega arith) h (omega arith))
 cut-alter n e Nowhere f w h = refl
 
 pub adjusted : (n e : ℕ) (there back : Spot) (x : Float) (w : List ℕ) (f f′ : List Float) → Found (λ k. k < e) there → Found (λ k. k < e) back
-    → f′ ≡ adjustAt there back x f → Fit n e (area w f)
-    → Does n e (λ o p. reweigh (adjustAt there back x) p) (area w f) (area w f′)
-unfolding view adjustAt
+    → f′ ≡ adjustAt there back x f → PlanFits n e (area w f)
+    → PlanDoes n e (λ o p. reweigh (adjustAt there back x) p) (area w f) (area w f′)
+unfolding planView adjustAt
 adjusted n e there back x w f f′ ht hb s h =
-    let c : cut (fsizes n e) f′ ≡ set (cut (fsizes n e) f) 0 (adjustAt there back x (region (fsizes n e) 0 f)) =
-    ap (cut (fsizes n e)) s ∙ cut-alter n e back (λ y. y -f x) (alter there (λ y. y +f x) f) hb
+    let c : cut (planFloats n e) f′ ≡ set (cut (planFloats n e) f) 0 (adjustAt there back x (region (planFloats n e) 0 f)) =
+    ap (cut (planFloats n e)) s ∙ cut-alter n e back (λ y. y -f x) (alter there (λ y. y +f x) f) hb
     ∙ ap (λ rs. set rs 0 (alter back (λ y. y -f x) (getD rs 0 []))) (cut-alter n e there (λ y. y +f x) f ht) in
     record {
       fit = record { words = h .words; floats = rw (ap length s ∙ adjust-length there back x f) (h .floats); turfs = h .turfs; links = h .links };
-      same = ap (viewIn (cut (wsizes n e) w)) c;
+      same = ap (planViewIn (cut (planWords n e) w)) c;
     }
 
 pub adjusts : (there back : Spot) (x : Float) (w w′ w″ : List Float) → w′ ≡ alter there (λ y. y +f x) w → w″ ≡ alter back (λ y. y -f x) w′ → w″ ≡ adjustAt there back x w
@@ -63,25 +65,28 @@ unfolding adjustAt
 adjusts there back x w w′ w″ e e′ = e′ ∙ ap (alter back (λ y. y -f x)) e
 
 -- the reverse of a link, by the words that are read
-module _ (e k z : ℕ) (w : List ℕ) (hk : k < e) where
-  back : getD w (e + k) 0 ≡ getD (take e (drop e w)) k 0
-  back = sym (getD-take e (drop e w) k 0 hk ∙ getD-drop e w k 0)
+module _ (e k z : ℕ) (w : List ℕ) (hk : k < e) (at : ℕ) (ea : at ≡ reverseAt k e) where
+  place : getD w at 0 ≡ getD w (reverseAt k e) 0
+  place = ap (λ (i : ℕ). getD w i 0) ea
 
-  pub back-none : getD w (e + k) 0 ≡ 0 → Nowhere ≡ backLink (take e (drop e w)) (take e w) z k
+  back : getD w at 0 ≡ getD (reverseIn e w) k 0
+  back = place ∙ sym (getD-take e (drop e w) k 0 hk ∙ getD-drop e w k 0)
+
+  pub back-none : getD w at 0 ≡ 0 → Nowhere ≡ backLink (reverseIn e w) (ownerIn e w) z k
   unfolding backLink
-  back-none h = sym (ap (ownedBy (take e w) z) (sym back ∙ h))
+  back-none h = sym (ap (ownedBy (ownerIn e w) z) (sym back ∙ h))
 
-  module _ (some : getD w (e + k) 0 ≢ 0) (le : getD w (e + k) 0 ≤ e) where
-    own : getD w (getD w (e + k) 0 - 1) 0 ≡ getD (take e w) (getD w (e + k) 0 - 1) 0
-    own = sym (getD-take e w (getD w (e + k) 0 - 1) 0 (omega (arith, some)))
+  module _ (some : getD w at 0 ≢ 0) (le : getD w (reverseAt k e) 0 ≤ e) where
+    own : getD w (getD w at 0 - 1) 0 ≡ getD (ownerIn e w) (getD w at 0 - 1) 0
+    own = sym (getD-take e w (getD w at 0 - 1) 0 (omega (arith, some, le, place)))
 
-    pub back-owned : getD w (getD w (e + k) 0 - 1) 0 ≡ z + 1 → At (getD w (e + k) 0 - 1) ≡ backLink (take e (drop e w)) (take e w) z k
+    pub back-owned : getD w (getD w at 0 - 1) 0 ≡ z + 1 → At (getD w at 0 - 1) ≡ backLink (reverseIn e w) (ownerIn e w) z k
     unfolding backLink
-    back-owned h = rw (← back, ne-eqb (getD w (e + k) 0) 0 some, ← own, eq-eqb _ _ h)
+    back-owned h = rw (← back, ne-eqb (getD w at 0) 0 some, ← own, eq-eqb _ _ h)
 
-    pub back-foreign : getD w (getD w (e + k) 0 - 1) 0 ≢ z + 1 → Nowhere ≡ backLink (take e (drop e w)) (take e w) z k
+    pub back-foreign : getD w (getD w at 0 - 1) 0 ≢ z + 1 → Nowhere ≡ backLink (reverseIn e w) (ownerIn e w) z k
     unfolding backLink
-    back-foreign h = rw (← back, ne-eqb (getD w (e + k) 0) 0 some, ← own, ne-eqb _ _ h)
+    back-foreign h = rw (← back, ne-eqb (getD w at 0) 0 some, ← own, ne-eqb _ _ h)
 
 pub found-more : (m m′ : ℕ) (s : Spot) → m ≤ m′ → Found (λ k. k < m) s → Found (λ k. k < m′) s
 found-more m m′ (At k) q f = omega arith

@@ -1,13 +1,14 @@
 -- How the two work areas hold the planning state, and what a function of planning promises of them.
 use Prim.Native.Nat.{ℕ, _+_, _-_, _≤_, _<_}
 use mathlib.Core.Path.{_≡_}
-use mathlib.Core.List.{List, [], _∷_}
+use mathlib.Core.List.{List, []}
 use lib.ListN.{length, getD, take, drop}
 use lib.Ieee.{Float}
 use denote.Ref.{RefT}
 use Rattle.basics.specs.Regions.{cut}
-use Rattle.board_rules.specs.Board.{Board, turfCount, linkCount}
-use Rattle.plan_rules.specs.Plan.{Plan}
+use Rattle.scratch.specs.Layout.{planWords, planFloats, foundAt, liftedAt}
+use Rattle.rules_board.specs.Board.{Board, turfCount, linkCount}
+use Rattle.rules_plan.specs.Plan.{Plan}
 use Rattle.index_set.specs.Line.{Below}
 use Rattle.reverse_links.specs.Reverse.{Linked, Reverses}
 use Rattle.plan_state.specs.Pairs.{firsts, seconds}
@@ -25,17 +26,8 @@ area w f = record { words = w; floats = f }
 abbrev pub areaAt : RefT (List ℕ) → RefT (List Float) → Area
 areaAt words floats = area (words .now) (floats .now)
 
--- words: by link, the zone that owns it and its reverse; by row, the pair of the direction and the link over which the turf was met, the fast mark,
--- the queue of a search, each row's place in it, the list of givers or takers
-abbrev pub wsizes : ℕ → ℕ → List ℕ
-wsizes n e = e ∷ e ∷ (n + n) ∷ n ∷ n ∷ n ∷ n ∷ []
-
--- floats: by link, the weight; by row, the pair of the delta and the amount
-abbrev pub fsizes : ℕ → ℕ → List ℕ
-fsizes n e = e ∷ (n + n) ∷ []
-
 -- all that the two areas hold
-pub record View : Type 0 where
+pub record PlanView : Type 0 where
   pub owner : List ℕ
   pub reverse : List ℕ
   pub plan : Plan
@@ -46,8 +38,8 @@ pub record View : Type 0 where
   pub restW : List ℕ
   pub restF : List Float
 
-abbrev pub viewIn : List (List ℕ) → List (List Float) → View
-viewIn ws rs = record {
+abbrev pub planViewIn : List (List ℕ) → List (List Float) → PlanView
+planViewIn ws rs = record {
   owner = getD ws 0 [];
   reverse = getD ws 1 [];
   plan = record { weight = getD rs 0 []; delta = firsts (getD rs 1 []); amount = seconds (getD rs 1 []); direction = firsts (getD ws 2 []); fast = getD ws 3 [] };
@@ -59,13 +51,13 @@ viewIn ws rs = record {
   restF = getD rs 2 [];
 }
 
-unfoldable pub view : ℕ → ℕ → Area → View
-view n e a = viewIn (cut (wsizes n e) (a .words)) (cut (fsizes n e) (a .floats))
+unfoldable pub planView : ℕ → ℕ → Area → PlanView
+planView n e a = planViewIn (cut (planWords n e) (a .words)) (cut (planFloats n e) (a .floats))
 
 -- the areas are long enough, and the sizes within their limits
-pub record Fit (n e : ℕ) (a : Area) : Type 0 where
-  pub words : e + e + n + n + n + n + n + n ≤ length (a .words)
-  pub floats : e + n + n ≤ length (a .floats)
+pub record PlanFits (n e : ℕ) (a : Area) : Type 0 where
+  pub words : foundAt n e ≤ length (a .words)
+  pub floats : liftedAt n e ≤ length (a .floats)
   pub turfs : n ≤ 4096
   pub links : e ≤ 24576
 
@@ -85,12 +77,12 @@ pub record Ends (n e r to : ℕ) (neighbours : List ℕ) : Type 0 where
 -- what every function of planning relies on, of a zone z: the sizes, areas that fit, the reverse of each link
 pub record Planning (b : Board) (n e z : ℕ) (a : Area) : Type 0 where
   pub sized : Sized b n e
-  pub fit : Fit n e a
+  pub fit : PlanFits n e a
   pub zone : z < 4096
-  pub reverses : Reverses b n (view n e a .reverse)
+  pub reverses : Reverses b n (planView n e a .reverse)
 
 -- a step of the plan that may look at the links' owners; all else stays
-abbrev pub onPlan : (List ℕ → Plan → Plan) → View → View
+abbrev pub onPlan : (List ℕ → Plan → Plan) → PlanView → PlanView
 onPlan h v = record {
   owner = v .owner;
   reverse = v .reverse;
@@ -104,41 +96,37 @@ onPlan h v = record {
 }
 
 -- from a to a′ by the step h of the plan, and all else is as it was
-pub record Does (n e : ℕ) (h : List ℕ → Plan → Plan) (a a′ : Area) : Type 0 where
-  pub fit : Fit n e a′
-  pub same : view n e a′ ≡ onPlan h (view n e a)
+pub record PlanDoes (n e : ℕ) (h : List ℕ → Plan → Plan) (a a′ : Area) : Type 0 where
+  pub fit : PlanFits n e a′
+  pub same : planView n e a′ ≡ onPlan h (planView n e a)
 
 -- what planning leaves as it was
 pub record Frame (n e : ℕ) (a a′ : Area) : Type 0 where
-  pub owner : view n e a′ .owner ≡ view n e a .owner
-  pub reverse : view n e a′ .reverse ≡ view n e a .reverse
-  pub restW : view n e a′ .restW ≡ view n e a .restW
-  pub restF : view n e a′ .restF ≡ view n e a .restF
+  pub owner : planView n e a′ .owner ≡ planView n e a .owner
+  pub reverse : planView n e a′ .reverse ≡ planView n e a .reverse
+  pub restW : planView n e a′ .restW ≡ planView n e a .restW
+  pub restF : planView n e a′ .restF ≡ planView n e a .restF
 
 -- the same, but that what a search works with may be anything afterwards
 pub record Serves (n e : ℕ) (h : List ℕ → Plan → Plan) (a a′ : Area) : Type 0 where
-  pub fit : Fit n e a′
+  pub fit : PlanFits n e a′
   pub frame : Frame n e a a′
-  pub list : view n e a′ .list ≡ view n e a .list
-  pub plan : view n e a′ .plan ≡ h (view n e a .owner) (view n e a .plan)
+  pub list : planView n e a′ .list ≡ planView n e a .list
+  pub plan : planView n e a′ .plan ≡ h (planView n e a .owner) (planView n e a .plan)
 
 -- ---- the nodes of a zone: `count` words from `first` on, past those that planning changes
 
--- where the words are that planning leaves
-abbrev pub top : ℕ → ℕ → ℕ
-top n e = e + e + n + n + n + n + n + n
-
-abbrev pub nodesOf : ℕ → ℕ → View → ℕ → ℕ → List ℕ
-nodesOf n e v first count = take count (drop (first - top n e) (v .restW))
+abbrev pub nodesOf : ℕ → ℕ → PlanView → ℕ → ℕ → List ℕ
+nodesOf n e v first count = take count (drop (first - foundAt n e) (v .restW))
 
 -- there are some, at most one for each turf
 pub record Nodes (n e first count : ℕ) (a : Area) : Type 0 where
   pub some : 0 < count
   pub few : count ≤ n
-  pub past : top n e ≤ first
+  pub past : foundAt n e ≤ first
   pub room : first + count ≤ length (a .words)
-  pub rows : Below n (nodesOf n e (view n e a) first count)
+  pub rows : Below n (nodesOf n e (planView n e a) first count)
 
 -- the nodes of the zone in hand
-abbrev pub zoneNodes : ZoneAt → Area → List ℕ
-zoneNodes zone a = nodesOf (zone .n) (zone .e) (view (zone .n) (zone .e) a) (zone .first) (zone .count)
+abbrev pub nodesInHand : ZoneAt → Area → List ℕ
+nodesInHand zone a = nodesOf (zone .n) (zone .e) (planView (zone .n) (zone .e) a) (zone .first) (zone .count)

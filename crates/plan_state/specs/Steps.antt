@@ -9,10 +9,10 @@ use Rattle.basics.specs.Loops.{if_then_else_}
 use Rattle.basics.specs.Floats.{0f, _+f_, _-f_}
 use Rattle.basics.specs.declared.Spot.{Spot}
 use Rattle.basics.specs.declared.Spot.the-variants.{At, Nowhere}
-use Rattle.plan_rules.specs.Edges.{alter}
-use Rattle.plan_rules.specs.Plan.{Plan, load, store, withDelta, withAmount, wants, more}
-use Rattle.plan_rules.specs.declared.MonstermosInfo.{MonstermosInfo}
-use Rattle.plan_rules.specs.declared.Side.{Side}
+use Rattle.rules_plan.specs.Edges.{alter}
+use Rattle.rules_plan.specs.Plan.{Plan, load, store, withDelta, withAmount, wants, more}
+use Rattle.rules_plan.specs.declared.MonstermosInfo.{MonstermosInfo}
+use Rattle.rules_plan.specs.declared.Side.{Side}
 
 -- the link that a word of `reverse` names, where the zone z owns it
 abbrev pub ownedBy : List ℕ → ℕ → ℕ → Spot

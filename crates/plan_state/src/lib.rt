@@ -1,17 +1,17 @@
-// A turf's planning state and the weights of a zone's edges, in the two work areas that a call is lent. Of n turfs and e links, the words hold
-// by link the owner and the reverse, then by row the direction and the link over which the turf was met, side by side, the fast mark, a queue, the
-// places in it and a list; the floats hold by link the weight, then by row the delta and the amount, side by side.
+// A turf's planning state and the weights of a zone's edges, in the two work areas that a call is lent, for n turfs and e links.
 ghost use mathlib.Core.Path.{_≡_};
-ghost use Prim.Native.Nat.{_+_, _≤_, _<_};
-ghost use lib.ListN.{length, getD, take, drop};
+ghost use Prim.Native.Nat.{_≤_, _<_};
+ghost use lib.ListN.{length, getD};
 ghost use Rattle.basics.specs.Lists.{Found};
 ghost use Rattle.basics.specs.Floats.{_+f_, _-f_};
-ghost use Rattle.plan_rules.specs.Edges.{alter};
-ghost use Rattle.plan_rules.specs.Plan.{load, store};
-ghost use Rattle.plan_state.specs.Held.{areaAt, view, Fit, Does};
+ghost use Rattle.scratch.specs.Layout.{reverseAt};
+ghost use Rattle.scratch.specs.View.{ownerIn, reverseIn};
+ghost use Rattle.rules_plan.specs.Edges.{alter};
+ghost use Rattle.rules_plan.specs.Plan.{load, store};
+ghost use Rattle.plan_state.specs.Held.{areaAt, planView, PlanFits, PlanDoes};
 ghost use Rattle.plan_state.specs.Steps.{backLink, adjustAt};
 use basics::Spot;
-use plan_rules::MonstermosInfo;
+use rules_plan::MonstermosInfo;
 
 // Where a zone stands: its number, its nodes, the `count` words from `first` on, what they hold together, and the turfs and links of the board.
 pub struct ZoneAt {
@@ -23,37 +23,17 @@ pub struct ZoneAt {
     pub e: usize,
 }
 
-// Where the list of givers or takers starts.
-pub fn list_at(n: usize, e: usize) -> usize
-    requires { ⌜ e ≤ 24576 ⌝ }
-    requires { ⌜ n ≤ 4096 ⌝ }
-    ensures { λ r. ⌜ r ≡ e + e + n + n + n + n + n ⌝ }
-{
-    e + e + n + n + n + n + n
-}
-
-// Where the total of zone z stands, past the floats of planning and the lifted weights.
-pub fn moles_at(z: usize, n: usize, e: usize) -> usize
-    requires { ⌜ e ≤ 24576 ⌝ }
-    requires { ⌜ n ≤ 4096 ⌝ }
-    requires { ⌜ z ≤ 4096 ⌝ }
-    ensures { λ r. ⌜ r ≡ e + n + n + e + z ⌝ }
-{
-    let totals = e + n + n + e;
-    totals + z
-}
-
 // The planning state of the turf at `row`.
 pub fn load(row: usize, n: usize, e: usize, words: &[u32], floats: &[f32]) -> MonstermosInfo
-    requires { ⌜ Fit n e (areaAt words floats) ⌝ }
+    requires { ⌜ PlanFits n e (areaAt words floats) ⌝ }
     requires { ⌜ row < n ⌝ }
-    ensures { λ r. ⌜ r ≡ load (view n e (areaAt (words .entry) (floats .entry)) .plan) row ⌝ }
+    ensures { λ r. ⌜ r ≡ load (planView n e (areaAt (words .entry) (floats .entry)) .plan) row ⌝ }
 {
     MonstermosInfo {
-        delta: floats[e + row + row],
-        amount: floats[e + row + row + 1],
-        direction: words[e + e + row + row],
-        fast: words[e + e + n + n + row],
+        delta: floats[scratch::delta_at(row, e)],
+        amount: floats[scratch::amount_at(row, e)],
+        direction: words[scratch::direction_at(row, e)],
+        fast: words[scratch::fast_at(row, n, e)],
     }
 }
 
@@ -66,25 +46,26 @@ pub fn store(
     words: &mut [u32],
     floats: &mut [f32],
 )
-    requires { ⌜ Fit n e (areaAt words floats) ⌝ }
+    requires { ⌜ PlanFits n e (areaAt words floats) ⌝ }
     requires { ⌜ row < n ⌝ }
-    ensures { λ _. ⌜ Does n e (λ o p. store p row info) (areaAt (words .entry) (floats .entry)) (areaAt (words .exit) (floats .exit)) ⌝ }
+    ensures { λ _. ⌜ PlanDoes n e (λ o p. store p row info) (areaAt (words .entry) (floats .entry)) (areaAt (words .exit) (floats .exit)) ⌝ }
 {
-    floats[e + row + row] = info.delta;
-    floats[e + row + row + 1] = info.amount;
-    words[e + e + row + row] = info.direction;
-    words[e + e + n + n + row] = info.fast;
+    floats[scratch::delta_at(row, e)] = info.delta;
+    floats[scratch::amount_at(row, e)] = info.amount;
+    words[scratch::direction_at(row, e)] = info.direction;
+    words[scratch::fast_at(row, n, e)] = info.fast;
 }
 
 // The reverse of the link k, where zone z owns it.
 pub fn back_link(k: usize, z: u32, e: usize, words: &[u32]) -> Spot
-    requires { ⌜ e + e ≤ length (now words) ⌝ }
+    requires { ⌜ reverseAt e e ≤ length (now words) ⌝ }
     requires { ⌜ k < e ⌝ }
-    requires { ⌜ getD (now words) (e + k) 0 ≤ e ⌝ }
+    requires { ⌜ getD (now words) (reverseAt k e) 0 ≤ e ⌝ }
     requires { ⌜ z < 4096 ⌝ }
-    ensures { λ r. ⌜ r ≡ backLink (take e (drop e (now (words .entry)))) (take e (now (words .entry))) z k ⌝ }
+    requires { ⌜ e ≤ 24576 ⌝ }
+    ensures { λ r. ⌜ r ≡ backLink (reverseIn e (now (words .entry))) (ownerIn e (now (words .entry))) z k ⌝ }
 {
-    let p = words[e + k] as usize;
+    let p = words[scratch::reverse_at(k, e)] as usize;
     if p == 0 {
         return Spot::Nowhere;
     }

@@ -6,9 +6,9 @@ use mathlib.Core.Bool.{Bool, true, false, not, _||_}
 use lib.Dec.{ltb, leb·zero, leb·suc-zero, leb·suc-suc, eqb·zero-suc, eqb·suc-zero}
 use lib.Ieee.{Float, nan, inf, fin, neg, lt, le, eq, ofBits, below, level}
 use Rattle.basics.specs.Floats.{0f}
-use Rattle.plan_rules.specs.Plan.{settled, wants, more}
-use Rattle.plan_rules.specs.declared.Side.{Side}
-use Rattle.plan_rules.specs.declared.Side.the-variants.{Giving, Taking}
+use Rattle.rules_plan.specs.Plan.{settled, wants, more}
+use Rattle.rules_plan.specs.declared.Side.{Side}
+use Rattle.rules_plan.specs.declared.Side.the-variants.{Giving, Taking}
 use Rattle.plan_tests.specs.Sides.{given}
 
 -- -a < 0, and -a ≤ 0

@@ -4,9 +4,9 @@ use mathlib.Core.Bool.{Bool, cond}
 use lib.Dec.{ltb}
 use lib.Ieee.{Float, neg}
 use Rattle.basics.specs.Loops.{if_then_else_}
-use Rattle.plan_rules.specs.declared.MonstermosInfo.{MonstermosInfo}
-use Rattle.plan_rules.specs.declared.Side.{Side}
-use Rattle.plan_rules.specs.declared.Side.the-variants.{Giving, Taking}
+use Rattle.rules_plan.specs.declared.MonstermosInfo.{MonstermosInfo}
+use Rattle.rules_plan.specs.declared.Side.{Side}
+use Rattle.rules_plan.specs.declared.Side.the-variants.{Giving, Taking}
 
 -- a giver's number as it is, a taker's negated
 abbrev pub given : Side → Float → Float

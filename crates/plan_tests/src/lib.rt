@@ -1,10 +1,10 @@
 // What planning decides by: the tests of a search's two sides, who gives and who takes, and when the fast pass is worth it.
 ghost use mathlib.Core.Path.{_≡_};
 ghost use Prim.Native.Nat.{_<_};
-ghost use Rattle.plan_rules.specs.Plan.{settled, wants, more, picks, log2};
+ghost use Rattle.rules_plan.specs.Plan.{settled, wants, more, picks, log2};
 ghost use Rattle.plan_tests.specs.Sides.{given, sideOf, marked};
-use plan_rules::MonstermosInfo;
-use plan_rules::Side;
+use rules_plan::MonstermosInfo;
+use rules_plan::Side;
 
 // A giver's number as it is, a taker's negated, so that one comparison serves both.
 fn given(side: Side, x: f32) -> f32

@@ -11,10 +11,10 @@ use lib.ListN.{length, getD, set, length-append, List·getD-append}
 use lib.Seq.{getD-set-other, getD-append-seam}
 use borrow.Author.Tests.{ltb-true}
 use Rattle.basics.specs.Loops.{run, times, member, snoc}
-use Rattle.board_rules.specs.Board.{Board, end}
-use Rattle.plan_rules.specs.Edges.{edgesOf}
-use Rattle.plan_rules.specs.Plan.{Seek, stopped, meet, seekTo, seekLink, seekRow, seekNext}
-use Rattle.plan_rules.specs.declared.Side.{Side}
+use Rattle.rules_board.specs.Board.{Board, end}
+use Rattle.rules_plan.specs.Edges.{edgesOf}
+use Rattle.rules_plan.specs.Plan.{Seek, stopped, meet, seekTo, seekLink, seekRow, seekNext}
+use Rattle.rules_plan.specs.declared.Side.{Side}
 use Rattle.index_set.proofs.Queue.{not-member}
 use Rattle.plan_trade.proofs.Trades.{meet-direction}
 

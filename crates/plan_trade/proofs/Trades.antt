@@ -1,7 +1,7 @@
 -- A turf that is met: what the code stores is what the definition stores, but for numbers that stay. Assumes nothing.
 use Prim.Native.Nat.{ℕ, _+_, _<_}
 use native.Mathlib.Decide.{ℕ-discrete}
-use mathlib.Core.Path.{_≡_, ap, _∙_, sym}
+use mathlib.Core.Path.{_≡_, refl, ap, _∙_, sym}
 use mathlib.Core.Logic.{_≢_}
 use mathlib.Core.List.{List}
 use mathlib.Core.Bool.{Bool, true, false, cond}
@@ -9,10 +9,11 @@ use lib.ListN.{length, getD, set, length-set}
 use lib.Seq.{set-getD, getD-set-same, getD-set-other}
 use lib.Ieee.{Float, nan}
 use Rattle.basics.specs.Floats.{0f, _+f_, _-f_}
-use Rattle.plan_rules.specs.Plan.{Plan, load, store, withDelta, wants, more, trade, meet}
-use Rattle.plan_rules.specs.declared.MonstermosInfo.{MonstermosInfo}
-use Rattle.plan_rules.specs.declared.Side.{Side}
-use Rattle.plan_state.specs.Held.{Area, area, view, Fit, Does}
+use Rattle.scratch.specs.Layout.{directionAt, deltaAt, amountAt}
+use Rattle.rules_plan.specs.Plan.{Plan, load, store, withDelta, wants, more, trade, meet}
+use Rattle.rules_plan.specs.declared.MonstermosInfo.{MonstermosInfo}
+use Rattle.rules_plan.specs.declared.Side.{Side}
+use Rattle.plan_state.specs.Held.{Area, area, planView, PlanFits, PlanDoes}
 use Rattle.plan_state.proofs.Stores.{does-as, does-then, store-same, amount-set, direction-set, delta-at}
 use Rattle.plan_trade.specs.declared.Both.{Both}
 use Rattle.plan_trade.specs.Steps.{bargain, point}
@@ -38,9 +39,9 @@ module _ (side : Side) (hand met : MonstermosInfo) where
   unfolding bargain
   bargain-some w m = simp (w, m)
 
-pub traded : (n e g a : ℕ) (side : Side) (hand met : MonstermosInfo) (both : Both) (A : Area) → hand ≡ load (view n e A .plan) g → met ≡ load (view n e A .plan) a
-    → both ≡ bargain side hand met → {B C : Area} → Does n e (λ o p. store p a (both .met)) A B → Does n e (λ o p. store p g (both .hand)) B C
-    → Does n e (λ o p. trade side g a p) A C
+pub traded : (n e g a : ℕ) (side : Side) (hand met : MonstermosInfo) (both : Both) (A : Area) → hand ≡ load (planView n e A .plan) g → met ≡ load (planView n e A .plan) a
+    → both ≡ bargain side hand met → {B C : Area} → PlanDoes n e (λ o p. store p a (both .met)) A B → PlanDoes n e (λ o p. store p g (both .hand)) B C
+    → PlanDoes n e (λ o p. trade side g a p) A C
 unfolding bargain trade
 traded n e g a side hand met both A eh em eb d d′ = does-as (does-then _ d d′) (rw (eb, eh, em))
 
@@ -78,25 +79,25 @@ pub meet-none : (side : Side) (g r a : ℕ) (s : Plan) → wants side (getD (s .
 unfolding meet point
 meet-none side g r a s t = trade-none side g a (point a (r + 1) s) t ∙ ap (trade side g a) (pointed-is r a s)
 
-pub pointed : (n e a d : ℕ) (w : List ℕ) (f : List Float) → a < n → Fit n e (area w f)
-    → Does n e (λ o p. point a d p) (area w f) (area (set w (e + e + a + a) d) (set f (e + a + a + 1) 0f))
+pub pointed : (n e a d : ℕ) (w : List ℕ) (f : List Float) → a < n → PlanFits n e (area w f)
+    → PlanDoes n e (λ o p. point a d p) (area w f) (area (set w (directionAt a e) d) (set f (amountAt a e) 0f))
 unfolding point
-pointed n e a d w f l h = let d₁ = direction-set n e a w f l h d in does-then _ d₁ (amount-set n e a (set w (e + e + a + a) d) f l (d₁ .fit) 0f)
+pointed n e a d w f l h = let d₁ = direction-set n e a w f l h d in does-then _ d₁ (amount-set n e a (set w (directionAt a e) d) f l (d₁ .fit) 0f)
 
-module _ (n e g r a : ℕ) (side : Side) {A : Area} {w : List ℕ} {f : List Float} (l : a < n) (d : Does n e (λ o p. point a (r + 1) p) A (area w f)) where
-  test : getD f (e + a + a) nan ≡ getD (view n e A .plan .delta) a nan
+module _ (n e g r a : ℕ) (side : Side) {A : Area} {w : List ℕ} {f : List Float} (l : a < n) (d : PlanDoes n e (λ o p. point a (r + 1) p) A (area w f)) where
+  test : getD f (deltaAt a e) nan ≡ getD (planView n e A .plan .delta) a nan
   unfolding point
   test = delta-at n e a w f l ∙ ap (λ v. getD (v .plan .delta) a nan) (d .same)
 
-  pub wanted : {t : Bool} → t ≡ wants side (getD f (e + a + a) nan) → t ≡ wants side (getD (view n e A .plan .delta) a nan)
-  wanted q = q ∙ ap (wants side) test
+  pub wanted : (at : ℕ) → at ≡ deltaAt a e → {t : Bool} → t ≡ wants side (getD f at nan) → t ≡ wants side (getD (planView n e A .plan .delta) a nan)
+  wanted at ea q = q ∙ ap (λ (i : ℕ). wants side (getD f i nan)) ea ∙ ap (wants side) test
 
-  pub met-none : wants side (getD f (e + a + a) nan) ≡ false → Does n e (λ o p. meet side g r a p) A (area w f)
-  met-none t = does-as d (meet-none side g r a (view n e A .plan) (rw test at t))
+  pub met-none : (at : ℕ) → at ≡ deltaAt a e → wants side (getD f at nan) ≡ false → PlanDoes n e (λ o p. meet side g r a p) A (area w f)
+  met-none at ea t = does-as d (meet-none side g r a (planView n e A .plan) (sym (wanted at ea refl) ∙ t))
 
-  pub met-some : {C : Area} → Does n e (λ o p. trade side g a p) (area w f) C → Does n e (λ o p. meet side g r a p) A C
+  pub met-some : {C : Area} → PlanDoes n e (λ o p. trade side g a p) (area w f) C → PlanDoes n e (λ o p. meet side g r a p) A C
   unfolding meet
-  met-some d′ = does-as (does-then _ d d′) (ap (trade side g a) (pointed-is r a (view n e A .plan)))
+  met-some d′ = does-as (does-then _ d d′) (ap (trade side g a) (pointed-is r a (planView n e A .plan)))
 
 -- a list after a number was set twice, and another one to what it was
 set-others : (xs : List Float) (a b g : ℕ) (x y : Float) → g < length xs → b ≢ a → getD (set (set (set xs a x) a y) g (getD (set xs a x) g nan)) b nan ≡ getD xs b nan

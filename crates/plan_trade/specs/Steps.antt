@@ -9,9 +9,9 @@ use Rattle.basics.specs.Loops.{if_then_else_}
 use Rattle.basics.specs.Floats.{0f, _+f_, _-f_}
 use Rattle.basics.specs.declared.Spot.{Spot}
 use Rattle.basics.specs.declared.Spot.the-variants.{At}
-use Rattle.plan_rules.specs.Plan.{Plan, Seek, load, withDelta, wants, more, seekTo}
-use Rattle.plan_rules.specs.declared.MonstermosInfo.{MonstermosInfo}
-use Rattle.plan_rules.specs.declared.Side.{Side}
+use Rattle.rules_plan.specs.Plan.{Plan, Seek, load, withDelta, wants, more, seekTo}
+use Rattle.rules_plan.specs.declared.MonstermosInfo.{MonstermosInfo}
+use Rattle.rules_plan.specs.declared.Side.{Side}
 use Rattle.plan_state.specs.Steps.{backLink, adjustAt}
 use Rattle.plan_trade.specs.declared.Both.{Both}
 

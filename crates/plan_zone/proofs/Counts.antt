@@ -2,16 +2,18 @@
 use Prim.Native.Nat.{ℕ, suc, _+_, _-_, _≤_, _<_}
 use native.Mathlib.Omega.{arith}
 use native.Mathlib.Numerals.{add-one}
-use mathlib.Core.Path.{_≡_, refl}
+use mathlib.Core.Path.{_≡_, refl, ap, _∙_, sym}
 use mathlib.Core.List.{List, [], _∷_}
 use mathlib.Core.Bool.{Bool, true, false, not, cond}
 use lib.ListN.{length, getD, drop, drop-of-length-le}
 use lib.Seq.{drop-cons}
 use lib.Ieee.{Float, nan}
 use Rattle.basics.specs.Loops.{keep, consIf}
-use Rattle.plan_rules.specs.Plan.{Plan, gives, picks, chosen}
-use Rattle.plan_rules.specs.declared.Side.the-variants.{Giving, Taking}
-use Rattle.plan_state.specs.Held.{Area, area, view, Nodes, nodesOf}
+use Rattle.scratch.specs.Layout.{deltaAt}
+use Rattle.rules_plan.specs.Plan.{Plan, gives, picks, chosen}
+use Rattle.rules_plan.specs.declared.Side.{Side}
+use Rattle.rules_plan.specs.declared.Side.the-variants.{Giving, Taking}
+use Rattle.plan_state.specs.Held.{Area, area, planView, Nodes, nodesOf}
 use Rattle.plan_state.proofs.Stores.{delta-at}
 use Rattle.plan_state.proofs.Nodes.{nodes-length, node-at, node-below}
 
@@ -45,21 +47,25 @@ chosen-all (x ∷ xs) s =
     go false ys zs h = omega arith
 
 module _ {n e first count : ℕ} {w : List ℕ} {f : List Float} (h : Nodes n e first count (area w f)) (i c : ℕ) where
-  pub count-next : i < count → (c′ : ℕ) → c′ ≡ cond (picks Giving (getD f (e + getD w (first + i) 0 + getD w (first + i) 0) nan)) (c + 1) c
-      → c + length (keep (λ r. picks Giving (getD (view n e (area w f) .plan .delta) r nan)) (drop i (nodesOf n e (view n e (area w f)) first count)))
-      ≡ c′ + length (keep (λ r. picks Giving (getD (view n e (area w f) .plan .delta) r nan)) (drop (i + 1) (nodesOf n e (view n e (area w f)) first count)))
+  pub count-next : i < count → (c′ : ℕ) → c′ ≡ cond (picks Giving (getD f (deltaAt (getD w (first + i) 0) e) nan)) (c + 1) c
+      → c + length (keep (λ r. picks Giving (getD (planView n e (area w f) .plan .delta) r nan)) (drop i (nodesOf n e (planView n e (area w f)) first count)))
+      ≡ c′ + length (keep (λ r. picks Giving (getD (planView n e (area w f) .plan .delta) r nan)) (drop (i + 1) (nodesOf n e (planView n e (area w f)) first count)))
   count-next l c′ ec =
       rw (ec, delta-at n e (getD w (first + i) 0) w f (node-below h i l), node-at h i l)
-      (keep-at (λ r. picks Giving (getD (view n e (area w f) .plan .delta) r nan)) (nodesOf n e (view n e (area w f)) first count) i c (rw (nodes-length h) l))
+      (keep-at (λ r. picks Giving (getD (planView n e (area w f) .plan .delta) r nan)) (nodesOf n e (planView n e (area w f)) first count) i c (rw (nodes-length h) l))
 
   pub count-end : count ≤ i
-      → c + length (keep (λ r. picks Giving (getD (view n e (area w f) .plan .delta) r nan)) (drop i (nodesOf n e (view n e (area w f)) first count))) ≡ c
+      → c + length (keep (λ r. picks Giving (getD (planView n e (area w f) .plan .delta) r nan)) (drop i (nodesOf n e (planView n e (area w f)) first count))) ≡ c
   count-end l =
-      rw (keep-stop (λ r. picks Giving (getD (view n e (area w f) .plan .delta) r nan)) (nodesOf n e (view n e (area w f)) first count) i (rw (nodes-length h) l)) (omega arith)
+      rw (keep-stop (λ r. picks Giving (getD (planView n e (area w f) .plan .delta) r nan)) (nodesOf n e (planView n e (area w f)) first count) i (rw (nodes-length h) l)) (omega arith)
+
+-- what a test told, of the place that it read
+pub picked-as : (side : Side) (f : List Float) (own at : ℕ) (t : Bool) {b : Bool} → own ≡ at → t ≡ picks side (getD f own nan) → t ≡ b → picks side (getD f at nan) ≡ b
+picked-as side f own at t q h u = sym (h ∙ ap (λ (i : ℕ). picks side (getD f i nan)) q) ∙ u
 
 pub cond-le : (t : Bool) (c : ℕ) → cond t (c + 1) c ≤ c + 1
 cond-le true c = omega arith
 cond-le false c = omega arith
 
-pub givers-le : {n e first count : ℕ} {a : Area} (g : ℕ) → Nodes n e first count a → g ≡ length (chosen Giving (nodesOf n e (view n e a) first count) (view n e a .plan)) → g ≤ count
-givers-le {n} {e} {first} {count} {a} g h eg = omega (arith, eg, chosen-all (nodesOf n e (view n e a) first count) (view n e a .plan), nodes-length h)
+pub givers-le : {n e first count : ℕ} {a : Area} (g : ℕ) → Nodes n e first count a → g ≡ length (chosen Giving (nodesOf n e (planView n e a) first count) (planView n e a .plan)) → g ≤ count
+givers-le {n} {e} {first} {count} {a} g h eg = omega (arith, eg, chosen-all (nodesOf n e (planView n e a) first count) (planView n e a .plan), nodes-length h)

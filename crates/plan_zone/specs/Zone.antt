@@ -5,8 +5,8 @@ use mathlib.Core.List.{List}
 use lib.ListN.{length, getD, take}
 use lib.Ieee.{Float}
 use Rattle.basics.specs.Floats.{_/f_, ofCount}
-use Rattle.plan_rules.specs.Plan.{Plan}
-use Rattle.plan_state.specs.Held.{Area, view, Fit, Frame}
+use Rattle.rules_plan.specs.Plan.{Plan}
+use Rattle.plan_state.specs.Held.{Area, planView, PlanFits, Frame}
 use Rattle.plan_state.specs.declared.ZoneAt.{ZoneAt}
 
 -- every turf's mixture lies in the gas
@@ -16,17 +16,17 @@ pub record Gassed (n : ℕ) (mixtures : List ℕ) (gases : ℕ) (gas : List Floa
 
 -- the list has the rows xs in its first k words; the queue, the places and `via` may be anything, and all else is as it was
 pub record Picked (n e : ℕ) (xs : List ℕ) (k : ℕ) (a a′ : Area) : Type 0 where
-  pub fit : Fit n e a′
+  pub fit : PlanFits n e a′
   pub few : k ≤ n
   pub frame : Frame n e a a′
-  pub plan : view n e a′ .plan ≡ view n e a .plan
-  pub list : take k (view n e a′ .list) ≡ xs
+  pub plan : planView n e a′ .plan ≡ planView n e a .plan
+  pub list : take k (planView n e a′ .list) ≡ xs
 
 -- from a to a′ by the step h of the plan; what searches work with may be anything afterwards
 pub record Plans (n e : ℕ) (h : List ℕ → Plan → Plan) (a a′ : Area) : Type 0 where
-  pub fit : Fit n e a′
+  pub fit : PlanFits n e a′
   pub frame : Frame n e a a′
-  pub plan : view n e a′ .plan ≡ h (view n e a .owner) (view n e a .plan)
+  pub plan : planView n e a′ .plan ≡ h (planView n e a .owner) (planView n e a .plan)
 
 -- what each node of the zone in hand would have, if all had the same
 abbrev pub averageOf : ZoneAt → Float

@@ -6,36 +6,38 @@ ghost use lib.Ieee.{nan};
 ghost use lib.ListN.{length, getD, take, set};
 ghost use Rattle.basics.specs.Loops.{run};
 ghost use Rattle.basics.specs.Floats.{0f};
+ghost use Rattle.scratch.specs.Layout.{Sizes, deltaAt};
 ghost use Rattle.turfs.specs.Tables.{boardAt};
-ghost use Rattle.plan_rules.specs.Plan.{store, picks, chosen, serve, fastPass, shareOut, deltas, planZone};
-ghost use Rattle.plan_rules.specs.declared.Side.the-variants.{Giving};
+ghost use Rattle.rules_plan.specs.Plan.{store, picks, chosen, serve, fastPass, shareOut, deltas, planZone};
+ghost use Rattle.rules_plan.specs.declared.Side.the-variants.{Giving};
 ghost use Rattle.index_set.specs.Line.{Below};
-ghost use Rattle.plan_state.specs.Held.{areaAt, view, Fit, Planning, Does, Serves, Nodes, zoneNodes};
+ghost use Rattle.plan_state.specs.Held.{areaAt, planView, PlanFits, Planning, PlanDoes, Serves, Nodes, nodesInHand};
 ghost use Rattle.plan_zone.specs.Zone.{Gassed, Picked, Plans, averageOf};
 use plan_fast::fast_all;
-use plan_rules::MonstermosInfo;
-use plan_rules::Side;
-use plan_search::Hand;
 use plan_search::serve;
 use plan_state::ZoneAt;
-use plan_state::list_at;
 use plan_state::store;
 use plan_tests::log2;
 use plan_tests::picks;
 use plan_tests::side_of;
+use plan_trade::Hand;
+use rules_plan::MonstermosInfo;
+use rules_plan::Side;
 use turfs::MIXTURES;
 use turfs::Marks;
 use turfs::Rows;
 
 // One more, if the turf r gives.
 fn count_one(r: u32, c: usize, zone: ZoneAt, floats: &[f32]) -> usize
-    requires { ⌜ zone .e + r + r < length (now floats) ⌝ }
+    requires { ⌜ deltaAt r (zone .e) < length (now floats) ⌝ }
     requires { ⌜ c < 4096 ⌝ }
-    ensures { λ k. ⌜ k ≡ cond (picks Giving (getD (now (floats .entry)) (zone .e + r + r) nan)) (c + 1) c ⌝ }
+    requires { ⌜ r < zone .n ⌝ }
+    requires { ⌜ Sizes (zone .n) (zone .e) ⌝ }
+    ensures { λ k. ⌜ k ≡ cond (picks Giving (getD (now (floats .entry)) (deltaAt r (zone .e)) nan)) (c + 1) c ⌝ }
 {
     let e = zone.e;
     let row = r as usize;
-    if picks(Side::Giving, floats[e + row + row]) {
+    if picks(Side::Giving, floats[scratch::delta_at(row, e)]) {
         c + 1
     } else {
         c
@@ -44,9 +46,9 @@ fn count_one(r: u32, c: usize, zone: ZoneAt, floats: &[f32]) -> usize
 
 // How many of the nodes give.
 fn count_givers(zone: ZoneAt, words: &[u32], floats: &[f32]) -> usize
-    requires { ⌜ Fit (zone .n) (zone .e) (areaAt words floats) ⌝ }
+    requires { ⌜ PlanFits (zone .n) (zone .e) (areaAt words floats) ⌝ }
     requires { ⌜ Nodes (zone .n) (zone .e) (zone .first) (zone .count) (areaAt words floats) ⌝ }
-    ensures { λ k. let a = areaAt (words .entry) (floats .entry) in ⌜ k ≡ length (chosen Giving (zoneNodes zone a) (view (zone .n) (zone .e) a .plan)) ⌝ }
+    ensures { λ k. let a = areaAt (words .entry) (floats .entry) in ⌜ k ≡ length (chosen Giving (nodesInHand zone a) (planView (zone .n) (zone .e) a .plan)) ⌝ }
 {
     let first = zone.first;
     let count = zone.count;
@@ -70,14 +72,16 @@ fn choose(
     floats: &[f32],
 ) -> usize
     requires { ⌜ list + c < length (now words) ⌝ }
-    requires { ⌜ zone .e + r + r < length (now floats) ⌝ }
+    requires { ⌜ deltaAt r (zone .e) < length (now floats) ⌝ }
     requires { ⌜ c < 4096 ⌝ }
-    ensures { λ k. ⌜ k ≡ cond (picks side (getD (now (floats .entry)) (zone .e + r + r) nan)) (c + 1) c ⌝ }
-    ensures { λ _. ⌜ now (words .exit) ≡ cond (picks side (getD (now (floats .entry)) (zone .e + r + r) nan)) (set (now (words .entry)) (list + c) r) (now (words .entry)) ⌝ }
+    requires { ⌜ r < zone .n ⌝ }
+    requires { ⌜ Sizes (zone .n) (zone .e) ⌝ }
+    ensures { λ k. ⌜ k ≡ cond (picks side (getD (now (floats .entry)) (deltaAt r (zone .e)) nan)) (c + 1) c ⌝ }
+    ensures { λ _. ⌜ now (words .exit) ≡ cond (picks side (getD (now (floats .entry)) (deltaAt r (zone .e)) nan)) (set (now (words .entry)) (list + c) r) (now (words .entry)) ⌝ }
 {
     let e = zone.e;
     let row = r as usize;
-    if picks(side, floats[e + row + row]) {
+    if picks(side, floats[scratch::delta_at(row, e)]) {
         words[list + c] = r;
         return c + 1;
     }
@@ -86,13 +90,13 @@ fn choose(
 
 // The list of the nodes that give, or that take: it answers how many.
 fn gather(side: Side, zone: ZoneAt, words: &mut [u32], floats: &[f32]) -> usize
-    requires { ⌜ Fit (zone .n) (zone .e) (areaAt words floats) ⌝ }
+    requires { ⌜ PlanFits (zone .n) (zone .e) (areaAt words floats) ⌝ }
     requires { ⌜ Nodes (zone .n) (zone .e) (zone .first) (zone .count) (areaAt words floats) ⌝ }
-    ensures { λ k. let a = areaAt (words .entry) (floats .entry) in ⌜ Picked (zone .n) (zone .e) (chosen side (zoneNodes zone a) (view (zone .n) (zone .e) a .plan)) k a (areaAt (words .exit) (floats .exit)) ⌝ }
+    ensures { λ k. let a = areaAt (words .entry) (floats .entry) in ⌜ Picked (zone .n) (zone .e) (chosen side (nodesInHand zone a) (planView (zone .n) (zone .e) a .plan)) k a (areaAt (words .exit) (floats .exit)) ⌝ }
 {
     let first = zone.first;
     let count = zone.count;
-    let list = list_at(zone.n, zone.e);
+    let list = scratch::list_at(zone.n, zone.e);
     let mut c = 0;
     let mut i = 0;
     while i < count {
@@ -115,13 +119,13 @@ fn serve_all(
 )
     requires { ⌜ Planning (boardAt rows marks gases) (zone .n) (zone .e) (zone .z) (areaAt words floats) ⌝ }
     requires { ⌜ listed ≤ zone .n ⌝ }
-    requires { ⌜ Below (zone .n) (take listed (view (zone .n) (zone .e) (areaAt words floats) .list)) ⌝ }
-    ensures { λ _. let b = boardAt (rows .entry) (marks .entry) gases in let a = areaAt (words .entry) (floats .entry) in ⌜ Serves (zone .n) (zone .e) (λ o p. run (serve b o (zone .z) side) (take listed (view (zone .n) (zone .e) a .list)) p) a (areaAt (words .exit) (floats .exit)) ⌝ }
+    requires { ⌜ Below (zone .n) (take listed (planView (zone .n) (zone .e) (areaAt words floats) .list)) ⌝ }
+    ensures { λ _. let b = boardAt (rows .entry) (marks .entry) gases in let a = areaAt (words .entry) (floats .entry) in ⌜ Serves (zone .n) (zone .e) (λ o p. run (serve b o (zone .z) side) (take listed (planView (zone .n) (zone .e) a .list)) p) a (areaAt (words .exit) (floats .exit)) ⌝ }
 {
     let z = zone.z;
     let n = zone.n;
     let e = zone.e;
-    let list = list_at(n, e);
+    let list = scratch::list_at(n, e);
     let mut i = 0;
     while i < listed {
         let g = words[list + i] as usize;
@@ -142,7 +146,7 @@ fn fast_pass(
 )
     requires { ⌜ Planning (boardAt rows marks gases) (zone .n) (zone .e) (zone .z) (areaAt words floats) ⌝ }
     requires { ⌜ Nodes (zone .n) (zone .e) (zone .first) (zone .count) (areaAt words floats) ⌝ }
-    ensures { λ _. let b = boardAt (rows .entry) (marks .entry) gases in let a = areaAt (words .entry) (floats .entry) in ⌜ Does (zone .n) (zone .e) (λ o p. fastPass b o (zone .z) (zoneNodes zone a) p) a (areaAt (words .exit) (floats .exit)) ⌝ }
+    ensures { λ _. let b = boardAt (rows .entry) (marks .entry) gases in let a = areaAt (words .entry) (floats .entry) in ⌜ PlanDoes (zone .n) (zone .e) (λ o p. fastPass b o (zone .z) (nodesInHand zone a) p) a (areaAt (words .exit) (floats .exit)) ⌝ }
 {
     let count = zone.count;
     let givers = count_givers(zone, words, floats);
@@ -166,7 +170,7 @@ fn share_out(
 )
     requires { ⌜ Planning (boardAt rows marks gases) (zone .n) (zone .e) (zone .z) (areaAt words floats) ⌝ }
     requires { ⌜ Nodes (zone .n) (zone .e) (zone .first) (zone .count) (areaAt words floats) ⌝ }
-    ensures { λ _. let b = boardAt (rows .entry) (marks .entry) gases in let a = areaAt (words .entry) (floats .entry) in ⌜ Plans (zone .n) (zone .e) (λ o p. shareOut b o (zone .z) (zoneNodes zone a) p) a (areaAt (words .exit) (floats .exit)) ⌝ }
+    ensures { λ _. let b = boardAt (rows .entry) (marks .entry) gases in let a = areaAt (words .entry) (floats .entry) in ⌜ Plans (zone .n) (zone .e) (λ o p. shareOut b o (zone .z) (nodesInHand zone a) p) a (areaAt (words .exit) (floats .exit)) ⌝ }
 {
     let count = zone.count;
     let givers = count_givers(zone, words, floats);
@@ -177,9 +181,9 @@ fn share_out(
 
 // The planning state of a turf at first.
 fn first_delta(row: usize, delta: f32, n: usize, e: usize, words: &mut [u32], floats: &mut [f32])
-    requires { ⌜ Fit n e (areaAt words floats) ⌝ }
+    requires { ⌜ PlanFits n e (areaAt words floats) ⌝ }
     requires { ⌜ row < n ⌝ }
-    ensures { λ _. ⌜ Does n e (λ o p. store p row (record { delta = delta; amount = 0f; direction = 0; fast = 0 })) (areaAt (words .entry) (floats .entry)) (areaAt (words .exit) (floats .exit)) ⌝ }
+    ensures { λ _. ⌜ PlanDoes n e (λ o p. store p row (record { delta = delta; amount = 0f; direction = 0; fast = 0 })) (areaAt (words .entry) (floats .entry)) (areaAt (words .exit) (floats .exit)) ⌝ }
 {
     let info = MonstermosInfo {
         delta,
@@ -201,9 +205,9 @@ fn all_deltas(
     floats: &mut [f32],
 )
     requires { let b = boardAt rows marks gases in ⌜ Gassed (zone .n) (b .mixtures) gases (now gas) ⌝ }
-    requires { ⌜ Fit (zone .n) (zone .e) (areaAt words floats) ⌝ }
+    requires { ⌜ PlanFits (zone .n) (zone .e) (areaAt words floats) ⌝ }
     requires { ⌜ Nodes (zone .n) (zone .e) (zone .first) (zone .count) (areaAt words floats) ⌝ }
-    ensures { λ _. let b = boardAt (rows .entry) (marks .entry) gases in let a = areaAt (words .entry) (floats .entry) in ⌜ Does (zone .n) (zone .e) (λ o p. deltas b o (zone .z) (now (gas .entry)) (zoneNodes zone a) (averageOf zone) p) a (areaAt (words .exit) (floats .exit)) ⌝ }
+    ensures { λ _. let b = boardAt (rows .entry) (marks .entry) gases in let a = areaAt (words .entry) (floats .entry) in ⌜ PlanDoes (zone .n) (zone .e) (λ o p. deltas b o (zone .z) (now (gas .entry)) (nodesInHand zone a) (averageOf zone) p) a (areaAt (words .exit) (floats .exit)) ⌝ }
 {
     let first = zone.first;
     let count = zone.count;
@@ -215,7 +219,7 @@ fn all_deltas(
     let mut i = 0;
     while i < count {
         let row = words[first + i] as usize;
-        let moles = mixture::total(mixtures, gas, gases, row);
+        let moles = mixture::total(mixtures, gases, gas, row);
         first_delta(row, moles - average, n, e, words, floats);
         i += 1;
     }
@@ -234,7 +238,7 @@ pub fn process_zone(
     requires { let b = boardAt rows marks gases in ⌜ Gassed (zone .n) (b .mixtures) gases (now gas) ⌝ }
     requires { ⌜ Planning (boardAt rows marks gases) (zone .n) (zone .e) (zone .z) (areaAt words floats) ⌝ }
     requires { ⌜ Nodes (zone .n) (zone .e) (zone .first) (zone .count) (areaAt words floats) ⌝ }
-    ensures { λ _. let b = boardAt (rows .entry) (marks .entry) gases in let a = areaAt (words .entry) (floats .entry) in ⌜ Plans (zone .n) (zone .e) (λ o p. planZone b o (zone .z) (now (gas .entry)) (zoneNodes zone a) (zone .moles) p) a (areaAt (words .exit) (floats .exit)) ⌝ }
+    ensures { λ _. let b = boardAt (rows .entry) (marks .entry) gases in let a = areaAt (words .entry) (floats .entry) in ⌜ Plans (zone .n) (zone .e) (λ o p. planZone b o (zone .z) (now (gas .entry)) (nodesInHand zone a) (zone .moles) p) a (areaAt (words .exit) (floats .exit)) ⌝ }
 {
     all_deltas(zone, rows, marks, gases, gas, words, floats);
     fast_pass(zone, rows, marks, gases, words, floats);

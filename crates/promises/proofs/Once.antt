@@ -4,22 +4,22 @@ use mathlib.Core.Path.{_≡_, ap, _∙_, sym}
 use mathlib.Core.List.{List, _++_}
 use Prim.Native.Nat.{ℕ}
 use lib.ListN.{take, drop}
-use Rattle.board_rules.specs.Board.{Board}
+use Rattle.rules_board.specs.Board.{Board}
 use Rattle.events.specs.Area.{Wrote}
-use Rattle.event_rules.specs.Events.{Put, put, readAt}
-use Rattle.event_rules.specs.Lister.{listing}
+use Rattle.rules_events.specs.Events.{Put, put, readAt}
+use Rattle.rules_events.specs.Lister.{listing}
 use Rattle.events.specs.Interface.{WriteEvent, readEvent, writeEvent}
-use Rattle.event_rules.specs.declared.Event.{Event}
-use Rattle.event_rules.specs.declared.Reading.{Reading}
-use Rattle.lent_rules.specs.Lent.{Lent, Result, Extra, refusal}
-use Rattle.equalize_rules.specs.Equalize.{Ask}
-use Rattle.equalize_rules.specs.Result.{equalizeResult}
-use Rattle.equalize_rules.specs.declared.EqualizeAnswer.{EqualizeAnswer}
-use Rattle.depressurize_rules.specs.Depressurize.{depressurizeResult}
-use Rattle.depressurize_rules.specs.declared.DepressurizeAnswer.{DepressurizeAnswer}
-use Rattle.planet_rules.specs.Planet.{planetResult}
-use Rattle.planet_rules.specs.declared.PlanetAnswer.{PlanetAnswer}
-use Rattle.answers.specs.Answers.{Answers}
+use Rattle.rules_events.specs.declared.Event.{Event}
+use Rattle.rules_events.specs.declared.Reading.{Reading}
+use Rattle.rules_lent.specs.Lent.{Lent, Result, Extra, refusal}
+use Rattle.rules_equalize.specs.Equalize.{Ask}
+use Rattle.rules_equalize.specs.Result.{equalizeResult}
+use Rattle.rules_equalize.specs.declared.EqualizeAnswer.{EqualizeAnswer}
+use Rattle.rules_depressurize.specs.Depressurize.{depressurizeResult}
+use Rattle.rules_depressurize.specs.declared.DepressurizeAnswer.{DepressurizeAnswer}
+use Rattle.rules_planet.specs.Planet.{planetResult}
+use Rattle.rules_planet.specs.declared.PlanetAnswer.{PlanetAnswer}
+use Rattle.call_answers.specs.Answers.{Answers}
 
 -- an equation with one result allows one outcome
 once : {A : Type 0} (x o o′ : A) → o ≡ x → o′ ≡ x → o ≡ o′

@@ -1,6 +1,6 @@
 // Board A lent with one thing wrong at a time, once with two: a line for each, with the number of its refusal.
 use lent::ExtraTests;
-use lent::Room;
+use lent_room::Room;
 use libc::STDOUT_FILENO;
 
 // What may differ from board A: the second turf's id, its neighbour, where its links start; the gases; the amounts; the event bytes for a turf.

@@ -14,8 +14,8 @@ use Rattle.basics.specs.Loops.{upFrom, member}
 use Rattle.basics.specs.Lists.{All}
 use Rattle.basics.proofs.Loops.{All-getD, every-all, and-left, and-right, all-of}
 use Rattle.basics.proofs.Lists.{at-member}
-use Rattle.board_rules.specs.Board.{Board, turfCount, linkCount, neighboursOf, degree}
-use Rattle.board_rules.specs.Refuse.{rising, distinct, rowFits, linksFit}
+use Rattle.rules_board.specs.Board.{Board, turfCount, linkCount, neighboursOf, degree}
+use Rattle.rules_board.specs.Refuse.{rising, distinct, rowFits, linksFit}
 use Rattle.turfs.proofs.Order.{rising-to}
 use Rattle.reverse_links.specs.Reverse.{InRow, Linked}
 

@@ -8,7 +8,7 @@ use lib.ListN.{length, getD}
 use Rattle.basics.specs.Loops.{first}
 use Rattle.basics.specs.declared.Spot.{Spot}
 use Rattle.basics.specs.declared.Spot.the-variants.{At, Nowhere}
-use Rattle.board_rules.specs.Board.{Board, end, linksOf}
+use Rattle.rules_board.specs.Board.{Board, end, linksOf}
 
 -- k is a link of the turf r
 pub record InRow (starts : List ℕ) (r k : ℕ) : Type 0 where
@@ -30,10 +30,10 @@ unfoldable pub reverseOf : Board → ℕ → ℕ → Spot
 reverseOf b r k = first (λ j. eqb (end b j) r) (linksOf b (end b k))
 
 -- a search's answer as a word: the place + 1, and 0 for none
-abbrev pub wordOf : Spot → ℕ
-wordOf (At k) = k + 1
-wordOf Nowhere = 0
+abbrev pub wordFor : Spot → ℕ
+wordFor (At k) = k + 1
+wordFor Nowhere = 0
 
 -- the words say of each link of the board's n turfs which one leads back
 pub record Reverses (b : Board) (n : ℕ) (reverse : List ℕ) : Type 0 where
-  pub at : (r k : ℕ) → r < n → InRow (b .starts) r k → getD reverse k 0 ≡ wordOf (reverseOf b r k)
+  pub at : (r k : ℕ) → r < n → InRow (b .starts) r k → getD reverse k 0 ≡ wordFor (reverseOf b r k)

@@ -2,7 +2,9 @@
 // leads back are found together, by a look through the shorter of their two rows.
 ghost use mathlib.Core.Path.{_≡_};
 ghost use Prim.Native.Nat.{_+_, _≤_, _<_};
-ghost use lib.ListN.{length, getD, take, drop};
+ghost use lib.ListN.{length, getD};
+ghost use Rattle.scratch.specs.Layout.{reverseAt};
+ghost use Rattle.scratch.specs.View.{reverseIn};
 ghost use Rattle.reverse_links.specs.Words.{But, found, Pairing, OfRow, Paired, Backs};
 
 // The first link from `from` to `to` that ends at the turf r, as a word.
@@ -35,10 +37,11 @@ fn pair(
     requires { ⌜ Pairing n e (now starts) (now neighbours) (now words) ⌝ }
     requires { ⌜ OfRow n (now starts) r k size ⌝ }
     requires { ⌜ Paired (now starts) (now neighbours) n e k (now words) ⌝ }
-    ensures { λ _. ⌜ But e (e + e) (now (words .entry)) (now (words .exit)) ⌝ }
+    ensures { λ _. ⌜ But e (reverseAt e e) (now (words .entry)) (now (words .exit)) ⌝ }
     ensures { λ _. ⌜ Paired (now (starts .entry)) (now (neighbours .entry)) n e (k + 1) (now (words .exit)) ⌝ }
 {
-    if words[e + k] != 0 {
+    let here = scratch::reverse_at(k, e);
+    if words[here] != 0 {
         return;
     }
     let a = neighbours[k] as usize;
@@ -51,8 +54,9 @@ fn pair(
     if p == 0 {
         return;
     }
-    words[e + k] = p;
-    words[e + (p as usize - 1)] = k as u32 + 1;
+    let there = scratch::reverse_at(p as usize - 1, e);
+    words[here] = p;
+    words[there] = k as u32 + 1;
 }
 
 // The links of the turf r.
@@ -60,7 +64,7 @@ fn pair_row(r: usize, starts: &[u32], neighbours: &[u32], n: usize, e: usize, wo
     requires { ⌜ Pairing n e (now starts) (now neighbours) (now words) ⌝ }
     requires { ⌜ r < n ⌝ }
     requires { ⌜ Paired (now starts) (now neighbours) n e (getD (now starts) r 0) (now words) ⌝ }
-    ensures { λ _. ⌜ But e (e + e) (now (words .entry)) (now (words .exit)) ⌝ }
+    ensures { λ _. ⌜ But e (reverseAt e e) (now (words .entry)) (now (words .exit)) ⌝ }
     ensures { λ _. ⌜ Paired (now (starts .entry)) (now (neighbours .entry)) n e (getD (now (starts .entry)) (r + 1) 0) (now (words .exit)) ⌝ }
 {
     let from = starts[r] as usize;
@@ -76,7 +80,7 @@ fn pair_row(r: usize, starts: &[u32], neighbours: &[u32], n: usize, e: usize, wo
 fn pair_rows(starts: &[u32], neighbours: &[u32], n: usize, e: usize, words: &mut [u32])
     requires { ⌜ Pairing n e (now starts) (now neighbours) (now words) ⌝ }
     requires { ⌜ Paired (now starts) (now neighbours) n e 0 (now words) ⌝ }
-    ensures { λ _. ⌜ But e (e + e) (now (words .entry)) (now (words .exit)) ⌝ }
+    ensures { λ _. ⌜ But e (reverseAt e e) (now (words .entry)) (now (words .exit)) ⌝ }
     ensures { λ _. ⌜ Paired (now (starts .entry)) (now (neighbours .entry)) n e e (now (words .exit)) ⌝ }
 {
     let mut r = 0;
@@ -89,8 +93,8 @@ fn pair_rows(starts: &[u32], neighbours: &[u32], n: usize, e: usize, words: &mut
 // The reverses of all links.
 pub fn find_reverses(starts: &[u32], neighbours: &[u32], n: usize, e: usize, words: &mut [u32])
     requires { ⌜ Pairing n e (now starts) (now neighbours) (now words) ⌝ }
-    ensures { λ _. ⌜ But e (e + e) (now (words .entry)) (now (words .exit)) ⌝ }
-    ensures { λ _. ⌜ Backs n (now (starts .entry)) (now (neighbours .entry)) (take e (drop e (now (words .exit)))) ⌝ }
+    ensures { λ _. ⌜ But e (reverseAt e e) (now (words .entry)) (now (words .exit)) ⌝ }
+    ensures { λ _. ⌜ Backs n (now (starts .entry)) (now (neighbours .entry)) (reverseIn e (now (words .exit))) ⌝ }
 {
     basics::clear_part(words, e, e);
     pair_rows(starts, neighbours, n, e, words);

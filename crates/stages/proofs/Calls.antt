@@ -7,33 +7,33 @@ use mathlib.Core.List.{List, []}
 use mathlib.Core.Bool.{true, false, true≢false}
 use lib.Ieee.{Float}
 use lib.ListN.{length}
-use Rattle.board_rules.specs.Board.{Board, turfCount, linkCount}
-use Rattle.lent_rules.specs.Lent.{Lent, refusal}
+use Rattle.rules_board.specs.Board.{Board, turfCount, linkCount}
+use Rattle.rules_lent.specs.Lent.{Lent, refusal}
 use Rattle.lent.specs.Given.{lent}
 use Rattle.plan_all.specs.Zones.{Plannable, Zoned, PlansAll}
 use Rattle.plan_all.proofs.Asked.{plan-asks}
-use Rattle.equalize_rules.specs.Equalize.{Ask, fillAll}
-use Rattle.equalize_rules.specs.Result.{equalizeNumber}
-use Rattle.equalize.proofs.Zones.{test-room}
-use Rattle.equalize.proofs.Room.{requests-bytes}
+use Rattle.rules_equalize.specs.Equalize.{Ask, fillAll}
+use Rattle.rules_equalize.specs.Result.{equalizeNumber}
+use Rattle.laws_equalize.proofs.Zones.{test-room}
+use Rattle.laws_equalize.proofs.Room.{requests-bytes}
 use Rattle.fill_all.specs.Held.{start, FillsAll}
 use Rattle.fill_all.specs.declared.Filling.{Filling}
 use Rattle.fill_all.proofs.Asked.{let-pass, let-links}
 use Rattle.fill_all.proofs.Words.{nodes-few, tests-are}
-use Rattle.stages.specs.Stages.{Fills, Few, Plans}
+use Rattle.stages.specs.Stages.{StageFills, Few, StagePlans}
 use Rattle.stages.proofs.Planning.{plan-comes}
 
 module _ (b : Board) (q : Ask) (l : Lent) where
   module _ {number : ℕ} (r : number ≡ equalizeNumber b q [] l) where
-    pub refused-fills : (number ≡ 0 → ⊥) → Fills b q l l number start
+    pub refused-fills : (number ≡ 0 → ⊥) → StageFills b q l l number start
     refused-fills z = record { refusal = r; refused = λ _. (refl, refl); done = λ e. absurd (z e) }
 
     module _ (z : number ≡ 0) where
-      pub done-fills : {l′ : Lent} {s : Filling} → FillsAll (turfCount b) (linkCount b) (fillAll b (l .gas) q) s (l .words) (l′ .words) (l .floats) (l′ .floats) (l .area) (l′ .area) → Fills b q l l′ 0 s
+      pub done-fills : {l′ : Lent} {s : Filling} → FillsAll (turfCount b) (linkCount b) (fillAll b (l .gas) q) s (l .words) (l′ .words) (l .floats) (l′ .floats) (l .area) (l′ .area) → StageFills b q l l′ 0 s
       done-fills d = record { refusal = sym z ∙ r; refused = λ n. absurd (n refl); done = λ _. d }
 
   -- every count of the answer is small
-  pub few : {l′ : Lent} {number : ℕ} {s : Filling} → Fills b q l l′ number s → Few s
+  pub few : {l′ : Lent} {number : ℕ} {s : Filling} → StageFills b q l l′ number s → Few s
   few {l′} {number} {s} f = go (ℕ-discrete number 0)
     where
       go : Dec (number ≡ 0) → Few s
@@ -49,14 +49,14 @@ module _ (b : Board) (q : Ask) (l : Lent) where
           }
 
   -- a refusal, or a clock that ran out: nothing is planned
-  pub refused-plans : {l′ : Lent} {number : ℕ} {s : Filling} → Fills b q l l′ number s → (number ≡ 0 → ⊥) → Plans b q l l′ number s
+  pub refused-plans : {l′ : Lent} {number : ℕ} {s : Filling} → StageFills b q l l′ number s → (number ≡ 0 → ⊥) → StagePlans b q l l′ number s
   refused-plans {l′} f z = record { left = l′; fills = f; refused = λ _. refl; cancelled = λ _. refl; planned = λ e. absurd (z e) }
 
-  pub cancelled-plans : {l′ : Lent} {number : ℕ} {s : Filling} → Fills b q l l′ number s → s .cancelled ≡ true → Plans b q l l′ number s
+  pub cancelled-plans : {l′ : Lent} {number : ℕ} {s : Filling} → StageFills b q l l′ number s → s .cancelled ≡ true → StagePlans b q l l′ number s
   cancelled-plans {l′} f c = record { left = l′; fills = f; refused = λ _. refl; cancelled = λ _. refl; planned = λ _ k. absurd (true≢false (sym c ∙ k)) }
 
   -- filling is done: the tables are such as planning asks for, and then planned
-  module _ {left : Lent} {number : ℕ} {s : Filling} (f : Fills b q l left number s) (z : number ≡ 0) where
+  module _ {left : Lent} {number : ℕ} {s : Filling} (f : StageFills b q l left number s) (z : number ≡ 0) where
     passes : equalizeNumber b q [] l ≡ 0
     passes = sym (f .refusal) ∙ z
 
@@ -67,7 +67,7 @@ module _ (b : Board) (q : Ask) (l : Lent) where
         plan-asks b q (l .gas) s (f .done z) (p .board) (let-links b q [] l passes) (omega (arith, lw, p .words)) (omega (arith, lf, p .floats))
 
     pub planned-plans : s .cancelled ≡ false → {w : List ℕ} {r : List Float}
-        → PlansAll (turfCount b) (linkCount b) (s .zones) b (l .gas) (left .words) w (left .floats) r → Plans b q l (lent (l .gas) (left .area) w r) number s
+        → PlansAll (turfCount b) (linkCount b) (s .zones) b (l .gas) (left .words) w (left .floats) r → StagePlans b q l (lent (l .gas) (left .area) w r) number s
     planned-plans c r = record {
       left = left;
       fills = f;

@@ -1,8 +1,8 @@
 // The parts of equalize on their own, for tests that look at what each part leaves: the scratch isn't cleared.
-use equalize::bit;
 use fill_all::Filling;
-use fill_rules::Settings;
-use lent::Room;
+use lent_equalize::bit;
+use lent_room::Room;
+use rules_fill::Settings;
 use turfs::Marks;
 use turfs::Rows;
 ghost use mathlib.Core.Path.{_≡_};
@@ -10,9 +10,9 @@ ghost use mathlib.Core.List.{[]};
 ghost use Prim.Native.Nat.{ℕ};
 ghost use Rattle.turfs.specs.Tables.{board, boardAt};
 ghost use Rattle.lent.specs.Given.{lentAt};
-ghost use Rattle.equalize_rules.specs.Result.{equalizeNumber};
-ghost use Rattle.fill_all.specs.Held.{ask, asked};
-ghost use Rattle.stages.specs.Stages.{Fills, Few, fillNumbers, FillAnswers, Plans, PlanAnswers};
+ghost use Rattle.rules_equalize.specs.Result.{equalizeNumber};
+ghost use Rattle.fill_all.specs.Held.{askOf, asked};
+ghost use Rattle.stages.specs.Stages.{StageFills, Few, fillNumbers, FillAnswers, StagePlans, PlanAnswers};
 
 // What filling answers: its number, and what it came to.
 pub struct FillAnswer {
@@ -46,9 +46,9 @@ fn refusal(
     events: &[u8],
 ) -> u32
     ensures { λ r. let b = boardAt (rows .entry) (marks .entry) gases in
-        ⌜ ((limit allowance : ℕ) → r ≡ equalizeNumber b (ask (now (hot .entry)) threshold limit allowance) [] (lentAt (gas .entry) (events .entry) (words .entry) (floats .entry))) ⌝ }
+        ⌜ ((limit allowance : ℕ) → r ≡ equalizeNumber b (askOf (now (hot .entry)) threshold limit allowance) [] (lentAt (gas .entry) (events .entry) (words .entry) (floats .entry))) ⌝ }
 {
-    let extra = equalize::extra_tests(hot, 0, threshold);
+    let extra = lent_equalize::extra_tests(hot, 0, threshold);
     let room = Room {
         per_turf: 16,
         per_link: 20,
@@ -68,7 +68,7 @@ pub fn fill(
     floats: &mut [f32],
     events: &mut [u8],
 ) -> FillAnswer
-    ensures { λ r. let b = boardAt (rows .entry) (marks .entry) gases in ⌜ Fills b (asked (now (hot .entry)) settings)
+    ensures { λ r. let b = boardAt (rows .entry) (marks .entry) gases in ⌜ StageFills b (asked (now (hot .entry)) settings)
         (lentAt (gas .entry) (events .entry) (words .entry) (floats .entry)) (lentAt (gas .entry) (events .exit) (words .exit) (floats .exit)) (r .number) (r .filling) ⌝ }
 {
     let number = refusal(
@@ -118,7 +118,7 @@ pub fn plan(
     floats: &mut [f32],
     events: &mut [u8],
 ) -> FillAnswer
-    ensures { λ r. let b = boardAt (rows .entry) (marks .entry) gases in ⌜ Plans b (asked (now (hot .entry)) settings)
+    ensures { λ r. let b = boardAt (rows .entry) (marks .entry) gases in ⌜ StagePlans b (asked (now (hot .entry)) settings)
         (lentAt (gas .entry) (events .entry) (words .entry) (floats .entry)) (lentAt (gas .entry) (events .exit) (words .exit) (floats .exit)) (r .number) (r .filling) ⌝ }
 {
     let a = fill(
@@ -173,7 +173,7 @@ pub extern "C" fn stages_fill<'a>(
     answer: &mut [u32; 6],
 ) -> u32
     ensures { λ r. let b = board (now (ids .entry)) (now (flags .entry)) (now (planetary .entry)) (now (mixtures .entry)) (now (starts .entry)) (now (neighbours .entry)) (now («link_flags» .entry)) (now (immutable .entry)) gases in
-        ⌜ FillAnswers b (ask (now (hot .entry)) threshold limit allowance) (lentAt (amounts .entry) (events .entry) (words .entry) (floats .entry)) (lentAt (amounts .entry) (events .exit) (words .exit) (floats .exit)) r (now (answer .exit)) ⌝ }
+        ⌜ FillAnswers b (askOf (now (hot .entry)) threshold limit allowance) (lentAt (amounts .entry) (events .entry) (words .entry) (floats .entry)) (lentAt (amounts .entry) (events .exit) (words .exit) (floats .exit)) r (now (answer .exit)) ⌝ }
 {
     let rows = [ids, mixtures, starts, neighbours];
     let marks = [flags, planetary, link_flags, immutable];
@@ -220,7 +220,7 @@ pub extern "C" fn stages_plan<'a>(
     answer: &mut [u32; 6],
 ) -> u32
     ensures { λ r. let b = board (now (ids .entry)) (now (flags .entry)) (now (planetary .entry)) (now (mixtures .entry)) (now (starts .entry)) (now (neighbours .entry)) (now («link_flags» .entry)) (now (immutable .entry)) gases in
-        ⌜ PlanAnswers b (ask (now (hot .entry)) threshold limit allowance) (lentAt (amounts .entry) (events .entry) (words .entry) (floats .entry)) (lentAt (amounts .entry) (events .exit) (words .exit) (floats .exit)) r (now (answer .exit)) ⌝ }
+        ⌜ PlanAnswers b (askOf (now (hot .entry)) threshold limit allowance) (lentAt (amounts .entry) (events .entry) (words .entry) (floats .entry)) (lentAt (amounts .entry) (events .exit) (words .exit) (floats .exit)) r (now (answer .exit)) ⌝ }
 {
     let rows = [ids, mixtures, starts, neighbours];
     let marks = [flags, planetary, link_flags, immutable];

@@ -6,23 +6,23 @@ use lib.ListN.{replicate}
 use lib.Ieee.{Float}
 use Rattle.basics.specs.Loops.{same}
 use Rattle.basics.specs.Floats.{0f, ofCount, ofWord, whole, exact}
-use Rattle.board_rules.specs.Board.{Board}
-use Rattle.board_rules.specs.Draw.{Turf, to, lock, turf, disabled, planet, space, draw, sharing, withGases, pairWith, twenty, boardA, chain, lockedPair, lockedChain, asIs, star, four, ring, six, breached}
-use Rattle.event_rules.specs.Events.{encodeAll}
-use Rattle.event_rules.specs.Lister.{listing}
-use Rattle.event_rules.specs.Worked.{p1Bytes}
-use Rattle.event_rules.specs.declared.Event.{Event}
-use Rattle.event_rules.specs.declared.Event.the-variants.{DepressurizeWanted, PlanetWanted, Pressure, Firelock, Target, HighPressure, FloorRip}
-use Rattle.lent_rules.specs.Lent.{Lent, wordsRoom, floatsRoom}
-use Rattle.lent_rules.specs.Worked.{lend, lessArea, lessWords, lessFloats}
-use Rattle.equalize_rules.specs.Equalize.{Ask, fillAll, planAll}
-use Rattle.equalize_rules.specs.Result.{equalizeRoom}
-use Rattle.equalize_rules.specs.Worked.{ask, limited, allowed, threshold, done, cancelled, equalizes, refused}
-use Rattle.planet_rules.specs.Planet.{planetRoom}
-use Rattle.planet_rules.specs.Worked.{walksPlanet}
-use Rattle.depressurize_rules.specs.Depressurize.{depressurizeRoom}
-use Rattle.depressurize_rules.specs.Worked.{depressurizes}
-use Rattle.back_rules.specs.Worked.{difference}
+use Rattle.rules_board.specs.Board.{Board}
+use Rattle.rules_board.specs.Draw.{Turf, to, lock, turf, disabled, planet, space, draw, sharing, withGases, pairWith, twenty, boardA, chain, lockedPair, lockedChain, asIs, star, four, ring, six, breached, twins}
+use Rattle.rules_events.specs.Events.{encodeAll}
+use Rattle.rules_events.specs.Lister.{listing}
+use Rattle.rules_events.specs.Worked.{p1Bytes}
+use Rattle.rules_events.specs.declared.Event.{Event}
+use Rattle.rules_events.specs.declared.Event.the-variants.{DepressurizeWanted, PlanetWanted, Pressure, Firelock, Target, HighPressure, FloorRip}
+use Rattle.rules_lent.specs.Lent.{Lent, wordsRoom, floatsRoom}
+use Rattle.rules_lent.specs.Worked.{lend, lessArea, lessWords, lessFloats}
+use Rattle.rules_equalize.specs.Equalize.{Ask, fillAll, planAll}
+use Rattle.rules_equalize.specs.Result.{equalizeRoom}
+use Rattle.rules_equalize.specs.Worked.{ask, limited, allowed, threshold, done, cancelled, equalizes, refused}
+use Rattle.rules_planet.specs.Planet.{planetRoom}
+use Rattle.rules_planet.specs.Worked.{walksPlanet}
+use Rattle.rules_depressurize.specs.Depressurize.{depressurizeRoom}
+use Rattle.rules_depressurize.specs.Worked.{depressurizes}
+use Rattle.rules_back.specs.Worked.{difference}
 
 -- which turfs have the fast mark after planning
 unfoldable pub marks : Board → Ask → List Float → List ℕ → Bool
@@ -39,10 +39,6 @@ writes es bs = same (encodeAll es) bs
 -- P1's event
 abbrev pub p1 : List Event
 p1 = Pressure 0 (ofCount 8) 10 20 ∷ []
-
--- A and a twin, 30 and 40
-abbrev pub twins : Board
-twins = draw (turf 10 (to 1 ∷ []) ∷ turf 20 (to 0 ∷ []) ∷ turf 30 (to 3 ∷ []) ∷ turf 40 (to 2 ∷ []) ∷ [])
 
 -- P1 to P12, and the six-node boards
 unfoldable pub documentRows : List Bool

@@ -13,10 +13,10 @@ use Rattle.basics.specs.Loops.{every, upFrom, first}
 use Rattle.basics.specs.Lists.{All, Found, one, count}
 use Rattle.basics.proofs.Loops.{All-imp, All-getD, every-all, and-left, and-right, all-of, first-found}
 use Rattle.basics.proofs.Lists.{upFrom-above, upFrom-below, upFrom-apart, Apart}
-use Rattle.board_rules.specs.Board.{Board, turfCount, linkCount, mixtureCount, idOf, mixOf, end, linksOf, rowOf}
-use Rattle.board_rules.specs.Refuse.{within, pairwise, ascending, rising, rowFits, sizesFit, tablesFit, idsFit, linksFit}
+use Rattle.rules_board.specs.Board.{Board, turfCount, linkCount, mixtureCount, idOf, mixOf, end, linksOf, rowOf}
+use Rattle.rules_board.specs.Refuse.{within, pairwise, ascending, rising, rowFits, sizesFit, tablesFit, idsFit, linksFit}
 use Rattle.turfs.specs.Tables.{Accepted, source}
-use Rattle.board_rules.specs.Worked as worked  -- checked before the laws
+use Rattle.rules_board.specs.Worked as worked  -- checked before the laws
 
 in-range : (lo hi n : ℕ) → T (within lo hi n) → (lo ≤ n) × (n ≤ hi)
 in-range lo hi n h = (leb→le lo n (and-left (leb lo n) (leb n hi) h), leb→le n hi (and-right (leb lo n) (leb n hi) h))

@@ -4,3 +4,4 @@ pub mod Refused
 pub mod Accepted
 pub mod Tables
 pub mod Line
+pub mod Near

@@ -7,8 +7,8 @@ use lib.ListN.{length}
 use Rattle.basics.specs.Loops.{member, snoc}
 use Rattle.basics.specs.Lists.{All}
 use Rattle.basics.proofs.Lists.{All-snoc, Apart, apart-snoc, not-member, pigeonhole}
-use Rattle.board_rules.specs.Board.{Board, turfCount}
-use Rattle.board_rules.specs.Worked as worked  -- checked before the laws
+use Rattle.rules_board.specs.Board.{Board, turfCount}
+use Rattle.rules_board.specs.Worked as worked  -- checked before the laws
 
 -- a queue of different turfs of the board
 pub record Line (b : Board) (queue : List ℕ) : Type 0 where

@@ -15,8 +15,8 @@ use Rattle.basics.specs.declared.Spot.{Spot}
 use Rattle.basics.specs.declared.Spot.the-variants.{At, Nowhere}
 use Rattle.basics.specs.Lists.{Found}
 use Rattle.basics.proofs.Loops.{first-here, first-on, first-end, first-found, first-passes, up-below}
-use Rattle.board_rules.specs.Board.{Board, turfCount, idOf, rowOf}
-use Rattle.board_rules.specs.Refuse.{ascending, idsFit}
+use Rattle.rules_board.specs.Board.{Board, turfCount, idOf, rowOf}
+use Rattle.rules_board.specs.Refuse.{ascending, idsFit}
 use Rattle.turfs.specs.Tables.{Bracket}
 use Rattle.turfs.proofs.Order.{ascending-to}
 

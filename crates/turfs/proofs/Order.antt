@@ -9,7 +9,7 @@ use lib.ListN.{length, getD}
 use lib.Dec.{ltb, leb}
 use borrow.Author.Tests.{ltb-true, leb-true}
 use Rattle.basics.proofs.Tests.{both}
-use Rattle.board_rules.specs.Refuse.{pairwise, ascending, rising}
+use Rattle.rules_board.specs.Refuse.{pairwise, ascending, rising}
 
 pub pairwise-at : (t : ℕ → ℕ → Bool) (l : List ℕ) (i : ℕ) → pairwise t l ≡ true → i + 1 < length l → t (getD l i 0) (getD l (i + 1) 0) ≡ true
 unfolding pairwise

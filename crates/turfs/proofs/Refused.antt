@@ -10,8 +10,8 @@ use lib.Seq.{drop-cons, take-all}
 use borrow.Author.Tests.{eq-eqb, ne-eqb}
 use Rattle.basics.specs.Loops.{member}
 use Rattle.basics.proofs.Tests.{and-true, and-false}
-use Rattle.board_rules.specs.Board.{Board}
-use Rattle.board_rules.specs.Refuse.{pairwise, distinct, rowFits}
+use Rattle.rules_board.specs.Board.{Board}
+use Rattle.rules_board.specs.Refuse.{pairwise, distinct, rowFits}
 
 two : (l : List ℕ) (i : ℕ) → i + 1 < length l → drop i l ≡ getD l i 0 ∷ getD l (i + 1) 0 ∷ drop (suc (i + 1)) l
 two l i h =

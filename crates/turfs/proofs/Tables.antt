@@ -12,9 +12,9 @@ use lib.Ieee.Bits.{is-true}
 use borrow.Author.Tests.{leb-true, eqb-true}
 use Rattle.basics.specs.Loops.{every, upFrom}
 use Rattle.basics.proofs.Tests.{both, each, every-up-at}
-use Rattle.board_rules.specs.Board.{Board, turfCount, linkCount, mixtureCount}
-use Rattle.board_rules.specs.Refuse.{within, rising, sizesFit, tablesFit, idsFit, linksFit, rowFits}
-use Rattle.turfs.specs.Tables.{Parts, Sizes, Tables, Accepted}
+use Rattle.rules_board.specs.Board.{Board, turfCount, linkCount, mixtureCount}
+use Rattle.rules_board.specs.Refuse.{within, rising, sizesFit, tablesFit, idsFit, linksFit, rowFits}
+use Rattle.turfs.specs.Tables.{Parts, BoardSizes, Tables, Accepted}
 use Rattle.turfs.proofs.Order.{rising-to}
 use Rattle.turfs.proofs.Accepted.{accepted}
 
@@ -36,7 +36,7 @@ within-of : (lo hi n : ℕ) → within lo hi n ≡ true → (lo ≤ n) × (n ≤
 within-of lo hi n e = let p = both (leb lo n) (leb n hi) e in (leb-true lo n (p .0), leb-true n hi (p .1))
 
 module _ (b : Board) where
-  pub sizes-of : sizesFit b ≡ true → Sizes b
+  pub sizes-of : sizesFit b ≡ true → BoardSizes b
   unfolding sizesFit
   sizes-of e =
       let n = within-of 1 4096 (turfCount b) (each _ 0 e (omega arith)) in

@@ -8,8 +8,8 @@ use lib.ListN.{length, getD, drop}
 use denote.Ref.{RefT}
 use Rattle.basics.specs.Loops.{every, upFrom}
 use Rattle.basics.specs.Lists.{count}
-use Rattle.board_rules.specs.Board.{Board, turfCount, linkCount, mixtureCount, mixOf, end}
-use Rattle.board_rules.specs.Refuse.{ascending, rising, rowFits}
+use Rattle.rules_board.specs.Board.{Board, turfCount, linkCount, mixtureCount, mixOf, end, neighboursOf}
+use Rattle.rules_board.specs.Refuse.{ascending, rising, rowFits}
 
 -- the tables in the order of the C interface
 abbrev pub board : List ℕ → List ℕ → List ℕ → List ℕ → List ℕ → List ℕ → List ℕ → List ℕ → ℕ → Board
@@ -59,6 +59,11 @@ pub record Parts (n : ℕ) (starts neighbours : List ℕ) : Type 0 where
   pub rise : (r : ℕ) → r < n → getD starts r 0 ≤ getD starts (r + 1) 0
   pub end : (r : ℕ) → r < n → getD starts (r + 1) 0 ≤ length neighbours
 
+-- the neighbours of the turf at `row` are `near`, the part of the link list that starts at the link `from`
+pub record Near (b : Board) (row from : ℕ) (near : List ℕ) : Type 0 where
+  pub start : from ≡ getD (b .starts) row 0
+  pub part : near ≡ neighboursOf b row
+
 -- the counts are within their limits, which keeps every sum of them small
 pub record Small (b : Board) : Type 0 where
   pub turfs : turfCount b ≤ 4096
@@ -66,7 +71,7 @@ pub record Small (b : Board) : Type 0 where
   pub mixtures : mixtureCount b ≤ 4096
 
 -- sizes that refusal 1 lets pass
-pub record Sizes (b : Board) : Type 0 where
+pub record BoardSizes (b : Board) : Type 0 where
   pub small : Small b
   pub some : 1 ≤ turfCount b
   pub gas : 1 ≤ b .gases
@@ -74,7 +79,7 @@ pub record Sizes (b : Board) : Type 0 where
 
 -- tables that the refusals 1 to 4 let pass
 pub record Tables (b : Board) : Type 0 where
-  pub sizes : Sizes b
+  pub sizes : BoardSizes b
   pub flags : length (b .flags) ≡ turfCount b
   pub planetary : length (b .planetary) ≡ turfCount b
   pub mixtures : length (b .mixtures) ≡ turfCount b

@@ -7,9 +7,9 @@ ghost use mathlib.Core.Path.{_≡_};
 ghost use mathlib.Core.Bool.{true};
 ghost use Prim.Native.Nat.{_+_, _<_};
 ghost use lib.ListN.{length, getD};
-ghost use Rattle.board_rules.specs.Board as tables;
-ghost use Rattle.board_rules.specs.Board.{Board, anyBit, lockBit, rowOf};
-ghost use Rattle.board_rules.specs.Refuse.{ascending};
+ghost use Rattle.rules_board.specs.Board as tables;
+ghost use Rattle.rules_board.specs.Board.{Board, anyBit, lockBit, rowOf};
+ghost use Rattle.rules_board.specs.Refuse.{ascending};
 ghost use Rattle.turfs.specs.Tables.{Bracket};
 
 // A board's tables of numbers, as they travel through a call.

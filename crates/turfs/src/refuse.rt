@@ -16,9 +16,9 @@ ghost use Prim.Native.Nat.{_+_, _≤_};
 ghost use lib.Dec.{ltb};
 ghost use lib.ListN.{length};
 ghost use Rattle.basics.specs.Loops.{every, member, upFrom};
-ghost use Rattle.board_rules.specs.Board.{turfCount, linkCount};
-ghost use Rattle.turfs.specs.Tables.{boardOf, boardAt, Parts, Small, Sizes};
-ghost use Rattle.board_rules.specs.Refuse.{within, ascending, rising, distinct, rowFits, sizesFit, tablesFit, linksFit};
+ghost use Rattle.rules_board.specs.Board.{turfCount, linkCount};
+ghost use Rattle.turfs.specs.Tables.{boardOf, boardAt, Parts, Small, BoardSizes};
+ghost use Rattle.rules_board.specs.Refuse.{within, ascending, rising, distinct, rowFits, sizesFit, tablesFit, linksFit};
 
 fn within(lo: usize, hi: usize, n: usize) -> bool
     ensures { λ r. ⌜ r ≡ within lo hi n ⌝ }
@@ -47,7 +47,7 @@ pub fn sizes_fit(rows: &Rows, marks: &Marks, gases: u32) -> bool
 
 // Refusal 2, of so many amounts.
 pub fn tables_fit(rows: &Rows, marks: &Marks, gases: u32, amounts: usize) -> bool
-    requires { ⌜ Sizes (boardAt rows marks gases) ⌝ }
+    requires { ⌜ BoardSizes (boardAt rows marks gases) ⌝ }
     ensures { λ r. ⌜ r ≡ tablesFit (boardAt (rows .entry) (marks .entry) gases) amounts ⌝ }
 {
     let n = rows[IDS].len();

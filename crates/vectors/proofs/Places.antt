@@ -2,8 +2,8 @@
 use Prim.Native.Nat.{ℕ}
 use mathlib.Core.Path.{_≡_, subst}
 use mathlib.Core.List.{List}
-use Rattle.vectors.specs.Vectors.{Stands}
+use Rattle.vectors.specs.Vectors.{VectorStands}
 use Rattle.vectors.specs.declared.Span.{Span}
 
-pub moved : {ns : List ℕ} {s : Span} {a b : ℕ} → a ≡ b → Stands ns a s → Stands ns b s
-moved {ns} {s} e h = subst (λ (k : ℕ). Stands ns k s) e h
+pub moved : {ns : List ℕ} {s : Span} {a b : ℕ} → a ≡ b → VectorStands ns a s → VectorStands ns b s
+moved {ns} {s} e h = subst (λ (k : ℕ). VectorStands ns k s) e h

@@ -1,15 +1,16 @@
 -- What the lent cells hold before a call, and whether they hold afterwards what a vector expects.
-use mathlib.Core.List.{List}
+use mathlib.Core.List.{List, [], _∷_}
 use mathlib.Core.Path.{_≡_}
-use mathlib.Core.Bool.{Bool, true, false, _&&_, cond}
-use Prim.Native.Nat.{ℕ, _+_, _*_, _-_, _%_, _≤_, _<_}
+use mathlib.Core.Bool.{Bool, false, _&&_}
+use Prim.Native.Nat.{ℕ, _+_, _*_, _%_, _<_}
 use lib.Dec.{eqb, leb, ltb}
-use lib.ListN.{length, getD, take, drop}
-use lib.Ieee.{Float, nan, eq}
-use Rattle.basics.specs.Floats.{0f, _/f_, bitsOf, ofWord}
+use lib.ListN.{length, getD}
+use lib.Ieee.{Float, nan}
 use Rattle.basics.specs.Loops.{every, upFrom, if_then_else_}
-use Rattle.vectors.specs.Vectors.{number, Expects}
-use Rattle.vectors.specs.declared.Span.{Span}
+use Rattle.vectors.specs.Vectors.{number, section, Reads, Expects}
+use Rattle.vectors.specs.Amounts.{amount, sameBits}
+use Rattle.vectors.specs.declared.Case.{Case}
+use Rattle.vectors.specs.declared.Answer.{Answer}
 use Rattle.vectors.specs.declared.Due.{Due}
 use Rattle.vectors.specs.declared.Vector.{Vector}
 
@@ -23,21 +24,19 @@ floatBefore i = 0x3f00_0000 + i % 65536
 abbrev pub eventBefore : ℕ → ℕ
 eventBefore i = (i % 256 * 31 + 7) % 256
 
--- the bits of a NaN
-abbrev pub nanPattern : ℕ → Bool
-nanPattern b = ltb 0x7f80_0000 (b % 0x8000_0000)
-
--- the amount with these bits
-unfoldable pub amount : ℕ → Float
-amount b = if nanPattern b then 0f /f 0f else ofWord b
-
--- an amount has these bits; one NaN is as good as another
-unfoldable pub hasBits : Float → ℕ → Bool
-hasBits x b = if eq x x then eqb (bitsOf x) b else nanPattern b
-
 -- every cell of a list is what a rule says
 abbrev pub Follows : {A : Type 0} → List A → A → (ℕ → A) → Type 0
 Follows l d rule = (i : ℕ) → i < length l → getD l i d ≡ rule i
+
+-- what a case lends before its call; its numbers are there as bytes too
+pub record Filled (ns : List ℕ) (bs : List ℕ) (gs : List Float) (ws : List ℕ) (fs : List Float) (es : List ℕ) : Type 0 where
+  pub case : Case
+  pub reads : Reads ns case
+  pub bytes : Follows bs 0 (λ i. number ns i % 256)
+  pub gas : Follows gs nan (λ i. amount (number (section ns (case .gas)) i))
+  pub words : Follows ws 0 wordBefore
+  pub floats : Follows fs nan (λ i. amount (floatBefore i))
+  pub events : Follows es 0 eventBefore
 
 -- the tests of the cells 0 to n - 1
 abbrev pub below : ℕ → (ℕ → Bool) → Bool
@@ -52,7 +51,7 @@ sameAnswer due answer = below (length answer) (answerMet due answer) && eqb (len
 
 -- so is the gas
 abbrev pub gasMet : List ℕ → List Float → ℕ → Bool
-gasMet due gas i = hasBits (getD gas i nan) (number due i)
+gasMet due gas i = sameBits (getD gas i nan) (number due i)
 
 unfoldable pub sameGas : List ℕ → List Float → Bool
 sameGas due gas = below (length gas) (gasMet due gas) && eqb (length due) (length gas)
@@ -68,48 +67,53 @@ unfoldable pub sameEvents : List ℕ → List ℕ → Bool
 sameEvents due events = below (length events) (eventMet due events) && leb (length due) (length events)
 
 -- so many words, and floats, are 0, and the others as they were
-unfoldable pub after : ℕ → ℕ → ℕ → ℕ
-after zeros i before = if ltb i zeros then 0 else before
+unfoldable pub cellsAfter : ℕ → ℕ → ℕ → ℕ
+cellsAfter zeros i before = if ltb i zeros then 0 else before
 
 abbrev pub wordMet : ℕ → List ℕ → ℕ → Bool
-wordMet zeros words i = eqb (number words i) (after zeros i (wordBefore i))
+wordMet zeros words i = eqb (number words i) (cellsAfter zeros i (wordBefore i))
 
 unfoldable pub sameWords : ℕ → List ℕ → Bool
 sameWords zeros words = below (length words) (wordMet zeros words) && leb zeros (length words)
 
 abbrev pub floatMet : ℕ → List Float → ℕ → Bool
-floatMet zeros floats i = hasBits (getD floats i nan) (after zeros i (floatBefore i))
+floatMet zeros floats i = sameBits (getD floats i nan) (cellsAfter zeros i (floatBefore i))
 
 unfoldable pub sameFloats : ℕ → List Float → Bool
 sameFloats zeros floats = below (length floats) (floatMet zeros floats) && leb zeros (length floats)
 
--- the elements of a list of the vector
-abbrev pub part : List ℕ → Span → List ℕ
-part ns s = take (s .to - s .from) (drop (s .from) ns)
-
 -- a vector that isn't whole
-abbrev pub tornVector : ℕ → Vector
-tornVector call = record { call = call; number = 0; expected = 0; met = false; next = 0xffff_ffff_ffff_ffff }
-
--- the lists that a vector expects lie inside it
-pub record Inside (d : Due) (n : ℕ) : Type 0 where
-  pub answer : (d .answer .from ≤ d .answer .to) × (d .answer .to ≤ n)
-  pub gas : (d .gas .from ≤ d .gas .to) × (d .gas .to ≤ n)
-  pub events : (d .events .from ≤ d .events .to) × (d .events .to ≤ n)
+abbrev pub tornVector : Vector
+tornVector = record { call = 0; number = 0; expected = 0; met = false; next = 0xffff_ffff_ffff_ffff }
 
 -- the answer, the gas and the events are what is expected
 unfoldable pub sameResults : Due → List ℕ → List ℕ → List Float → List ℕ → Bool
 sameResults d ns answer gas events =
-    sameAnswer (part ns (d .answer)) answer && (sameGas (part ns (d .gas)) gas && sameEvents (part ns (d .events)) events)
+    sameAnswer (section ns (d .answer)) answer && (sameGas (section ns (d .gas)) gas && sameEvents (section ns (d .events)) events)
 
-module _ (ns : List ℕ) (answer : List ℕ) (gas : List Float) (words : List ℕ) (floats : List Float) (events : List ℕ) where
-  -- all cells are what is expected
-  unfoldable pub met : Due → Bool
-  met d = sameWords (d .words) words && (sameFloats (d .floats) floats && sameResults d ns answer gas events)
+-- all cells are what is expected
+unfoldable pub met : List ℕ → List ℕ → List Float → List ℕ → List Float → List ℕ → Due → Bool
+met ns answer gas words floats events d =
+    sameWords (d .words) words && (sameFloats (d .floats) floats && sameResults d ns answer gas events)
 
-  -- what comes of a call that left these
-  pub record Held (call expected : ℕ) (r : Vector) : Type 0 where
+-- the numbers of an answer
+abbrev pub numbersOf : Answer → List ℕ
+numbersOf a = section (a .number ∷ a .second ∷ a .third ∷ a .fourth ∷ a .fifth ∷ a .sixth ∷ a .seventh ∷ []) (record { from = 0; to = a .count })
+
+-- an answer of no call
+abbrev pub noAnswer : Answer
+noAnswer = record { count = 0; number = 0; second = 0; third = 0; fourth = 0; fifth = 0; sixth = 0; seventh = 0; due = 0xffff_ffff_ffff_ffff }
+
+-- what comes of a call that answered and left these
+module _ (ns : List ℕ) (gas : List Float) (words : List ℕ) (floats : List Float) (events : List ℕ) where
+  pub record CellsHeld (a : Answer) (r : Vector) : Type 0 where
     pub due : Due
-    pub stands : Expects ns expected due
-    pub says : r ≡ (if ltb (length ns) (due .next) then tornVector call
-        else record { call = call; number = number answer 0; expected = expected; met = met due; next = due .next })
+    pub stands : Expects ns (a .due) due
+    pub says : r ≡ (if ltb (length ns) (due .next) then tornVector
+        else record {
+          call = number ns 0;
+          number = a .number;
+          expected = a .due;
+          met = met ns (numbersOf a) gas words floats events due;
+          next = due .next;
+        })

@@ -1,2 +1,4 @@
+pub mod Amounts
 pub mod Vectors
 pub mod Cells
+pub mod Count

@@ -2,15 +2,18 @@
 // the lent areas hold before a call, and whether they hold afterwards what is expected.
 //
 // A place in a vector only grows, and one beyond the numbers stays beyond: one test of the last place shows that nothing is missing.
+pub mod count;
 pub mod text;
 
+use turfs::Marks;
+use turfs::Rows;
 ghost use mathlib.Core.Path.{_≡_};
-ghost use Prim.Native.Nat.{_%_, _≤_};
-ghost use lib.ListN.{length};
+ghost use Prim.Native.Nat.{_%_, _≤_, _<_};
 ghost use lib.Ieee.{nan};
-ghost use Rattle.vectors.specs.Vectors.{onward, number, Stands, Reads, Expects};
-ghost use Rattle.vectors.specs.Cells.{wordBefore, floatBefore, eventBefore, nanPattern, amount, hasBits, Follows, after, eventAfter, tornVector};
-ghost use Rattle.vectors.specs.Cells.{sameAnswer, sameGas, sameEvents, sameWords, sameFloats, sameResults, met, Inside, Held};
+ghost use Rattle.vectors.specs.Vectors.{onward, number, section, VectorStands, Reads, Rooms, Asks, Walks, RowsOf, MarksOf, Expects};
+ghost use Rattle.vectors.specs.Amounts.{nanPattern, amount, sameBits};
+ghost use Rattle.vectors.specs.Cells.{wordBefore, floatBefore, eventBefore, Follows, Filled, cellsAfter, eventAfter, tornVector};
+ghost use Rattle.vectors.specs.Cells.{sameAnswer, sameGas, sameEvents, sameWords, sameFloats, sameResults, met, noAnswer, CellsHeld};
 
 // A list's elements: the first one, and the place behind the last.
 pub struct Span {
@@ -19,7 +22,7 @@ pub struct Span {
 }
 
 // A case: the call, where its tables and its gas stand, how long the lent areas are, and where what is asked begins.
-pub struct Case {
+struct Case {
     pub call: u32,
     pub ids: Span,
     pub flags: Span,
@@ -37,14 +40,55 @@ pub struct Case {
     pub asked: usize,
 }
 
-// What a vector expects: where the answer, the gas and the event bytes stand, how many words and floats are 0, and where the next vector begins.
-pub struct Due {
-    pub answer: Span,
-    pub gas: Span,
-    pub events: Span,
+// How many amounts, words, floats and bytes a case lends, if it is whole and the arrays of `replay` have room for it.
+pub struct Room {
+    pub fits: bool,
+    pub gas: usize,
     pub words: usize,
     pub floats: usize,
-    pub next: usize,
+    pub events: usize,
+}
+
+// What equalize is asked: how many gases there are, where the hot ids and the turns stand, the settings, and where what is expected begins.
+pub struct Asked {
+    pub gases: u32,
+    pub hot: Span,
+    pub turns: Span,
+    pub threshold: f32,
+    pub limit: u32,
+    pub allowance: u32,
+    pub due: usize,
+}
+
+// What a walk is asked: how many gases there are, where it starts and its limit, and where what is expected begins.
+pub struct Walk {
+    pub gases: u32,
+    pub id: u32,
+    pub limit: u32,
+    pub due: usize,
+}
+
+// What a call answered: so many numbers, and where what is expected begins.
+pub struct Answer {
+    pub count: usize,
+    pub number: u32,
+    pub second: u32,
+    pub third: u32,
+    pub fourth: u32,
+    pub fifth: u32,
+    pub sixth: u32,
+    pub seventh: u32,
+    pub due: usize,
+}
+
+// What a vector expects: where the answer, the gas and the event bytes stand, how many words and floats are 0, and where the next vector begins.
+struct Due {
+    answer: Span,
+    gas: Span,
+    events: Span,
+    words: usize,
+    floats: usize,
+    next: usize,
 }
 
 // One vector replayed: the call, the number it answered, where its expectations begin, whether they were met, and where the next vector begins.
@@ -78,15 +122,26 @@ pub fn number_at(numbers: &[u32], at: usize) -> u32
 
 // The list that stands at a place: its length, then its elements.
 pub fn span_at(numbers: &[u32], at: usize) -> Span
-    ensures { λ r. ⌜ Stands (now (numbers .entry)) at r ⌝ }
+    ensures { λ r. ⌜ VectorStands (now (numbers .entry)) at r ⌝ }
 {
     let from = further(at, 1);
     let to = further(from, number_at(numbers, at) as usize);
     Span { from, to }
 }
 
+// Where the vector behind one at a place begins; a vector takes some room.
+pub fn past(at: usize, count: usize) -> usize
+    requires { ⌜ at < 0xffff_ffff_ffff_ffff ⌝ }
+    ensures { λ r. ⌜ at < r ⌝ }
+{
+    if count == 0 {
+        return 0xffff_ffff_ffff_ffff;
+    }
+    further(at, count)
+}
+
 // The case that a vector begins with.
-pub fn case_of(numbers: &[u32]) -> Case
+fn case_of(numbers: &[u32]) -> Case
     ensures { λ r. ⌜ Reads (now (numbers .entry)) r ⌝ }
 {
     let ids = span_at(numbers, 1);
@@ -117,6 +172,140 @@ pub fn case_of(numbers: &[u32]) -> Case
     }
 }
 
+// No room.
+fn no_room() -> Room
+    ensures { λ r. ⌜ Rooms r ⌝ }
+{
+    Room {
+        fits: false,
+        gas: 0,
+        words: 0,
+        floats: 0,
+        events: 0,
+    }
+}
+
+// A case's room, if its gas is so much.
+fn case_room(c: Case, gas: usize) -> Room
+    ensures { λ r. ⌜ Rooms r ⌝ }
+{
+    if 192 < gas {
+        return no_room();
+    }
+    if 4_000 < c.words {
+        return no_room();
+    }
+    if 2_000 < c.floats {
+        return no_room();
+    }
+    if 12_000 < c.events {
+        return no_room();
+    }
+    Room {
+        fits: c.immutable.to <= 1_429,
+        gas,
+        words: c.words,
+        floats: c.floats,
+        events: c.events,
+    }
+}
+
+// What the case of a vector lends.
+pub fn room_of(numbers: &[u32]) -> Room
+    ensures { λ r. ⌜ Rooms r ⌝ }
+{
+    let c = case_of(numbers);
+    if numbers.len() < c.gas.to {
+        return no_room();
+    }
+    case_room(c, c.gas.to - c.gas.from)
+}
+
+// What equalize is asked in a vector.
+pub fn asked_of(numbers: &[u32]) -> Asked
+    ensures { λ r. ⌜ Asks (now (numbers .entry)) r ⌝ }
+{
+    let c = case_of(numbers);
+    let hot = span_at(numbers, c.asked);
+    let turns = span_at(numbers, hot.to);
+    Asked {
+        gases: c.gases,
+        hot,
+        turns,
+        threshold: amount_of(number_at(numbers, turns.to)),
+        limit: number_at(numbers, further(turns.to, 1)),
+        allowance: number_at(numbers, further(turns.to, 2)),
+        due: further(turns.to, 3),
+    }
+}
+
+// What a walk is asked in a vector.
+pub fn walk_of(numbers: &[u32]) -> Walk
+    ensures { λ r. ⌜ Walks (now (numbers .entry)) r ⌝ }
+{
+    let c = case_of(numbers);
+    Walk {
+        gases: c.gases,
+        id: number_at(numbers, c.asked),
+        limit: number_at(numbers, further(c.asked, 1)),
+        due: further(c.asked, 2),
+    }
+}
+
+// The elements of a list; none where it goes beyond the numbers.
+pub fn part(numbers: &[u32], s: Span) -> &[u32]
+    ensures { λ r. ⌜ now r ≡ section (now (numbers .entry)) s ⌝ }
+{
+    let from = s.from;
+    let to = s.to;
+    if numbers.len() < to {
+        return &numbers[..0];
+    }
+    if to < from {
+        return &numbers[..0];
+    }
+    &numbers[from..to]
+}
+
+// The elements of a list of bytes; none where it goes beyond them.
+fn byte_part(bytes: &[u8], s: Span) -> &[u8]
+    ensures { λ r. ⌜ now r ≡ section (now (bytes .entry)) s ⌝ }
+{
+    let from = s.from;
+    let to = s.to;
+    if bytes.len() < to {
+        return &bytes[..0];
+    }
+    if to < from {
+        return &bytes[..0];
+    }
+    &bytes[from..to]
+}
+
+// The tables of numbers in a vector.
+pub fn rows_of<'a>(numbers: &'a [u32]) -> Rows<'a>
+    ensures { λ r. ⌜ RowsOf (now (numbers .entry)) r ⌝ }
+{
+    let c = case_of(numbers);
+    let ids = part(numbers, c.ids);
+    let mixtures = part(numbers, c.mixtures);
+    let starts = part(numbers, c.starts);
+    let neighbours = part(numbers, c.neighbours);
+    [ids, mixtures, starts, neighbours]
+}
+
+// The tables of bytes in a vector, whose numbers are here as bytes too.
+pub fn marks_of<'a>(numbers: &[u32], bytes: &'a [u8]) -> Marks<'a>
+    ensures { λ r. ⌜ MarksOf (now (numbers .entry)) (now (bytes .entry)) r ⌝ }
+{
+    let c = case_of(numbers);
+    let flags = byte_part(bytes, c.flags);
+    let planetary = byte_part(bytes, c.planetary);
+    let link_flags = byte_part(bytes, c.link_flags);
+    let immutable = byte_part(bytes, c.immutable);
+    [flags, planetary, link_flags, immutable]
+}
+
 // Whether these are the bits of a NaN.
 pub fn nan_bits(bits: u32) -> bool
     ensures { λ r. ⌜ r ≡ nanPattern bits ⌝ }
@@ -136,7 +325,7 @@ pub fn amount_of(bits: u32) -> f32
 
 // Whether an amount has these bits.
 fn has_bits(x: f32, bits: u32) -> bool
-    ensures { λ r. ⌜ r ≡ hasBits x bits ⌝ }
+    ensures { λ r. ⌜ r ≡ sameBits x bits ⌝ }
 {
     if x == x {
         return f32::to_bits(x) == bits;
@@ -145,7 +334,7 @@ fn has_bits(x: f32, bits: u32) -> bool
 }
 
 // Makes bytes of numbers.
-pub fn put_bytes(numbers: &[u32], bytes: &mut [u8])
+fn put_bytes(numbers: &[u32], bytes: &mut [u8])
     ensures { λ _. ⌜ Follows (now (bytes .exit)) 0 (λ i. number (now (numbers .entry)) i % 256) ⌝ }
 {
     let mut i = 0;
@@ -156,7 +345,7 @@ pub fn put_bytes(numbers: &[u32], bytes: &mut [u8])
 }
 
 // Makes amounts of numbers.
-pub fn put_amounts(numbers: &[u32], gas: &mut [f32])
+fn put_amounts(numbers: &[u32], gas: &mut [f32])
     ensures { λ _. ⌜ Follows (now (gas .exit)) nan (λ i. amount (number (now (numbers .entry)) i)) ⌝ }
 {
     let mut i = 0;
@@ -188,7 +377,7 @@ fn event_before(i: usize) -> u8
 }
 
 // Fills the scratch words.
-pub fn lend_words(words: &mut [u32])
+fn lend_words(words: &mut [u32])
     ensures { λ _. ⌜ Follows (now (words .exit)) 0 wordBefore ⌝ }
 {
     let mut i = 0;
@@ -199,7 +388,7 @@ pub fn lend_words(words: &mut [u32])
 }
 
 // Fills the scratch floats.
-pub fn lend_floats(floats: &mut [f32])
+fn lend_floats(floats: &mut [f32])
     ensures { λ _. ⌜ Follows (now (floats .exit)) nan (λ i. amount (floatBefore i)) ⌝ }
 {
     let mut i = 0;
@@ -210,7 +399,7 @@ pub fn lend_floats(floats: &mut [f32])
 }
 
 // Fills the event area.
-pub fn lend_events(events: &mut [u8])
+fn lend_events(events: &mut [u8])
     ensures { λ _. ⌜ Follows (now (events .exit)) 0 eventBefore ⌝ }
 {
     let mut i = 0;
@@ -220,9 +409,28 @@ pub fn lend_events(events: &mut [u8])
     }
 }
 
+// Fills what the case of a vector lends: its numbers as bytes, its gas, the scratch and the event area.
+pub fn fill(
+    numbers: &[u32],
+    bytes: &mut [u8],
+    gas: &mut [f32],
+    words: &mut [u32],
+    floats: &mut [f32],
+    events: &mut [u8],
+)
+    ensures { λ _. ⌜ Filled (now (numbers .entry)) (now (bytes .exit)) (now (gas .exit)) (now (words .exit)) (now (floats .exit)) (now (events .exit)) ⌝ }
+{
+    let c = case_of(numbers);
+    put_bytes(numbers, bytes);
+    put_amounts(part(numbers, c.gas), gas);
+    lend_words(words);
+    lend_floats(floats);
+    lend_events(events);
+}
+
 // What a scratch word holds after a call that clears so many.
 fn word_after(zeros: usize, i: usize) -> u32
-    ensures { λ r. ⌜ r ≡ after zeros i (wordBefore i) ⌝ }
+    ensures { λ r. ⌜ r ≡ cellsAfter zeros i (wordBefore i) ⌝ }
 {
     if i < zeros {
         return 0;
@@ -232,7 +440,7 @@ fn word_after(zeros: usize, i: usize) -> u32
 
 // The bits that a scratch float holds after a call that clears so many.
 fn float_after(zeros: usize, i: usize) -> u32
-    ensures { λ r. ⌜ r ≡ after zeros i (floatBefore i) ⌝ }
+    ensures { λ r. ⌜ r ≡ cellsAfter zeros i (floatBefore i) ⌝ }
 {
     if i < zeros {
         return 0;
@@ -328,11 +536,11 @@ fn same_floats(zeros: usize, floats: &[f32]) -> bool
 }
 
 // A vector that isn't whole, or has no room.
-pub fn torn(call: u32) -> Vector
-    ensures { λ r. ⌜ r ≡ tornVector call ⌝ }
+pub fn torn() -> Vector
+    ensures { λ r. ⌜ r ≡ tornVector ⌝ }
 {
     Vector {
-        call,
+        call: 0,
         number: 0,
         expected: 0,
         met: false,
@@ -359,22 +567,15 @@ fn due_at(numbers: &[u32], at: usize) -> Due
 
 // Whether the answer, the gas and the events are what is expected.
 fn same_results(due: Due, numbers: &[u32], answer: &[u32], gas: &[f32], events: &[u8]) -> bool
-    requires { ⌜ Inside due (length (now numbers)) ⌝ }
     ensures { λ r. ⌜ r ≡ sameResults due (now (numbers .entry)) (now (answer .entry)) (now (gas .entry)) (now (events .entry)) ⌝ }
 {
-    let answer_from = due.answer.from;
-    let answer_to = due.answer.to;
-    if !same_answer(&numbers[answer_from..answer_to], answer) {
+    if !same_answer(part(numbers, due.answer), answer) {
         return false;
     }
-    let gas_from = due.gas.from;
-    let gas_to = due.gas.to;
-    if !same_gas(&numbers[gas_from..gas_to], gas) {
+    if !same_gas(part(numbers, due.gas), gas) {
         return false;
     }
-    let events_from = due.events.from;
-    let events_to = due.events.to;
-    same_events(&numbers[events_from..events_to], events)
+    same_events(part(numbers, due.events), events)
 }
 
 // Whether all cells are what is expected.
@@ -387,7 +588,6 @@ fn meets(
     floats: &[f32],
     events: &[u8],
 ) -> bool
-    requires { ⌜ Inside due (length (now numbers)) ⌝ }
     ensures { λ r. ⌜ r ≡ met (now (numbers .entry)) (now (answer .entry)) (now (gas .entry)) (now (words .entry)) (now (floats .entry)) (now (events .entry)) due ⌝ }
 {
     if !same_words(due.words, words) {
@@ -399,27 +599,58 @@ fn meets(
     same_results(due, numbers, answer, gas, events)
 }
 
-// A call's answer and the lent cells, held to what is expected from a place on.
+// An answer of no call: it expects nothing that is there.
+pub fn no_answer() -> Answer
+    ensures { λ r. ⌜ r ≡ noAnswer ⌝ }
+{
+    Answer {
+        count: 0,
+        number: 0,
+        second: 0,
+        third: 0,
+        fourth: 0,
+        fifth: 0,
+        sixth: 0,
+        seventh: 0,
+        due: 0xffff_ffff_ffff_ffff,
+    }
+}
+
+// A call's answer and the lent cells, held to what is expected.
 pub fn held(
-    call: u32,
+    a: Answer,
     numbers: &[u32],
-    expected: usize,
-    answer: &[u32],
     gas: &[f32],
     words: &[u32],
     floats: &[f32],
     events: &[u8],
 ) -> Vector
-    ensures { λ r. ⌜ Held (now (numbers .entry)) (now (answer .entry)) (now (gas .entry)) (now (words .entry)) (now (floats .entry)) (now (events .entry)) call expected r ⌝ }
+    ensures { λ r. ⌜ CellsHeld (now (numbers .entry)) (now (gas .entry)) (now (words .entry)) (now (floats .entry)) (now (events .entry)) a r ⌝ }
 {
-    let due = due_at(numbers, expected);
+    let due = due_at(numbers, a.due);
     if numbers.len() < due.next {
-        return torn(call);
+        return torn();
     }
+    let list = [
+        a.number,
+        a.second,
+        a.third,
+        a.fourth,
+        a.fifth,
+        a.sixth,
+        a.seventh,
+    ];
+    let answer = part(
+        &list,
+        Span {
+            from: 0,
+            to: a.count,
+        },
+    );
     Vector {
-        call,
-        number: number_at(answer, 0),
-        expected,
+        call: number_at(numbers, 0),
+        number: a.number,
+        expected: a.due,
         met: meets(due, numbers, answer, gas, words, floats, events),
         next: due.next,
     }

@@ -22,20 +22,21 @@ starts-at-requires c κs = search needs
 nodes-at-requires : tie.Need-nodes-at-requires
 nodes-at-requires c κs = search needs
 
-add-at : tie.Need-add-at
-add-at c = search needs
-
-add-at-2 : tie.Need-add-at-2
-add-at-2 c = search needs
+marks-at-requires : tie.Need-marks-at-requires
+marks-at-requires c κs = search needs
 
 clear-part-requires : tie.Need-clear-part-requires
 clear-part-requires c κs = search needs
 
 zones-apart-requires : tie.Need-zones-apart-requires
 zones-apart-requires c κs =
-    let entry = c .before .before .before .before .before .before .before .before .before .before .before in
-    let cleared = but-cleared _ (length (table (entry .args .marks .now) 3)) (entry .args .words .now) (marks-room (entry .pre) _ _ (c .before .before .before .before .before .before .starts-at .ensures) (c .before .before .before .before .before .nodes-at .ensures)) (c .before .before .before .clear-part .ensures) in
-    let asked = pass-asks (entry .pre) _ _ (c .before .before .before .before .before .before .starts-at .ensures) (c .before .before .before .before .before .nodes-at .ensures) (cleared .0) in
+    let entry = c .before .before .before .before .before .before .before .before .before .before .before .before in
+    let starts-at = c .before .before .before .before .before .before .before .starts-at in
+    let nodes-at = c .before .before .before .before .before .before .nodes-at in
+    let marks-at = c .before .before .before .before .before .marks-at in
+    let clear-part = c .before .before .before .clear-part in
+    let cleared = but-cleared _ (length (table (entry .args .marks .now) 3)) (entry .args .words .now) (marks-room (entry .pre) _ _ _ (starts-at .ensures) (nodes-at .ensures) (marks-at .ensures)) (clear-part .ensures) in
+    let asked = pass-asks (entry .pre) _ _ _ (starts-at .ensures) (nodes-at .ensures) (marks-at .ensures) (cleared .0) in
     (asked .0, (asked .1, cleared .1))
 
 same-length : tie.Need-same-length
@@ -43,12 +44,14 @@ same-length c = search needs
 
 returns : tie.Need-returns
 returns c = λ gases.
-    let entry = c .before .before .before .before .before .before .before .before .before .before .before .before .before .before in
-    let by-starts-at = c .before .before .before .before .before .before .before .before .before .starts-at in
-    let by-nodes-at = c .before .before .before .before .before .before .before .before .nodes-at in
-    let by-clear-part = c .before .before .before .before .before .before .clear-part in
-    let cleared = but-cleared _ (length (table (entry .args .marks .now) 3)) (entry .args .words .now) (marks-room (entry .pre) _ _ (by-starts-at .ensures) (by-nodes-at .ensures)) (by-clear-part .ensures) in
-    tells-gases (entry .args .rows .now) (entry .args .marks .now) gases (pass-tells (entry .pre) _ _ (by-starts-at .ensures) (by-nodes-at .ensures) (cleared .0) (c .before .before .zones-apart .ensures))
+    let entry = c .before .before .before .before .before .before .before .before .before .before .before .before .before .before .before in
+    let starts-at = c .before .before .before .before .before .before .before .before .before .before .starts-at in
+    let nodes-at = c .before .before .before .before .before .before .before .before .before .nodes-at in
+    let marks-at = c .before .before .before .before .before .before .before .before .marks-at in
+    let clear-part = c .before .before .before .before .before .before .clear-part in
+    let zones-apart = c .before .before .zones-apart in
+    let cleared = but-cleared _ (length (table (entry .args .marks .now) 3)) (entry .args .words .now) (marks-room (entry .pre) _ _ _ (starts-at .ensures) (nodes-at .ensures) (marks-at .ensures)) (clear-part .ensures) in
+    tells-gases (entry .args .rows .now) (entry .args .marks .now) gases (pass-tells (entry .pre) _ _ _ (starts-at .ensures) (nodes-at .ensures) (marks-at .ensures) (cleared .0) (zones-apart .ensures))
 
 pub apart-spec : {M : Type 1} → statement M
 apart-spec =
@@ -59,8 +62,7 @@ apart-spec =
     element-copy-out-immutable
     starts-at-requires
     nodes-at-requires
-    add-at
-    add-at-2
+    marks-at-requires
     clear-part-requires
     zones-apart-requires
     same-length

@@ -1,6 +1,6 @@
 -- The loop's invariant: the marks of the nodes that were gone through. Assumes nothing.
 use Rattle.turfs.specs.Tables.{boardOf}
-use Rattle.board_rules.specs.Board.{mixtureCount}
+use Rattle.rules_board.specs.Board.{mixtureCount}
 use Prim.Native.Nat.{_+_, _-_, _≤_}
 use mathlib.Core.List.{List}
 use native.Mathlib.Omega.{arith}
@@ -8,7 +8,7 @@ use borrow.Author.Tests.{not-true, not-false}
 use borrow.Author.Needs.{needs}
 use Rattle.reverse_links.specs.Words.{But}
 use Rattle.reverse_links.proofs.Places.{but-none}
-use Rattle.finish_rules.specs.Turns.{Zone}
+use Rattle.rules_finish.specs.Turns.{Zone}
 use Rattle.apart.proofs.Pass.{marked-but, row-now, Going, going-start, going-next, going-fails, going-end}
 use Rattle.apart.proofs.zone_apart.Statement.{statement}
 use Rattle.apart.proofs.zone_apart.Tie as tie

@@ -1,7 +1,7 @@
 -- The loop's invariant: the marks of the zones that were gone through. Assumes nothing.
-use Rattle.apart.specs.Marks.{Stands, Marks}
+use Rattle.apart.specs.Marks.{ZonesStand, Marks}
 use Rattle.turfs.specs.Tables.{boardOf}
-use Rattle.board_rules.specs.Board.{mixtureCount}
+use Rattle.rules_board.specs.Board.{mixtureCount}
 use Prim.Native.Nat.{_+_, _-_, _≤_}
 use mathlib.Core.Path.{_≡_, sym}
 use mathlib.Core.List.{List}
@@ -11,7 +11,7 @@ use borrow.Author.Tests.{not-true, not-false}
 use borrow.Author.Needs.{needs}
 use Rattle.reverse_links.specs.Words.{But}
 use Rattle.reverse_links.proofs.Places.{but-none, but-then}
-use Rattle.finish_rules.specs.Turns.{Zone}
+use Rattle.rules_finish.specs.Turns.{Zone}
 use Rattle.apart.proofs.Pass.{marks-start, end-before, start-before, rows-now, zone-next, apart-true, apart-false}
 use Rattle.apart.proofs.zones_apart.Statement.{statement}
 use Rattle.apart.proofs.zones_apart.Tie as tie
@@ -19,7 +19,7 @@ use Rattle.apart.proofs.zones_apart.Tie as tie
 abbrev Inv-loop : tie.InvT-loop
 Inv-loop zones first nodes at rows marks words₀ z₀ words z =
     let b = boardOf rows marks 0 in
-    ((z ≤ zones) × But at (at + mixtureCount b) words₀ words) × ((zs : List Zone) → length zs ≡ zones → Stands first nodes zs words₀ → Marks b zs z 0 at words)
+    ((z ≤ zones) × But at (at + mixtureCount b) words₀ words) × ((zs : List Zone) → length zs ≡ zones → ZonesStand first nodes zs words₀ → Marks b zs z 0 at words)
 
 abbrev μ-loop : tie.MeasureT-loop
 μ-loop zones first nodes at rows marks words₀ z₀ words z = zones - z
@@ -78,10 +78,14 @@ same-length c = search needs
 
 returns : tie.Need-returns Inv-loop μ-loop
 returns c =
-    let entry = c .before .before .before .before .before .before .before .before .before .before in
-    let head = c .before .before .before .before .before .before .before .before .loop in
-    let by-loop-test = c .before .before .before .before .before .before .before .loop-test in
-    let by-zone-apart = c .before .before .before .zone-apart in
+    let before = c .before .before .before .before .before .before .before .before .before .before in
+    let loop = c .before .before .before .before .before .before .before .before .loop in
+    let loop-test = c .before .before .before .before .before .before .before .loop-test in
+    let zone-apart = c .before .before .before .zone-apart in
+    let entry = before in
+    let head = loop in
+    let by-loop-test = loop-test in
+    let by-zone-apart = zone-apart in
     record { words = but-then (omega arith) (omega arith) (head .inv .0 .1) (by-zone-apart .ensures .0); answer = λ zs e s. sym (apart-false _ zs _ (omega (arith, e, (by-loop-test .taken))) (zone-next (entry .pre .1 .0) (head .inv .0 .1) _ (by-loop-test .taken) _ zs s e (head .inv .1 zs e s) (by-zone-apart .ensures .1 zs) .1 (not-true _ (c .if1 .taken)))) }
 
 add-z : tie.Need-add-z Inv-loop μ-loop
@@ -92,10 +96,14 @@ loop-less c = omega (arith, (c .before .before .before .before .before .before .
 
 loop-again : tie.Need-loop-again Inv-loop μ-loop
 loop-again c =
-    let entry = c .before .before .before .before .before .before .before .before .before .before in
-    let head = c .before .before .before .before .before .before .before .before .loop in
-    let by-loop-test = c .before .before .before .before .before .before .before .loop-test in
-    let by-zone-apart = c .before .before .before .zone-apart in
+    let before = c .before .before .before .before .before .before .before .before .before .before in
+    let loop = c .before .before .before .before .before .before .before .before .loop in
+    let loop-test = c .before .before .before .before .before .before .before .loop-test in
+    let zone-apart = c .before .before .before .zone-apart in
+    let entry = before in
+    let head = loop in
+    let by-loop-test = loop-test in
+    let by-zone-apart = zone-apart in
     ((omega (arith, (by-loop-test .taken)), but-then (omega arith) (omega arith) (head .inv .0 .1) (by-zone-apart .ensures .0)), λ zs e s. zone-next (entry .pre .1 .0) (head .inv .0 .1) _ (by-loop-test .taken) _ zs s e (head .inv .1 zs e s) (by-zone-apart .ensures .1 zs) .0 (not-false _ (c .if1 .left)))
 
 same-length-2 : tie.Need-same-length-2 Inv-loop μ-loop

@@ -11,13 +11,13 @@ clear-requires : tie.Need-clear-requires
 clear-requires c κs = search needs
 
 found-at-requires : tie.Need-found-at-requires
-found-at-requires c κs = search needs
+found-at-requires c κs = c .before .before .before .before .before .pre .0
 
 add-end : tie.Need-add-end
-add-end c = search needs
+add-end c = omega (arith, c .before .before .before .before .before .before .pre .0 .turfs, c .before .before .before .before .before .before .pre .0 .links, c .found-at .ensures)
 
 mul-clear : tie.Need-mul-clear
-mul-clear c = search needs
+mul-clear c = omega (arith, c .before .before .before .before .before .before .pre .0 .turfs, c .before .before .before .before .before .before .pre .0 .links, c .found-at .ensures)
 
 sub-clear : tie.Need-sub-clear
 sub-clear c = search needs
@@ -32,10 +32,10 @@ clear-requires-2 : tie.Need-clear-requires-2
 clear-requires-2 c κs = search needs
 
 starts-at-requires : tie.Need-starts-at-requires
-starts-at-requires c κs = search needs
+starts-at-requires c κs = c .before .before .before .before .before .before .before .before .before .before .pre .0
 
 mul-words : tie.Need-mul-words
-mul-words c = search needs
+mul-words c = omega (arith, c .before .before .before .before .before .before .before .before .before .before .before .pre .0 .turfs, c .before .before .before .before .before .before .before .before .before .before .before .pre .0 .links, c .starts-at .ensures)
 
 slice-write-words : tie.Need-slice-write-words
 slice-write-words c = search needs

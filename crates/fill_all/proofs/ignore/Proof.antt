@@ -14,7 +14,7 @@ abbrev μ-loop : tie.MeasureT-loop
 μ-loop queued n e starts words₀ queue i₀ words i = queued - i
 
 queue-at-requires : tie.Need-queue-at-requires Inv-loop μ-loop
-queue-at-requires c κs = (c .before .before .pre .0 .sizes .links, c .before .before .pre .0 .sizes .turfs)
+queue-at-requires c κs = c .before .before .pre .0 .sizes
 
 loop-holds : tie.Need-loop-holds Inv-loop μ-loop
 loop-holds c = backing-start _ _ _ _ _

@@ -3,6 +3,7 @@ use mathlib.Core.Path.{sym, _∙_}
 use borrow.Author.Tests.{not-true, not-false}
 use Rattle.turfs.specs.Tables.{boardAt}
 use Rattle.fill_all.proofs.Hot.{is-found, is-off, is-rest, mark-is}
+use native.Mathlib.Omega.{arith}
 use borrow.Author.Needs.{needs}
 use Rattle.fill_all.proofs.passed_over.Statement.{statement}
 use Rattle.fill_all.proofs.passed_over.Tie as tie
@@ -17,16 +18,22 @@ element-copy-out-flags : tie.Need-element-copy-out-flags
 element-copy-out-flags c = search needs
 
 found-at-requires : tie.Need-found-at-requires
-found-at-requires c κs = search needs
+found-at-requires c κs = c .before .before .before .before .before .pre .1 .1 .sizes
 
 add-if1 : tie.Need-add-if1
-add-if1 c = search needs
+add-if1 c =
+    let fits = c .before .before .before .before .before .before .pre .1 .1 in
+    omega (arith, c .found-at .ensures, fits .sizes .turfs, fits .sizes .links, fits .row)
 
 mul-if1 : tie.Need-mul-if1
-mul-if1 c = search needs
+mul-if1 c =
+    let fits = c .before .before .before .before .before .before .pre .1 .1 in
+    omega (arith, c .found-at .ensures, fits .sizes .turfs, fits .sizes .links, fits .row)
 
 shared-slice-read-if1 : tie.Need-shared-slice-read-if1
-shared-slice-read-if1 c = search needs
+shared-slice-read-if1 c =
+    let fits = c .before .before .before .before .before .before .before .pre .1 .1 in
+    omega (arith, c .before .found-at .ensures, fits .words, fits .row)
 
 returns : tie.Need-returns
 returns c = λ q et.
@@ -35,7 +42,7 @@ returns c = λ q et.
     is-found (boardAt (entry .args .rows) (entry .args .marks) (entry .args .gases)) _ q _ _ (λ i. c .if1 .taken (mark ∙ i))
 
 shared-slice-read-t28 : tie.Need-shared-slice-read-t28
-shared-slice-read-t28 c = search needs
+shared-slice-read-t28 c = rw (c .before .before .before .before .before .before .before .before .before .pre .0 .flags) (c .before .before .before .before .before .before .before .before .before .pre .1 .1 .row)
 
 enabled-requires : tie.Need-enabled-requires
 enabled-requires c κs = search needs
@@ -49,7 +56,7 @@ returns-2 c = λ q et.
     is-off (boardAt (entry .args .rows) (entry .args .marks) (entry .args .gases)) _ q _ _ (sym mark ∙ by-if1 .left) (sym (c .before .enabled .ensures) ∙ not-true _ (c .if2 .taken))
 
 unshareable-requires : tie.Need-unshareable-requires
-unshareable-requires c κs = search needs
+unshareable-requires c κs = (c .before .before .before .before .before .before .before .before .before .before .before .pre .0, (c .before .before .before .before .before .before .before .before .before .before .before .pre .1 .0, c .before .before .before .before .before .before .before .before .before .before .before .pre .1 .1 .row))
 
 returns-3 : tie.Need-returns-3
 returns-3 c = λ q et.

@@ -1,5 +1,5 @@
 -- Past the clock, broken off at the limit, or expanded. Assumes nothing.
-use Rattle.flood_fill.specs.Asked.{Free}
+use Rattle.fill_links.specs.Asked.{Free}
 use Rattle.turfs.specs.Tables.{table}
 use Rattle.fill_zone.proofs.Pops.{row-below, pop-over, pop-broken, pop-on}
 use lib.ListN.{getD}

@@ -4,11 +4,11 @@ use mathlib.Core.Bool.{true}
 use Prim.Native.Nat.{ℕ, _+_}
 use lib.ListN.{getD}
 use lib.Ieee.{nan}
-use Rattle.finish_rules.specs.Lifted.{above}
+use Rattle.rules_finish.specs.Lifted.{above}
 use denote.Ref.{now}
 use Rattle.basics.specs.declared.Spot.{Spot}
 use Rattle.basics.specs.Floats.{0f}
-use Rattle.plan_rules.specs.Edges.{alter}
+use Rattle.rules_plan.specs.Edges.{alter}
 use Rattle.finish_send.proofs.Edge.{back-fits, has-bits, sends-at}
 use Rattle.events.proofs.Areas.{one-added}
 use borrow.Author.Needs.{needs}

@@ -5,7 +5,7 @@ use mathlib.Core.Path.{refl, _∙_}
 use native.Mathlib.Omega.{arith}
 use borrow.Author.Needs.{needs}
 use Rattle.turfs.specs.Tables.{boardOf}
-use Rattle.finish_send.specs.Areas.{areas}
+use Rattle.finish_send.specs.Areas.{finishAreas}
 use Rattle.finish_send.proofs.Passing.{At, few-links, sent-size, edge-room, short-room, loop-start, send-fits, loop-next, stopped, all-sent}
 use Rattle.finish_send.proofs.send_edges.Statement.{statement}
 use Rattle.finish_send.proofs.send_edges.Tie as tie
@@ -18,7 +18,7 @@ use Rattle.scratch.proofs.lifted_at.Reads as lifted-at-reads
 
 abbrev Inv-loop : tie.InvT-loop
 Inv-loop turf used rows marks gas₀ words floats₀ events₀ zone to from stop up now₀ k₀ gas floats events now k =
-    At (boardOf rows marks (turf .gases)) words stop zone (turf .row) up from to (areas gas₀ floats₀ events₀ used) k (areas gas floats events now)
+    At (boardOf rows marks (turf .gases)) words stop zone (turf .row) up from to (finishAreas gas₀ floats₀ events₀ used) k (finishAreas gas floats events now)
 
 abbrev μ-loop : tie.MeasureT-loop
 μ-loop turf used rows marks gas₀ words floats₀ events₀ zone to from stop up now₀ k₀ gas floats events now k =

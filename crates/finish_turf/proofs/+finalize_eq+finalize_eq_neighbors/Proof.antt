@@ -1,13 +1,13 @@
 -- The two functions meet their contracts. The measures: twice the weights above 0, and one more for the givers, which come after a weight above 0 was lifted. Assumes nothing.
-use mathlib.Core.Path.{_≡_, refl, _∙_}
+use mathlib.Core.Path.{_≡_, refl, sym, _∙_}
 use native.Mathlib.Omega.{arith}
 use lib.ListN.{length, take}
 use denote.Ref.{now}
 use borrow.Author.Needs.{needs}
-use Rattle.finish_rules.specs.Lifted.{pending}
+use Rattle.rules_finish.specs.Lifted.{pending}
 use Rattle.turfs.specs.Tables.{boardOf, table}
-use Rattle.finish_send.specs.Areas.{areas}
-use Rattle.finish_turf.proofs.Turf.{links-room, clear-room, saved-size, quiet-finishes, lifted-going, sent-finishes, fell, givers-begun, rest-going, rest-finishes}
+use Rattle.finish_send.specs.Areas.{finishAreas}
+use Rattle.finish_turf.proofs.Turf.{links-room}
 use Rattle.finish_turf.proofs.Givers.{Giving, loop-start, giver-begun, link-below, edge-room, loop-next, givers-finished}
 use Prim.Native.Nat.{ℕ, _+_, _-_, _<_}
 use mathlib.Core.List.{List}
@@ -20,14 +20,13 @@ use Rattle.finish_turf.proofs.+finalize_eq+finalize_eq_neighbors.Lts-fi
 use Rattle.finish_turf.proofs.finalize_eq_neighbors.Reads as finalize-eq-neighbors
 use Rattle.finish_turf.proofs.finalize_eq_neighbors.Kinds as finalize-eq-neighbors-kinds
 use Rattle.finish_turf.proofs.+finalize_eq+finalize_eq_neighbors.Lts-finalize_eq_neighbors as finalize-eq-neighbors-lts
-use Rattle.finish_send.proofs.clear_weights.Reads as clear-weights-reads
 use Rattle.finish_send.proofs.next_edge.Reads as next-edge-reads
-use Rattle.finish_send.proofs.save.Reads as save-reads
-use Rattle.finish_send.proofs.send_edges.Reads as send-edges-reads
 use Rattle.scratch.proofs.lifted_at.Reads as lifted-at-reads
 use Rattle.turfs.proofs.links_of.Reads as links-of-reads
 use Rattle.finish_turf.proofs.+finalize_eq+finalize_eq_neighbors.{statement}
 use Rattle.finish_turf.proofs.+finalize_eq+finalize_eq_neighbors.Tie.{close}
+use Rattle.finish_turf.proofs.send_first.Reads as send-first-reads
+use Rattle.finish_turf.proofs.send_rest.Reads as send-rest-reads
 
 -- twice the weights above 0, of a board with these neighbours
 abbrev twice : List ℕ → List Float → ℕ
@@ -63,542 +62,208 @@ finalize-eq-neighbors-below t =
     (falls 8 finalize-eq-neighbors-kinds.ps _<_ μ-finalize-eq-neighbors t)
     finalize-eq-neighbors.Pre
 
-finalize-eq-element-copy-out-links-of : (t : ℕ) → finalize-eq-lts.Need-element-copy-out-links-of (
+finalize-eq-send-first-requires : (t : ℕ) → finalize-eq-lts.Need-send-first-requires (
+  send-first-reads.Asked,
+  send-first-reads.Learnt,
   links-of-reads.Asked,
   links-of-reads.Learnt,
-  next-edge-reads.Asked,
-  next-edge-reads.Learnt,
-  clear-weights-reads.Asked,
-  clear-weights-reads.Learnt,
-  lifted-at-reads.Asked,
-  lifted-at-reads.Learnt,
-  save-reads.Asked,
-  save-reads.Learnt,
-  send-edges-reads.Asked,
-  send-edges-reads.Learnt,
   finalize-eq-neighbors-below t,
   finalize-eq-neighbors.Post,
+  send-rest-reads.Asked,
+  send-rest-reads.Learnt,
+) (finalize-eq-at t) finalize-eq.Post
+finalize-eq-send-first-requires t c κs = c .before .before .before .before .before .before .before .pre .1
+
+finalize-eq-element-copy-out-links-of : (t : ℕ) → finalize-eq-lts.Need-element-copy-out-links-of (
+  send-first-reads.Asked,
+  send-first-reads.Learnt,
+  links-of-reads.Asked,
+  links-of-reads.Learnt,
+  finalize-eq-neighbors-below t,
+  finalize-eq-neighbors.Post,
+  send-rest-reads.Asked,
+  send-rest-reads.Learnt,
 ) (finalize-eq-at t) finalize-eq.Post
 finalize-eq-element-copy-out-links-of t c = search needs
 
 finalize-eq-links-of-requires : (t : ℕ) → finalize-eq-lts.Need-links-of-requires (
+  send-first-reads.Asked,
+  send-first-reads.Learnt,
   links-of-reads.Asked,
   links-of-reads.Learnt,
-  next-edge-reads.Asked,
-  next-edge-reads.Learnt,
-  clear-weights-reads.Asked,
-  clear-weights-reads.Learnt,
-  lifted-at-reads.Asked,
-  lifted-at-reads.Learnt,
-  save-reads.Asked,
-  save-reads.Learnt,
-  send-edges-reads.Asked,
-  send-edges-reads.Learnt,
   finalize-eq-neighbors-below t,
   finalize-eq-neighbors.Post,
+  send-rest-reads.Asked,
+  send-rest-reads.Learnt,
 ) (finalize-eq-at t) finalize-eq.Post
-finalize-eq-links-of-requires t c κs = omega (arith, c .before .before .before .before .before .pre .1 .ready .board .starts, c .before .before .before .before .before .pre .1 .row)
-
-finalize-eq-next-edge-requires : (t : ℕ) → finalize-eq-lts.Need-next-edge-requires (
-  links-of-reads.Asked,
-  links-of-reads.Learnt,
-  next-edge-reads.Asked,
-  next-edge-reads.Learnt,
-  clear-weights-reads.Asked,
-  clear-weights-reads.Learnt,
-  lifted-at-reads.Asked,
-  lifted-at-reads.Learnt,
-  save-reads.Asked,
-  save-reads.Learnt,
-  send-edges-reads.Asked,
-  send-edges-reads.Learnt,
-  finalize-eq-neighbors-below t,
-  finalize-eq-neighbors.Post,
-) (finalize-eq-at t) finalize-eq.Post
-finalize-eq-next-edge-requires t c κs = let e = links-room _ _ _ _ _ (c .before .before .before .before .before .before .before .pre .1) _ _ _ refl (c .before .links-of .ensures .0) (c .before .links-of .ensures .1) (now (c .before .before .before .before .before .before .before .args .floats)) refl in (e .0, (e .1 .0, (e .1 .1 .0, omega (arith, e .1 .1 .1))))
-
-finalize-eq-clear-weights-requires : (t : ℕ) → finalize-eq-lts.Need-clear-weights-requires (
-  links-of-reads.Asked,
-  links-of-reads.Learnt,
-  next-edge-reads.Asked,
-  next-edge-reads.Learnt,
-  clear-weights-reads.Asked,
-  clear-weights-reads.Learnt,
-  lifted-at-reads.Asked,
-  lifted-at-reads.Learnt,
-  save-reads.Asked,
-  save-reads.Learnt,
-  send-edges-reads.Asked,
-  send-edges-reads.Learnt,
-  finalize-eq-neighbors-below t,
-  finalize-eq-neighbors.Post,
-) (finalize-eq-at t) finalize-eq.Post
-finalize-eq-clear-weights-requires t c κs =
-    let entry = c .before .before .before .before .before .before .before .before .before .before in
-    let links-of = c .before .before .before .before .links-of in
-    clear-room _ _ _ _ _ (entry .pre .1) _ _ _ refl (links-of .ensures .0) (links-of .ensures .1) (now (entry .args .floats)) refl
+finalize-eq-links-of-requires t c κs =
+    let entry = c .before .before .before .before .before .before .before .before .before .before .before .before .before .before .before in
+    omega (arith, entry .pre .1 .ready .board .starts, entry .pre .1 .row)
 
 finalize-eq-same-length : (t : ℕ) → finalize-eq-lts.Need-same-length (
+  send-first-reads.Asked,
+  send-first-reads.Learnt,
   links-of-reads.Asked,
   links-of-reads.Learnt,
-  next-edge-reads.Asked,
-  next-edge-reads.Learnt,
-  clear-weights-reads.Asked,
-  clear-weights-reads.Learnt,
-  lifted-at-reads.Asked,
-  lifted-at-reads.Learnt,
-  save-reads.Asked,
-  save-reads.Learnt,
-  send-edges-reads.Asked,
-  send-edges-reads.Learnt,
   finalize-eq-neighbors-below t,
   finalize-eq-neighbors.Post,
+  send-rest-reads.Asked,
+  send-rest-reads.Learnt,
 ) (finalize-eq-at t) finalize-eq.Post
-finalize-eq-same-length t c =
-    let entry = c .before .before .before .before .before .before .before .before .before .before .before .before .before in
-    let links-of = c .before .before .before .before .before .before .before .links-of in
-    quiet-finishes _ _ _ _ _ (entry .pre .1) _ _ _ refl (links-of .ensures .0) (links-of .ensures .1) _ _ (c .before .before .before .before .before .next-edge .ensures) (c .before .before .before .before .if1 .taken) (c .before .before .clear-weights .ensures) .kept .floats
-
-finalize-eq-returns : (t : ℕ) → finalize-eq-lts.Need-returns (
-  links-of-reads.Asked,
-  links-of-reads.Learnt,
-  next-edge-reads.Asked,
-  next-edge-reads.Learnt,
-  clear-weights-reads.Asked,
-  clear-weights-reads.Learnt,
-  lifted-at-reads.Asked,
-  lifted-at-reads.Learnt,
-  save-reads.Asked,
-  save-reads.Learnt,
-  send-edges-reads.Asked,
-  send-edges-reads.Learnt,
-  finalize-eq-neighbors-below t,
-  finalize-eq-neighbors.Post,
-) (finalize-eq-at t) finalize-eq.Post
-finalize-eq-returns t c =
-    let entry = c .before .before .before .before .before .before .before .before .before .before .before .before .before in
-    let links-of = c .before .before .before .before .before .before .before .links-of in
-    quiet-finishes _ _ _ _ _ (entry .pre .1) _ _ _ refl (links-of .ensures .0) (links-of .ensures .1) _ _ (c .before .before .before .before .before .next-edge .ensures) (c .before .before .before .before .if1 .taken) (c .before .before .clear-weights .ensures)
-
-finalize-eq-element-copy-out-lifted-at : (t : ℕ) → finalize-eq-lts.Need-element-copy-out-lifted-at (
-  links-of-reads.Asked,
-  links-of-reads.Learnt,
-  next-edge-reads.Asked,
-  next-edge-reads.Learnt,
-  clear-weights-reads.Asked,
-  clear-weights-reads.Learnt,
-  lifted-at-reads.Asked,
-  lifted-at-reads.Learnt,
-  save-reads.Asked,
-  save-reads.Learnt,
-  send-edges-reads.Asked,
-  send-edges-reads.Learnt,
-  finalize-eq-neighbors-below t,
-  finalize-eq-neighbors.Post,
-) (finalize-eq-at t) finalize-eq.Post
-finalize-eq-element-copy-out-lifted-at t c = search needs
-
-finalize-eq-element-copy-out-lifted-at-2 :
-    (t : ℕ) → finalize-eq-lts.Need-element-copy-out-lifted-at-2 (
-      links-of-reads.Asked,
-      links-of-reads.Learnt,
-      next-edge-reads.Asked,
-      next-edge-reads.Learnt,
-      clear-weights-reads.Asked,
-      clear-weights-reads.Learnt,
-      lifted-at-reads.Asked,
-      lifted-at-reads.Learnt,
-      save-reads.Asked,
-      save-reads.Learnt,
-      send-edges-reads.Asked,
-      send-edges-reads.Learnt,
-      finalize-eq-neighbors-below t,
-      finalize-eq-neighbors.Post,
-    ) (finalize-eq-at t) finalize-eq.Post
-finalize-eq-element-copy-out-lifted-at-2 t c = search needs
-
-finalize-eq-lifted-at-requires : (t : ℕ) → finalize-eq-lts.Need-lifted-at-requires (
-  links-of-reads.Asked,
-  links-of-reads.Learnt,
-  next-edge-reads.Asked,
-  next-edge-reads.Learnt,
-  clear-weights-reads.Asked,
-  clear-weights-reads.Learnt,
-  lifted-at-reads.Asked,
-  lifted-at-reads.Learnt,
-  save-reads.Asked,
-  save-reads.Learnt,
-  send-edges-reads.Asked,
-  send-edges-reads.Learnt,
-  finalize-eq-neighbors-below t,
-  finalize-eq-neighbors.Post,
-) (finalize-eq-at t) finalize-eq.Post
-finalize-eq-lifted-at-requires t c κs = search needs
-
-finalize-eq-save-requires : (t : ℕ) → finalize-eq-lts.Need-save-requires (
-  links-of-reads.Asked,
-  links-of-reads.Learnt,
-  next-edge-reads.Asked,
-  next-edge-reads.Learnt,
-  clear-weights-reads.Asked,
-  clear-weights-reads.Learnt,
-  lifted-at-reads.Asked,
-  lifted-at-reads.Learnt,
-  save-reads.Asked,
-  save-reads.Learnt,
-  send-edges-reads.Asked,
-  send-edges-reads.Learnt,
-  finalize-eq-neighbors-below t,
-  finalize-eq-neighbors.Post,
-) (finalize-eq-at t) finalize-eq.Post
-finalize-eq-save-requires t c κs =
-    let entry = c .before .before .before .before .before .before .before .before .before .before .before in
-    let links-of = c .before .before .before .before .before .links-of in
-    links-room _ _ _ _ _ (entry .pre .1) _ _ _ (c .before .lifted-at .ensures) (links-of .ensures .0) (links-of .ensures .1) (now (entry .args .floats)) refl
-
-finalize-eq-clear-weights-requires-2 : (t : ℕ) → finalize-eq-lts.Need-clear-weights-requires-2 (
-  links-of-reads.Asked,
-  links-of-reads.Learnt,
-  next-edge-reads.Asked,
-  next-edge-reads.Learnt,
-  clear-weights-reads.Asked,
-  clear-weights-reads.Learnt,
-  lifted-at-reads.Asked,
-  lifted-at-reads.Learnt,
-  save-reads.Asked,
-  save-reads.Learnt,
-  send-edges-reads.Asked,
-  send-edges-reads.Learnt,
-  finalize-eq-neighbors-below t,
-  finalize-eq-neighbors.Post,
-) (finalize-eq-at t) finalize-eq.Post
-finalize-eq-clear-weights-requires-2 t c κs =
-    let entry = c .before .before .before .before .before .before .before .before .before .before .before .before .before .before .before in
-    let links-of = c .before .before .before .before .before .before .before .before .before .links-of in
-    let lifted-at = c .before .before .before .before .before .lifted-at in
-    let save = c .before .before .before .save in
-    clear-room _ _ _ _ _ (entry .pre .1) _ _ _ (lifted-at .ensures) (links-of .ensures .0) (links-of .ensures .1) (save .last .1 .1 .1 .1 .1 .0) (saved-size _ _ _ _ _ (entry .pre .1) _ _ _ (lifted-at .ensures) (links-of .ensures .0) (links-of .ensures .1) _ (save .ensures))
-
-finalize-eq-send-edges-requires : (t : ℕ) → finalize-eq-lts.Need-send-edges-requires (
-  links-of-reads.Asked,
-  links-of-reads.Learnt,
-  next-edge-reads.Asked,
-  next-edge-reads.Learnt,
-  clear-weights-reads.Asked,
-  clear-weights-reads.Learnt,
-  lifted-at-reads.Asked,
-  lifted-at-reads.Learnt,
-  save-reads.Asked,
-  save-reads.Learnt,
-  send-edges-reads.Asked,
-  send-edges-reads.Learnt,
-  finalize-eq-neighbors-below t,
-  finalize-eq-neighbors.Post,
-) (finalize-eq-at t) finalize-eq.Post
-finalize-eq-send-edges-requires t c κs =
-    let entry = c .before .before .before .before .before .before .before .before .before .before .before .before .before .before .before .before .before .before .before .before .before in
-    let links-of = c .before .before .before .before .before .before .before .before .before .before .before .before .before .before .before .links-of in
-    let next-edge = c .before .before .before .before .before .before .before .before .before .before .before .before .before .next-edge in
-    let if1 = c .before .before .before .before .before .before .before .before .before .before .before .before .if1 in
-    let lifted-at = c .before .before .before .before .before .before .before .before .before .before .before .lifted-at in
-    let save = c .before .before .before .before .before .before .before .before .before .save in
-    lifted-going _ _ _ _ _ (entry .pre .1) _ _ _ (lifted-at .ensures) (links-of .ensures .0) (links-of .ensures .1) _ (next-edge .ensures) (if1 .left) _ _ (save .ensures) (c .before .before .before .before .before .clear-weights2 .ensures)
+finalize-eq-same-length t c = c .before .before .before .before .before .before .before .before .before .before .send-first .ensures .kept .gas
 
 finalize-eq-same-length-2 : (t : ℕ) → finalize-eq-lts.Need-same-length-2 (
+  send-first-reads.Asked,
+  send-first-reads.Learnt,
   links-of-reads.Asked,
   links-of-reads.Learnt,
-  next-edge-reads.Asked,
-  next-edge-reads.Learnt,
-  clear-weights-reads.Asked,
-  clear-weights-reads.Learnt,
-  lifted-at-reads.Asked,
-  lifted-at-reads.Learnt,
-  save-reads.Asked,
-  save-reads.Learnt,
-  send-edges-reads.Asked,
-  send-edges-reads.Learnt,
   finalize-eq-neighbors-below t,
   finalize-eq-neighbors.Post,
+  send-rest-reads.Asked,
+  send-rest-reads.Learnt,
 ) (finalize-eq-at t) finalize-eq.Post
-finalize-eq-same-length-2 t c =
-    let entry = c .before .before .before .before .before .before .before .before .before .before .before .before .before .before .before .before .before .before .before .before .before .before .before .before .before .before .before .before .before in
-    let links-of = c .before .before .before .before .before .before .before .before .before .before .before .before .before .before .before .before .before .before .before .before .before .before .before .links-of in
-    let next-edge = c .before .before .before .before .before .before .before .before .before .before .before .before .before .before .before .before .before .before .before .before .before .next-edge in
-    let if1 = c .before .before .before .before .before .before .before .before .before .before .before .before .before .before .before .before .before .before .before .before .if1 in
-    let lifted-at = c .before .before .before .before .before .before .before .before .before .before .before .before .before .before .before .before .before .before .before .lifted-at in
-    let save = c .before .before .before .before .before .before .before .before .before .before .before .before .before .before .before .before .before .save in
-    let clear-weights2 = c .before .before .before .before .before .before .before .before .before .before .before .before .before .clear-weights2 in
-    let send-edges = c .before .before .before .before .before .before .before .send-edges in
-    sent-finishes _ _ _ _ _ (entry .pre .1) _ _ _ (lifted-at .ensures) (links-of .ensures .0) (links-of .ensures .1) _ (next-edge .ensures) (if1 .left) _ _ (save .ensures) (clear-weights2 .ensures) _ _ (send-edges .ensures) (c .if2 .taken) .kept .gas
+finalize-eq-same-length-2 t c = c .before .before .before .before .before .before .before .before .before .before .send-first .ensures .kept .floats
 
 finalize-eq-same-length-3 : (t : ℕ) → finalize-eq-lts.Need-same-length-3 (
+  send-first-reads.Asked,
+  send-first-reads.Learnt,
   links-of-reads.Asked,
   links-of-reads.Learnt,
-  next-edge-reads.Asked,
-  next-edge-reads.Learnt,
-  clear-weights-reads.Asked,
-  clear-weights-reads.Learnt,
-  lifted-at-reads.Asked,
-  lifted-at-reads.Learnt,
-  save-reads.Asked,
-  save-reads.Learnt,
-  send-edges-reads.Asked,
-  send-edges-reads.Learnt,
   finalize-eq-neighbors-below t,
   finalize-eq-neighbors.Post,
+  send-rest-reads.Asked,
+  send-rest-reads.Learnt,
 ) (finalize-eq-at t) finalize-eq.Post
-finalize-eq-same-length-3 t c =
-    let entry = c .before .before .before .before .before .before .before .before .before .before .before .before .before .before .before .before .before .before .before .before .before .before .before .before .before .before .before .before .before in
-    let links-of = c .before .before .before .before .before .before .before .before .before .before .before .before .before .before .before .before .before .before .before .before .before .before .before .links-of in
-    let next-edge = c .before .before .before .before .before .before .before .before .before .before .before .before .before .before .before .before .before .before .before .before .before .next-edge in
-    let if1 = c .before .before .before .before .before .before .before .before .before .before .before .before .before .before .before .before .before .before .before .before .if1 in
-    let lifted-at = c .before .before .before .before .before .before .before .before .before .before .before .before .before .before .before .before .before .before .before .lifted-at in
-    let save = c .before .before .before .before .before .before .before .before .before .before .before .before .before .before .before .before .before .save in
-    let clear-weights2 = c .before .before .before .before .before .before .before .before .before .before .before .before .before .clear-weights2 in
-    let send-edges = c .before .before .before .before .before .before .before .send-edges in
-    sent-finishes _ _ _ _ _ (entry .pre .1) _ _ _ (lifted-at .ensures) (links-of .ensures .0) (links-of .ensures .1) _ (next-edge .ensures) (if1 .left) _ _ (save .ensures) (clear-weights2 .ensures) _ _ (send-edges .ensures) (c .if2 .taken) .kept .floats
+finalize-eq-same-length-3 t c = c .before .before .before .before .before .before .before .before .before .before .send-first .ensures .kept .events
 
-finalize-eq-same-length-4 : (t : ℕ) → finalize-eq-lts.Need-same-length-4 (
+finalize-eq-returns : (t : ℕ) → finalize-eq-lts.Need-returns (
+  send-first-reads.Asked,
+  send-first-reads.Learnt,
   links-of-reads.Asked,
   links-of-reads.Learnt,
-  next-edge-reads.Asked,
-  next-edge-reads.Learnt,
-  clear-weights-reads.Asked,
-  clear-weights-reads.Learnt,
-  lifted-at-reads.Asked,
-  lifted-at-reads.Learnt,
-  save-reads.Asked,
-  save-reads.Learnt,
-  send-edges-reads.Asked,
-  send-edges-reads.Learnt,
   finalize-eq-neighbors-below t,
   finalize-eq-neighbors.Post,
+  send-rest-reads.Asked,
+  send-rest-reads.Learnt,
 ) (finalize-eq-at t) finalize-eq.Post
-finalize-eq-same-length-4 t c =
-    let entry = c .before .before .before .before .before .before .before .before .before .before .before .before .before .before .before .before .before .before .before .before .before .before .before .before .before .before .before .before .before in
-    let links-of = c .before .before .before .before .before .before .before .before .before .before .before .before .before .before .before .before .before .before .before .before .before .before .before .links-of in
-    let next-edge = c .before .before .before .before .before .before .before .before .before .before .before .before .before .before .before .before .before .before .before .before .before .next-edge in
-    let if1 = c .before .before .before .before .before .before .before .before .before .before .before .before .before .before .before .before .before .before .before .before .if1 in
-    let lifted-at = c .before .before .before .before .before .before .before .before .before .before .before .before .before .before .before .before .before .before .before .lifted-at in
-    let save = c .before .before .before .before .before .before .before .before .before .before .before .before .before .before .before .before .before .save in
-    let clear-weights2 = c .before .before .before .before .before .before .before .before .before .before .before .before .before .clear-weights2 in
-    let send-edges = c .before .before .before .before .before .before .before .send-edges in
-    sent-finishes _ _ _ _ _ (entry .pre .1) _ _ _ (lifted-at .ensures) (links-of .ensures .0) (links-of .ensures .1) _ (next-edge .ensures) (if1 .left) _ _ (save .ensures) (clear-weights2 .ensures) _ _ (send-edges .ensures) (c .if2 .taken) .kept .events
-
-finalize-eq-returns-2 : (t : ℕ) → finalize-eq-lts.Need-returns-2 (
-  links-of-reads.Asked,
-  links-of-reads.Learnt,
-  next-edge-reads.Asked,
-  next-edge-reads.Learnt,
-  clear-weights-reads.Asked,
-  clear-weights-reads.Learnt,
-  lifted-at-reads.Asked,
-  lifted-at-reads.Learnt,
-  save-reads.Asked,
-  save-reads.Learnt,
-  send-edges-reads.Asked,
-  send-edges-reads.Learnt,
-  finalize-eq-neighbors-below t,
-  finalize-eq-neighbors.Post,
-) (finalize-eq-at t) finalize-eq.Post
-finalize-eq-returns-2 t c =
-    let entry = c .before .before .before .before .before .before .before .before .before .before .before .before .before .before .before .before .before .before .before .before .before .before .before .before .before .before .before .before .before in
-    let links-of = c .before .before .before .before .before .before .before .before .before .before .before .before .before .before .before .before .before .before .before .before .before .before .before .links-of in
-    let next-edge = c .before .before .before .before .before .before .before .before .before .before .before .before .before .before .before .before .before .before .before .before .before .next-edge in
-    let if1 = c .before .before .before .before .before .before .before .before .before .before .before .before .before .before .before .before .before .before .before .before .if1 in
-    let lifted-at = c .before .before .before .before .before .before .before .before .before .before .before .before .before .before .before .before .before .before .before .lifted-at in
-    let save = c .before .before .before .before .before .before .before .before .before .before .before .before .before .before .before .before .before .save in
-    let clear-weights2 = c .before .before .before .before .before .before .before .before .before .before .before .before .before .clear-weights2 in
-    let send-edges = c .before .before .before .before .before .before .before .send-edges in
-    sent-finishes _ _ _ _ _ (entry .pre .1) _ _ _ (lifted-at .ensures) (links-of .ensures .0) (links-of .ensures .1) _ (next-edge .ensures) (if1 .left) _ _ (save .ensures) (clear-weights2 .ensures) _ _ (send-edges .ensures) (c .if2 .taken)
+finalize-eq-returns t c = c .before .before .before .before .before .before .before .before .before .before .send-first .ensures .all (c .if1 .taken ∙ c .before .before .links-of .ensures .1)
 
 finalize-eq-finalize-eq-neighbors-requires :
     (t : ℕ) → finalize-eq-lts.Need-finalize-eq-neighbors-requires (
+      send-first-reads.Asked,
+      send-first-reads.Learnt,
       links-of-reads.Asked,
       links-of-reads.Learnt,
-      next-edge-reads.Asked,
-      next-edge-reads.Learnt,
-      clear-weights-reads.Asked,
-      clear-weights-reads.Learnt,
-      lifted-at-reads.Asked,
-      lifted-at-reads.Learnt,
-      save-reads.Asked,
-      save-reads.Learnt,
-      send-edges-reads.Asked,
-      send-edges-reads.Learnt,
       finalize-eq-neighbors-below t,
       finalize-eq-neighbors.Post,
+      send-rest-reads.Asked,
+      send-rest-reads.Learnt,
     ) (finalize-eq-at t) finalize-eq.Post
 finalize-eq-finalize-eq-neighbors-requires t c κs =
-    let entry = c .before .before .before .before .before .before .before .before .before .before .before .before .before .before .before .before .before .before .before .before .before .before .before .before .before .before .before .before .before .before .before .before in
-    let links-of = c .before .before .before .before .before .before .before .before .before .before .before .before .before .before .before .before .before .before .before .before .before .before .before .before .before .before .links-of in
-    let next-edge = c .before .before .before .before .before .before .before .before .before .before .before .before .before .before .before .before .before .before .before .before .before .before .before .before .next-edge in
-    let if1 = c .before .before .before .before .before .before .before .before .before .before .before .before .before .before .before .before .before .before .before .before .before .before .before .if1 in
-    let lifted-at = c .before .before .before .before .before .before .before .before .before .before .before .before .before .before .before .before .before .before .before .before .before .before .lifted-at in
-    let save = c .before .before .before .before .before .before .before .before .before .before .before .before .before .before .before .before .before .before .before .before .save in
-    let clear-weights2 = c .before .before .before .before .before .before .before .before .before .before .before .before .before .before .before .before .clear-weights2 in
-    let send-edges = c .before .before .before .before .before .before .before .before .before .before .send-edges in
-    let if2 = c .before .before .before .if2 in (
-      omega (arith, entry .pre .0, fell _ _ _ _ _ (entry .pre .1) _ _ _ (lifted-at .ensures) (links-of .ensures .0) (links-of .ensures .1) _ (next-edge .ensures) (if1 .left) _ _ (save .ensures) (clear-weights2 .ensures) _ _ (send-edges .ensures) (if2 .left)),
-      givers-begun _ _ _ _ _ (entry .pre .1) _ _ _ (lifted-at .ensures) (links-of .ensures .0) (links-of .ensures .1) _ (next-edge .ensures) (if1 .left) _ _ (save .ensures) (clear-weights2 .ensures) _ _ (send-edges .ensures) (if2 .left),
-    )
+    let entry = c .before .before .before .before .before .before .before .before .before .before .before .before .before .before .before .before .before .before .before .before .before in
+    let send-first = c .before .before .before .before .before .before .before .before .before .before .before .before .before .send-first in
+    let links-of = c .before .before .before .before .before .links-of in
+    let if1 = c .before .before .before .if1 in
+    let s = send-first .ensures .short (λ e. if1 .left (e ∙ sym (links-of .ensures .1))) in
+    (omega (arith, entry .pre .0, s .fell), s .begun)
 
-finalize-eq-send-edges-requires-2 : (t : ℕ) → finalize-eq-lts.Need-send-edges-requires-2 (
+finalize-eq-send-rest-requires : (t : ℕ) → finalize-eq-lts.Need-send-rest-requires (
+  send-first-reads.Asked,
+  send-first-reads.Learnt,
   links-of-reads.Asked,
   links-of-reads.Learnt,
-  next-edge-reads.Asked,
-  next-edge-reads.Learnt,
-  clear-weights-reads.Asked,
-  clear-weights-reads.Learnt,
-  lifted-at-reads.Asked,
-  lifted-at-reads.Learnt,
-  save-reads.Asked,
-  save-reads.Learnt,
-  send-edges-reads.Asked,
-  send-edges-reads.Learnt,
   finalize-eq-neighbors-below t,
   finalize-eq-neighbors.Post,
+  send-rest-reads.Asked,
+  send-rest-reads.Learnt,
 ) (finalize-eq-at t) finalize-eq.Post
-finalize-eq-send-edges-requires-2 t c κs =
-    let entry = c .before .before .before .before .before .before .before .before .before .before .before .before .before .before .before .before .before .before .before .before .before .before .before .before .before .before .before .before .before .before .before .before .before .before .before .before .before .before .before .before .before .before in
-    let links-of = c .before .before .before .before .before .before .before .before .before .before .before .before .before .before .before .before .before .before .before .before .before .before .before .before .before .before .before .before .before .before .before .before .before .before .before .before .links-of in
-    let next-edge = c .before .before .before .before .before .before .before .before .before .before .before .before .before .before .before .before .before .before .before .before .before .before .before .before .before .before .before .before .before .before .before .before .before .before .next-edge in
-    let if1 = c .before .before .before .before .before .before .before .before .before .before .before .before .before .before .before .before .before .before .before .before .before .before .before .before .before .before .before .before .before .before .before .before .before .if1 in
-    let lifted-at = c .before .before .before .before .before .before .before .before .before .before .before .before .before .before .before .before .before .before .before .before .before .before .before .before .before .before .before .before .before .before .before .before .lifted-at in
-    let save = c .before .before .before .before .before .before .before .before .before .before .before .before .before .before .before .before .before .before .before .before .before .before .before .before .before .before .before .before .before .before .save in
-    let clear-weights2 = c .before .before .before .before .before .before .before .before .before .before .before .before .before .before .before .before .before .before .before .before .before .before .before .before .before .before .clear-weights2 in
-    let send-edges = c .before .before .before .before .before .before .before .before .before .before .before .before .before .before .before .before .before .before .before .before .send-edges in
-    let if2 = c .before .before .before .before .before .before .before .before .before .before .before .before .before .if2 in
+finalize-eq-send-rest-requires t c κs =
+    let send-first = c .before .before .before .before .before .before .before .before .before .before .before .before .before .before .before .before .before .before .before .before .before .before .before .send-first in
+    let links-of = c .before .before .before .before .before .before .before .before .before .before .before .before .before .before .before .links-of in
+    let if1 = c .before .before .before .before .before .before .before .before .before .before .before .before .before .if1 in
     let finalize-eq-neighbors = c .before .before .before .before .before .before .before .before .before .finalize-eq-neighbors in
-    rest-going _ _ _ _ _ (entry .pre .1) _ _ _ (lifted-at .ensures) (links-of .ensures .0) (links-of .ensures .1) _ (next-edge .ensures) (if1 .left) _ _ (save .ensures) (clear-weights2 .ensures) _ _ (send-edges .ensures) (if2 .left) _ (finalize-eq-neighbors .ensures)
+    let s = send-first .ensures .short (λ e. if1 .left (e ∙ sym (links-of .ensures .1))) in
+    s .going _ (finalize-eq-neighbors .ensures)
+
+finalize-eq-same-length-4 : (t : ℕ) → finalize-eq-lts.Need-same-length-4 (
+  send-first-reads.Asked,
+  send-first-reads.Learnt,
+  links-of-reads.Asked,
+  links-of-reads.Learnt,
+  finalize-eq-neighbors-below t,
+  finalize-eq-neighbors.Post,
+  send-rest-reads.Asked,
+  send-rest-reads.Learnt,
+) (finalize-eq-at t) finalize-eq.Post
+finalize-eq-same-length-4 t c =
+    let send-first = c .before .before .before .before .before .before .before .before .before .before .before .before .before .before .before .before .before .before .before .before .before .before .before .before .before .before .before .before .before .before .send-first in
+    let links-of = c .before .before .before .before .before .before .before .before .before .before .before .before .before .before .before .before .before .before .before .before .before .before .links-of in
+    let if1 = c .before .before .before .before .before .before .before .before .before .before .before .before .before .before .before .before .before .before .before .before .if1 in
+    let finalize-eq-neighbors = c .before .before .before .before .before .before .before .before .before .before .before .before .before .before .before .before .finalize-eq-neighbors in
+    let send-rest = c .before .before .before .before .before .before .send-rest in
+    let s = send-first .ensures .short (λ e. if1 .left (e ∙ sym (links-of .ensures .1))) in
+    s .rest _ _ (finalize-eq-neighbors .ensures) (send-rest .ensures) .kept .gas
 
 finalize-eq-same-length-5 : (t : ℕ) → finalize-eq-lts.Need-same-length-5 (
+  send-first-reads.Asked,
+  send-first-reads.Learnt,
   links-of-reads.Asked,
   links-of-reads.Learnt,
-  next-edge-reads.Asked,
-  next-edge-reads.Learnt,
-  clear-weights-reads.Asked,
-  clear-weights-reads.Learnt,
-  lifted-at-reads.Asked,
-  lifted-at-reads.Learnt,
-  save-reads.Asked,
-  save-reads.Learnt,
-  send-edges-reads.Asked,
-  send-edges-reads.Learnt,
   finalize-eq-neighbors-below t,
   finalize-eq-neighbors.Post,
+  send-rest-reads.Asked,
+  send-rest-reads.Learnt,
 ) (finalize-eq-at t) finalize-eq.Post
 finalize-eq-same-length-5 t c =
-    let entry = c .before .before .before .before .before .before .before .before .before .before .before .before .before .before .before .before .before .before .before .before .before .before .before .before .before .before .before .before .before .before .before .before .before .before .before
-    .before .before .before .before .before .before .before .before .before .before .before .before .before .before in
-    let links-of = c .before .before .before .before .before .before .before .before .before .before .before .before .before .before .before .before .before .before .before .before .before .before .before .before .before .before .before .before .before .before .before .before .before .before .before .before .before .before .before .before .before .before .before .links-of in
-    let next-edge = c .before .before .before .before .before .before .before .before .before .before .before .before .before .before .before .before .before .before .before .before .before .before .before .before .before .before .before .before .before .before .before .before .before .before .before .before .before .before .before .before .before .next-edge in
-    let if1 = c .before .before .before .before .before .before .before .before .before .before .before .before .before .before .before .before .before .before .before .before .before .before .before .before .before .before .before .before .before .before .before .before .before .before .before .before .before .before .before .before .if1 in
-    let lifted-at = c .before .before .before .before .before .before .before .before .before .before .before .before .before .before .before .before .before .before .before .before .before .before .before .before .before .before .before .before .before .before .before .before .before .before .before .before .before .before .before .lifted-at in
-    let save = c .before .before .before .before .before .before .before .before .before .before .before .before .before .before .before .before .before .before .before .before .before .before .before .before .before .before .before .before .before .before .before .before .before .before .before .before .before .save in
-    let clear-weights2 = c .before .before .before .before .before .before .before .before .before .before .before .before .before .before .before .before .before .before .before .before .before .before .before .before .before .before .before .before .before .before .before .before .before .clear-weights2 in
-    let send-edges = c .before .before .before .before .before .before .before .before .before .before .before .before .before .before .before .before .before .before .before .before .before .before .before .before .before .before .before .send-edges in
-    let if2 = c .before .before .before .before .before .before .before .before .before .before .before .before .before .before .before .before .before .before .before .before .if2 in
+    let send-first = c .before .before .before .before .before .before .before .before .before .before .before .before .before .before .before .before .before .before .before .before .before .before .before .before .before .before .before .before .before .before .send-first in
+    let links-of = c .before .before .before .before .before .before .before .before .before .before .before .before .before .before .before .before .before .before .before .before .before .before .links-of in
+    let if1 = c .before .before .before .before .before .before .before .before .before .before .before .before .before .before .before .before .before .before .before .before .if1 in
     let finalize-eq-neighbors = c .before .before .before .before .before .before .before .before .before .before .before .before .before .before .before .before .finalize-eq-neighbors in
-    let send-edges2 = c .before .before .before .before .before .before .send-edges2 in
-    rest-finishes _ _ _ _ _ (entry .pre .1) _ _ _ (lifted-at .ensures) (links-of .ensures .0) (links-of .ensures .1) _ (next-edge .ensures) (if1 .left) _ _ (save .ensures) (clear-weights2 .ensures) _ _ (send-edges .ensures) (if2 .left) _ (finalize-eq-neighbors .ensures) _ _ (send-edges2 .ensures) .kept .gas
+    let send-rest = c .before .before .before .before .before .before .send-rest in
+    let s = send-first .ensures .short (λ e. if1 .left (e ∙ sym (links-of .ensures .1))) in
+    s .rest _ _ (finalize-eq-neighbors .ensures) (send-rest .ensures) .kept .floats
 
 finalize-eq-same-length-6 : (t : ℕ) → finalize-eq-lts.Need-same-length-6 (
+  send-first-reads.Asked,
+  send-first-reads.Learnt,
   links-of-reads.Asked,
   links-of-reads.Learnt,
-  next-edge-reads.Asked,
-  next-edge-reads.Learnt,
-  clear-weights-reads.Asked,
-  clear-weights-reads.Learnt,
-  lifted-at-reads.Asked,
-  lifted-at-reads.Learnt,
-  save-reads.Asked,
-  save-reads.Learnt,
-  send-edges-reads.Asked,
-  send-edges-reads.Learnt,
   finalize-eq-neighbors-below t,
   finalize-eq-neighbors.Post,
+  send-rest-reads.Asked,
+  send-rest-reads.Learnt,
 ) (finalize-eq-at t) finalize-eq.Post
 finalize-eq-same-length-6 t c =
-    let entry = c .before .before .before .before .before .before .before .before .before .before .before .before .before .before .before .before .before .before .before .before .before .before .before .before .before .before .before .before .before .before .before .before .before .before .before
-    .before .before .before .before .before .before .before .before .before .before .before .before .before .before in
-    let links-of = c .before .before .before .before .before .before .before .before .before .before .before .before .before .before .before .before .before .before .before .before .before .before .before .before .before .before .before .before .before .before .before .before .before .before .before .before .before .before .before .before .before .before .before .links-of in
-    let next-edge = c .before .before .before .before .before .before .before .before .before .before .before .before .before .before .before .before .before .before .before .before .before .before .before .before .before .before .before .before .before .before .before .before .before .before .before .before .before .before .before .before .before .next-edge in
-    let if1 = c .before .before .before .before .before .before .before .before .before .before .before .before .before .before .before .before .before .before .before .before .before .before .before .before .before .before .before .before .before .before .before .before .before .before .before .before .before .before .before .before .if1 in
-    let lifted-at = c .before .before .before .before .before .before .before .before .before .before .before .before .before .before .before .before .before .before .before .before .before .before .before .before .before .before .before .before .before .before .before .before .before .before .before .before .before .before .before .lifted-at in
-    let save = c .before .before .before .before .before .before .before .before .before .before .before .before .before .before .before .before .before .before .before .before .before .before .before .before .before .before .before .before .before .before .before .before .before .before .before .before .before .save in
-    let clear-weights2 = c .before .before .before .before .before .before .before .before .before .before .before .before .before .before .before .before .before .before .before .before .before .before .before .before .before .before .before .before .before .before .before .before .before .clear-weights2 in
-    let send-edges = c .before .before .before .before .before .before .before .before .before .before .before .before .before .before .before .before .before .before .before .before .before .before .before .before .before .before .before .send-edges in
-    let if2 = c .before .before .before .before .before .before .before .before .before .before .before .before .before .before .before .before .before .before .before .before .if2 in
+    let send-first = c .before .before .before .before .before .before .before .before .before .before .before .before .before .before .before .before .before .before .before .before .before .before .before .before .before .before .before .before .before .before .send-first in
+    let links-of = c .before .before .before .before .before .before .before .before .before .before .before .before .before .before .before .before .before .before .before .before .before .before .links-of in
+    let if1 = c .before .before .before .before .before .before .before .before .before .before .before .before .before .before .before .before .before .before .before .before .if1 in
     let finalize-eq-neighbors = c .before .before .before .before .before .before .before .before .before .before .before .before .before .before .before .before .finalize-eq-neighbors in
-    let send-edges2 = c .before .before .before .before .before .before .send-edges2 in
-    rest-finishes _ _ _ _ _ (entry .pre .1) _ _ _ (lifted-at .ensures) (links-of .ensures .0) (links-of .ensures .1) _ (next-edge .ensures) (if1 .left) _ _ (save .ensures) (clear-weights2 .ensures) _ _ (send-edges .ensures) (if2 .left) _ (finalize-eq-neighbors .ensures) _ _ (send-edges2 .ensures) .kept .floats
+    let send-rest = c .before .before .before .before .before .before .send-rest in
+    let s = send-first .ensures .short (λ e. if1 .left (e ∙ sym (links-of .ensures .1))) in
+    s .rest _ _ (finalize-eq-neighbors .ensures) (send-rest .ensures) .kept .events
 
-finalize-eq-same-length-7 : (t : ℕ) → finalize-eq-lts.Need-same-length-7 (
+finalize-eq-returns-2 : (t : ℕ) → finalize-eq-lts.Need-returns-2 (
+  send-first-reads.Asked,
+  send-first-reads.Learnt,
   links-of-reads.Asked,
   links-of-reads.Learnt,
-  next-edge-reads.Asked,
-  next-edge-reads.Learnt,
-  clear-weights-reads.Asked,
-  clear-weights-reads.Learnt,
-  lifted-at-reads.Asked,
-  lifted-at-reads.Learnt,
-  save-reads.Asked,
-  save-reads.Learnt,
-  send-edges-reads.Asked,
-  send-edges-reads.Learnt,
   finalize-eq-neighbors-below t,
   finalize-eq-neighbors.Post,
+  send-rest-reads.Asked,
+  send-rest-reads.Learnt,
 ) (finalize-eq-at t) finalize-eq.Post
-finalize-eq-same-length-7 t c =
-    let entry = c .before .before .before .before .before .before .before .before .before .before .before .before .before .before .before .before .before .before .before .before .before .before .before .before .before .before .before .before .before .before .before .before .before .before .before
-    .before .before .before .before .before .before .before .before .before .before .before .before .before .before in
-    let links-of = c .before .before .before .before .before .before .before .before .before .before .before .before .before .before .before .before .before .before .before .before .before .before .before .before .before .before .before .before .before .before .before .before .before .before .before .before .before .before .before .before .before .before .before .links-of in
-    let next-edge = c .before .before .before .before .before .before .before .before .before .before .before .before .before .before .before .before .before .before .before .before .before .before .before .before .before .before .before .before .before .before .before .before .before .before .before .before .before .before .before .before .before .next-edge in
-    let if1 = c .before .before .before .before .before .before .before .before .before .before .before .before .before .before .before .before .before .before .before .before .before .before .before .before .before .before .before .before .before .before .before .before .before .before .before .before .before .before .before .before .if1 in
-    let lifted-at = c .before .before .before .before .before .before .before .before .before .before .before .before .before .before .before .before .before .before .before .before .before .before .before .before .before .before .before .before .before .before .before .before .before .before .before .before .before .before .before .lifted-at in
-    let save = c .before .before .before .before .before .before .before .before .before .before .before .before .before .before .before .before .before .before .before .before .before .before .before .before .before .before .before .before .before .before .before .before .before .before .before .before .before .save in
-    let clear-weights2 = c .before .before .before .before .before .before .before .before .before .before .before .before .before .before .before .before .before .before .before .before .before .before .before .before .before .before .before .before .before .before .before .before .before .clear-weights2 in
-    let send-edges = c .before .before .before .before .before .before .before .before .before .before .before .before .before .before .before .before .before .before .before .before .before .before .before .before .before .before .before .send-edges in
-    let if2 = c .before .before .before .before .before .before .before .before .before .before .before .before .before .before .before .before .before .before .before .before .if2 in
+finalize-eq-returns-2 t c =
+    let send-first = c .before .before .before .before .before .before .before .before .before .before .before .before .before .before .before .before .before .before .before .before .before .before .before .before .before .before .before .before .before .before .send-first in
+    let links-of = c .before .before .before .before .before .before .before .before .before .before .before .before .before .before .before .before .before .before .before .before .before .before .links-of in
+    let if1 = c .before .before .before .before .before .before .before .before .before .before .before .before .before .before .before .before .before .before .before .before .if1 in
     let finalize-eq-neighbors = c .before .before .before .before .before .before .before .before .before .before .before .before .before .before .before .before .finalize-eq-neighbors in
-    let send-edges2 = c .before .before .before .before .before .before .send-edges2 in
-    rest-finishes _ _ _ _ _ (entry .pre .1) _ _ _ (lifted-at .ensures) (links-of .ensures .0) (links-of .ensures .1) _ (next-edge .ensures) (if1 .left) _ _ (save .ensures) (clear-weights2 .ensures) _ _ (send-edges .ensures) (if2 .left) _ (finalize-eq-neighbors .ensures) _ _ (send-edges2 .ensures) .kept .events
-
-finalize-eq-returns-3 : (t : ℕ) → finalize-eq-lts.Need-returns-3 (
-  links-of-reads.Asked,
-  links-of-reads.Learnt,
-  next-edge-reads.Asked,
-  next-edge-reads.Learnt,
-  clear-weights-reads.Asked,
-  clear-weights-reads.Learnt,
-  lifted-at-reads.Asked,
-  lifted-at-reads.Learnt,
-  save-reads.Asked,
-  save-reads.Learnt,
-  send-edges-reads.Asked,
-  send-edges-reads.Learnt,
-  finalize-eq-neighbors-below t,
-  finalize-eq-neighbors.Post,
-) (finalize-eq-at t) finalize-eq.Post
-finalize-eq-returns-3 t c =
-    let entry = c .before .before .before .before .before .before .before .before .before .before .before .before .before .before .before .before .before .before .before .before .before .before .before .before .before .before .before .before .before .before .before .before .before .before .before
-    .before .before .before .before .before .before .before .before .before .before .before .before .before .before in
-    let links-of = c .before .before .before .before .before .before .before .before .before .before .before .before .before .before .before .before .before .before .before .before .before .before .before .before .before .before .before .before .before .before .before .before .before .before .before .before .before .before .before .before .before .before .before .links-of in
-    let next-edge = c .before .before .before .before .before .before .before .before .before .before .before .before .before .before .before .before .before .before .before .before .before .before .before .before .before .before .before .before .before .before .before .before .before .before .before .before .before .before .before .before .before .next-edge in
-    let if1 = c .before .before .before .before .before .before .before .before .before .before .before .before .before .before .before .before .before .before .before .before .before .before .before .before .before .before .before .before .before .before .before .before .before .before .before .before .before .before .before .before .if1 in
-    let lifted-at = c .before .before .before .before .before .before .before .before .before .before .before .before .before .before .before .before .before .before .before .before .before .before .before .before .before .before .before .before .before .before .before .before .before .before .before .before .before .before .before .lifted-at in
-    let save = c .before .before .before .before .before .before .before .before .before .before .before .before .before .before .before .before .before .before .before .before .before .before .before .before .before .before .before .before .before .before .before .before .before .before .before .before .before .save in
-    let clear-weights2 = c .before .before .before .before .before .before .before .before .before .before .before .before .before .before .before .before .before .before .before .before .before .before .before .before .before .before .before .before .before .before .before .before .before .clear-weights2 in
-    let send-edges = c .before .before .before .before .before .before .before .before .before .before .before .before .before .before .before .before .before .before .before .before .before .before .before .before .before .before .before .send-edges in
-    let if2 = c .before .before .before .before .before .before .before .before .before .before .before .before .before .before .before .before .before .before .before .before .if2 in
-    let finalize-eq-neighbors = c .before .before .before .before .before .before .before .before .before .before .before .before .before .before .before .before .finalize-eq-neighbors in
-    let send-edges2 = c .before .before .before .before .before .before .send-edges2 in
-    rest-finishes _ _ _ _ _ (entry .pre .1) _ _ _ (lifted-at .ensures) (links-of .ensures .0) (links-of .ensures .1) _ (next-edge .ensures) (if1 .left) _ _ (save .ensures) (clear-weights2 .ensures) _ _ (send-edges .ensures) (if2 .left) _ (finalize-eq-neighbors .ensures) _ _ (send-edges2 .ensures)
+    let send-rest = c .before .before .before .before .before .before .send-rest in
+    let s = send-first .ensures .short (λ e. if1 .left (e ∙ sym (links-of .ensures .1))) in
+    s .rest _ _ (finalize-eq-neighbors .ensures) (send-rest .ensures)
 
 abbrev finalize-eq-neighbors-Inv-loop : finalize-eq-neighbors-lts.InvT-loop
 finalize-eq-neighbors-Inv-loop used rows marks gas₀ words floats₀ events₀ zone gases row from to neighbours up now₀ k₀ gas floats events now k =
-    Giving (boardOf rows marks gases) words zone up from to (areas gas₀ floats₀ events₀ used) k (areas gas floats events now)
+    Giving (boardOf rows marks gases) words zone up from to (finishAreas gas₀ floats₀ events₀ used) k (finishAreas gas floats events now)
 
 abbrev finalize-eq-neighbors-μ-loop : finalize-eq-neighbors-lts.MeasureT-loop
 finalize-eq-neighbors-μ-loop used rows marks gas₀ words floats₀ events₀ zone gases row from to neighbours up now₀ k₀ gas floats events now k =
@@ -959,45 +624,30 @@ finalize-eq-neighbors-returns t c =
 pub +finalize-eq+finalize-eq-neighbors-spec : {M : Type 1} → statement M
 +finalize-eq+finalize-eq-neighbors-spec =
     close μ-finalize-eq μ-finalize-eq-neighbors (λ t. finalize-eq-lts.spec (
+      send-first-reads.Asked,
+      send-first-reads.Learnt,
       links-of-reads.Asked,
       links-of-reads.Learnt,
-      next-edge-reads.Asked,
-      next-edge-reads.Learnt,
-      clear-weights-reads.Asked,
-      clear-weights-reads.Learnt,
-      lifted-at-reads.Asked,
-      lifted-at-reads.Learnt,
-      save-reads.Asked,
-      save-reads.Learnt,
-      send-edges-reads.Asked,
-      send-edges-reads.Learnt,
       finalize-eq-neighbors-below t,
       finalize-eq-neighbors.Post,
+      send-rest-reads.Asked,
+      send-rest-reads.Learnt,
     )
     (finalize-eq-at t)
     finalize-eq.Post
+    (finalize-eq-send-first-requires t)
     (finalize-eq-element-copy-out-links-of t)
     (finalize-eq-links-of-requires t)
-    (finalize-eq-next-edge-requires t)
-    (finalize-eq-clear-weights-requires t)
     (finalize-eq-same-length t)
-    (finalize-eq-returns t)
-    (finalize-eq-element-copy-out-lifted-at t)
-    (finalize-eq-element-copy-out-lifted-at-2 t)
-    (finalize-eq-lifted-at-requires t)
-    (finalize-eq-save-requires t)
-    (finalize-eq-clear-weights-requires-2 t)
-    (finalize-eq-send-edges-requires t)
     (finalize-eq-same-length-2 t)
     (finalize-eq-same-length-3 t)
-    (finalize-eq-same-length-4 t)
-    (finalize-eq-returns-2 t)
+    (finalize-eq-returns t)
     (finalize-eq-finalize-eq-neighbors-requires t)
-    (finalize-eq-send-edges-requires-2 t)
+    (finalize-eq-send-rest-requires t)
+    (finalize-eq-same-length-4 t)
     (finalize-eq-same-length-5 t)
     (finalize-eq-same-length-6 t)
-    (finalize-eq-same-length-7 t)
-    (finalize-eq-returns-3 t))
+    (finalize-eq-returns-2 t))
     λ t. finalize-eq-neighbors-lts.spec (
       links-of-reads.Asked,
       links-of-reads.Learnt,

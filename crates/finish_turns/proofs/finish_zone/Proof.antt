@@ -1,64 +1,54 @@
 -- At the loop's head i nodes of the zone had their turn; the measure is what is left of them. Assumes nothing.
-use Prim.Native.Nat.{_+_, _-_}
+use Rattle.finish_turns.proofs.Jobs.{sizes-fit}
 use Rattle.finish_turns.proofs.Zoning.{Zoning, zoning-start, zoning-fit, zoning-open, zoning-next, zoning-end}
-use Rattle.finish_turns.proofs.Steps.{size-room}
-use borrow.Author.Needs.{needs}
 use Rattle.turfs.specs.Tables.{boardOf}
-use Rattle.finish_send.specs.Areas.{areas}
+use Rattle.finish_send.specs.Areas.{finishAreas}
+use Prim.Native.Nat.{_-_}
 use native.Mathlib.Omega.{arith}
+use borrow.Author.Needs.{needs}
 use Rattle.finish_turns.proofs.finish_zone.Statement.{statement}
 use Rattle.finish_turns.proofs.finish_zone.Tie as tie
 use Rattle.finish_turns.proofs.finish_zone.Reads as reads
 use Rattle.finish_turns.proofs.finish_zone.Lts as lts
 use Rattle.finish_turns.proofs.finish_next.Reads as finish-next-reads
-use Rattle.finish_turns.proofs.size_of.Reads as size-of-reads
+use Rattle.finish_zones.proofs.size_of.Reads as size-of-reads
+use Rattle.finish_zones.proofs.turns_of.Reads as turns-of-reads
 
 abbrev Inv-loop : tie.InvT-loop
-Inv-loop zone at used rows marks gas₀ words₀ floats₀ events₀ cursor n size i₀ now₀ gas words floats events i now = Zoning (boardOf rows marks (at .gases)) cursor zone words₀ (areas gas₀ floats₀ events₀ now₀) i words (areas gas floats events now)
+Inv-loop zone gases used rows marks gas₀ words₀ floats₀ events₀ n e size i₀ now₀ gas words floats events i now =
+    Zoning (boardOf rows marks gases) zone words₀ (finishAreas gas₀ floats₀ events₀ now₀) i words (finishAreas gas floats events now)
 
 abbrev μ-loop : tie.MeasureT-loop
-μ-loop zone at used rows marks gas₀ words₀ floats₀ events₀ cursor n size i₀ now₀ gas words floats events i now = size - i
+μ-loop zone gases used rows marks gas₀ words₀ floats₀ events₀ n e size i₀ now₀ gas words floats events i now =
+    size - i
 
 element-copy-out-n : tie.Need-element-copy-out-n Inv-loop μ-loop
 element-copy-out-n c = search needs
 
-add-size-of : tie.Need-add-size-of Inv-loop μ-loop
-add-size-of c = search needs
-
-add-size-of-2 : tie.Need-add-size-of-2 Inv-loop μ-loop
-add-size-of-2 c = search needs
+element-copy-out-e : tie.Need-element-copy-out-e Inv-loop μ-loop
+element-copy-out-e c = search needs
 
 size-of-requires : tie.Need-size-of-requires Inv-loop μ-loop
-size-of-requires c κs = size-room (c .before .before .before .before .before .pre .1)
+size-of-requires c κs = (sizes-fit (c .before .before .before .before .before .pre .0), c .before .before .before .before .before .pre .1)
 
-add-i : tie.Need-add-i Inv-loop μ-loop
-add-i c = search needs
-
-mul-i : tie.Need-mul-i Inv-loop μ-loop
-mul-i c = search needs
-
-slice-read-i : tie.Need-slice-read-i Inv-loop μ-loop
-slice-read-i c = search needs
-
-cast-i : tie.Need-cast-i Inv-loop μ-loop
-cast-i c = omega (arith, c .slice-known5 .given (c .before .before .before .before .before .before .before .args .at .cursor + c .before .before .before .before .before .before .before .args .zone))
+turns-of-requires : tie.Need-turns-of-requires Inv-loop μ-loop
+turns-of-requires c κs = (sizes-fit (c .before .before .before .before .before .before .before .pre .0), c .before .before .before .before .before .before .before .pre .1)
 
 loop-holds : tie.Need-loop-holds Inv-loop μ-loop
-loop-holds c =
-    let entry = c .before .before .before .before .before .before .before in
-    zoning-start _ _ _ _ _ (entry .pre .0) (entry .pre .1)
+loop-holds c = zoning-start _ _ _ _ (c .before .before .before .before .before .before .before .before .pre .0) (c .before .before .before .before .before .before .before .before .pre .1) _ (c .turns-of .ensures)
 
 finish-next-requires : tie.Need-finish-next-requires Inv-loop μ-loop
 finish-next-requires c κs =
-    let entry = c .before .before .before .before .before .before .before .before .before .before .before .before .before in
-    let size-of = c .before .before .before .before .before .before .before .size-of in
+    let entry = c .before .before .before .before .before .before .before .before .before .before .before .before .before .before in
+    let size-of = c .before .before .before .before .before .before .before .before .size-of in
     let loop = c .before .before .before .before .before .loop in
-    (zoning-fit _ _ _ _ _ (entry .pre .0) (entry .pre .1) _ _ _ (loop .inv), zoning-open _ _ _ _ _ (entry .pre .0) (entry .pre .1) _ _ _ (loop .inv) _ (size-of .ensures) (c .before .before .before .before .loop-test .taken))
+    let loop-test = c .before .before .before .before .loop-test in
+    (zoning-fit _ _ _ _ (entry .pre .0) (entry .pre .1) _ _ _ (loop .inv), zoning-open _ _ _ _ (entry .pre .0) (entry .pre .1) _ _ _ (loop .inv) _ (size-of .ensures) (loop-test .taken))
 
-add-i-2 : tie.Need-add-i-2 Inv-loop μ-loop
-add-i-2 c =
-    let entry = c .before .before .before .before .before .before .before .before .before .before .before .before .before .before .before .before .before .before .before .before .before .before in
-    let size-of = c .before .before .before .before .before .before .before .before .before .before .before .before .before .before .before .before .size-of in
+add-i : tie.Need-add-i Inv-loop μ-loop
+add-i c =
+    let entry = c .before .before .before .before .before .before .before .before .before .before .before .before .before .before .before .before .before .before .before .before .before .before .before in
+    let size-of = c .before .before .before .before .before .before .before .before .before .before .before .before .before .before .before .before .before .size-of in
     let loop-test = c .before .before .before .before .before .before .before .before .before .before .before .before .before .loop-test in
     omega (arith, entry .good, loop-test .taken, size-of .ensures, entry .pre .1 .within)
 
@@ -67,12 +57,12 @@ loop-less c = omega (arith, c .before .before .before .before .before .before .b
 
 loop-again : tie.Need-loop-again Inv-loop μ-loop
 loop-again c =
-    let entry = c .before .before .before .before .before .before .before .before .before .before .before .before .before .before .before .before .before .before .before .before .before .before in
-    let size-of = c .before .before .before .before .before .before .before .before .before .before .before .before .before .before .before .before .size-of in
+    let entry = c .before .before .before .before .before .before .before .before .before .before .before .before .before .before .before .before .before .before .before .before .before .before .before in
+    let size-of = c .before .before .before .before .before .before .before .before .before .before .before .before .before .before .before .before .before .size-of in
     let loop = c .before .before .before .before .before .before .before .before .before .before .before .before .before .before .loop in
     let loop-test = c .before .before .before .before .before .before .before .before .before .before .before .before .before .loop-test in
     let finish-next = c .before .before .before .before .before .before .before .before .finish-next in
-    zoning-next _ _ _ _ _ (entry .pre .0) (entry .pre .1) _ _ _ (loop .inv) _ (size-of .ensures) (loop-test .taken) _ _ (finish-next .ensures)
+    zoning-next _ _ _ _ (entry .pre .0) (entry .pre .1) _ _ _ (loop .inv) _ (size-of .ensures) (loop-test .taken) _ _ (finish-next .ensures)
 
 same-length : tie.Need-same-length Inv-loop μ-loop
 same-length c = c .before .loop .inv .did .kept .gas
@@ -88,8 +78,10 @@ same-length-4 c = c .before .loop .inv .did .kept .events
 
 returns : tie.Need-returns Inv-loop μ-loop
 returns c =
-    let entry = c .before .before .before .before .before .before .before .before .before in
-    zoning-end _ _ _ _ _ (entry .pre .0) (entry .pre .1) _ _ _ (c .before .loop .inv) _ (c .before .before .before .size-of .ensures) (c .loop-test .left)
+    let entry = c .before .before .before .before .before .before .before .before .before .before in
+    let size-of = c .before .before .before .before .size-of in
+    let loop = c .before .loop in
+    zoning-end _ _ _ _ (entry .pre .0) (entry .pre .1) _ _ _ (loop .inv) _ (size-of .ensures) (c .loop-test .left)
 
 pub finish-zone-spec : {M : Type 1} → statement M
 finish-zone-spec =
@@ -98,16 +90,12 @@ finish-zone-spec =
     Inv-loop
     μ-loop
     element-copy-out-n
-    add-size-of
-    add-size-of-2
+    element-copy-out-e
     size-of-requires
-    add-i
-    mul-i
-    slice-read-i
-    cast-i
+    turns-of-requires
     loop-holds
     finish-next-requires
-    add-i-2
+    add-i
     loop-less
     loop-again
     same-length

@@ -1,6 +1,6 @@
 -- The call's own promise. Assumes nothing.
 use borrow.Author.Needs.{needs}
-use Rattle.answers.specs.Answers.{planetNumbers}
+use Rattle.call_answers.specs.Answers.{planetNumbers}
 use Rattle.katmos.proofs.Results.{answers}
 use Rattle.katmos.proofs.katmos_planet_walk.Statement.{statement}
 use Rattle.katmos.proofs.katmos_planet_walk.Tie as tie

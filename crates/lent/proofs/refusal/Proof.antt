@@ -10,13 +10,14 @@ use borrow.Author.Needs.{needs}
 use borrow.Author.Tests.{not-true, not-false}
 use Rattle.basics.specs.Loops.{every, allOf}
 use Rattle.basics.proofs.Tests.{one-fails, all-hold, all-none, yes, no}
-use Rattle.board_rules.specs.Board.{Board}
-use Rattle.board_rules.specs.Refuse.{sizesFit, tablesFit, idsFit, linksFit, rowFits}
-use Rattle.turfs.specs.Tables.{boardOf, Sizes}
+use Rattle.rules_board.specs.Board.{Board}
+use Rattle.rules_board.specs.Refuse.{sizesFit, tablesFit, idsFit, linksFit, rowFits}
+use Rattle.turfs.specs.Tables.{boardOf, BoardSizes}
 use Rattle.turfs.proofs.Tables.{sizes-of, starts-of}
-use Rattle.mixture_rules.specs.Mixture.{amountFits}
-use Rattle.lent_rules.specs.Lent.{Lent, wordsRoom, floatsRoom, refusal}
-use Rattle.lent.specs.Given.{roomOf, lent, extraOf}
+use Rattle.rules_mixture.specs.Mixture.{amountFits}
+use Rattle.rules_lent.specs.Lent.{Lent, wordsRoom, floatsRoom, refusal}
+use Rattle.lent_room.specs.Areas.{roomOf}
+use Rattle.lent.specs.Given.{lent, extraOf}
 use Rattle.lent.proofs.Numbers.{areas, tests, Hold, decides, all-passed, small-of}
 use Rattle.lent.proofs.refusal.Statement.{statement}
 use Rattle.lent.proofs.refusal.Tie as tie
@@ -64,7 +65,7 @@ sizes-ok : (c : tie.Else1) → sizesFit (B (s₁ c)) ≡ true
 unfolding sizesFit
 sizes-ok c = yes (sizesFit (B (s₁ c))) (c .before .sizes-fit .ensures) (c .if1 .left)
 
-sized : (c : tie.Else2) → Sizes (B (s₂ c))
+sized : (c : tie.Else2) → BoardSizes (B (s₂ c))
 sized c = sizes-of (B (s₂ c)) (sizes-ok (c .before .before))
 
 p₁ : (c : tie.Else2) → Hold 1 (ts (s₂ c))

@@ -2,7 +2,7 @@
 use mathlib.Core.Path.{sym, _∙_}
 use Rattle.basics.specs.Floats.{finiteSignClear}
 use Rattle.basics.proofs.Tests.{and-true, and-false}
-use Rattle.mixture_rules.specs.Mixture.{amountFits}
+use Rattle.rules_mixture.specs.Mixture.{amountFits}
 use borrow.Author.Needs.{needs}
 use Rattle.mixture.proofs.amount_fits.Statement.{statement}
 use Rattle.mixture.proofs.amount_fits.Tie as tie

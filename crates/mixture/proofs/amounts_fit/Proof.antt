@@ -5,7 +5,7 @@ use lib.ListN.{length, drop}
 use Rattle.basics.specs.Loops.{every}
 use Rattle.basics.proofs.Tests.{every-next, every-fails, every-end, yes, no}
 use lib.Ieee.{nan}
-use Rattle.mixture_rules.specs.Mixture.{amountFits}
+use Rattle.rules_mixture.specs.Mixture.{amountFits}
 use borrow.Author.Needs.{needs}
 use Rattle.mixture.proofs.amounts_fit.Statement.{statement}
 use Rattle.mixture.proofs.amounts_fit.Tie as tie

@@ -3,7 +3,7 @@ use Prim.Native.Nat.{_+_, _-_, _*_}
 use native.Mathlib.Omega.{arith}
 use borrow.Author.Tests.{eq-eqb, ne-eqb}
 use denote.Ref.{now}
-use Rattle.mixture_rules.specs.Mixture.{clearAir}
+use Rattle.rules_mixture.specs.Mixture.{clearAir}
 use Rattle.mixture.proofs.Moves.{cleared, mark-is, unchanged}
 use borrow.Author.Needs.{needs}
 use Rattle.mixture.proofs.clear_air.Statement.{statement}

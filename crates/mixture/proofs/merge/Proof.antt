@@ -11,10 +11,10 @@ use Rattle.mixture.proofs.merge.Statement.{statement}
 use Rattle.mixture.proofs.merge.Tie as tie
 
 abbrev Inv-loop : tie.InvT-loop
-Inv-loop immutable gas₀ gases giver taker goes from to i₀ gas i = (i ≤ gases) × ((length gas ≡ length gas₀) × (gas ≡ joining gas₀ gases giver goes taker i))
+Inv-loop immutable gases gas₀ giver taker goes from to i₀ gas i = (i ≤ gases) × ((length gas ≡ length gas₀) × (gas ≡ joining gas₀ gases giver goes taker i))
 
 abbrev μ-loop : tie.MeasureT-loop
-μ-loop immutable gas₀ gases giver taker goes from to i₀ gas i = gases - i
+μ-loop immutable gases gas₀ giver taker goes from to i₀ gas i = gases - i
 
 shared-slice-read-if1 : tie.Need-shared-slice-read-if1 Inv-loop μ-loop
 shared-slice-read-if1 c = search needs

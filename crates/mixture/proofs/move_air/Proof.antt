@@ -1,7 +1,7 @@
 -- A merge and then a removal are the move. Assumes nothing.
 use mathlib.Core.Path.{_∙_, ap}
 use denote.Ref.{now}
-use Rattle.mixture_rules.specs.Mixture.{ratio}
+use Rattle.rules_mixture.specs.Mixture.{ratio}
 use Rattle.mixture.proofs.Moves.{moved}
 use borrow.Author.Needs.{needs}
 use Rattle.mixture.proofs.move_air.Statement.{statement}

@@ -1,5 +1,5 @@
 -- Both sides test the same quotient. Assumes nothing.
-use Rattle.mixture_rules.specs.Mixture.{ratio}
+use Rattle.rules_mixture.specs.Mixture.{ratio}
 use Rattle.mixture.proofs.ratio.Statement.{statement}
 use Rattle.mixture.proofs.ratio.Tie as tie
 

@@ -11,10 +11,10 @@ use Rattle.mixture.proofs.remove.Statement.{statement}
 use Rattle.mixture.proofs.remove.Tie as tie
 
 abbrev Inv-loop : tie.InvT-loop
-Inv-loop immutable gas₀ gases giver goes stays from i₀ gas i = (i ≤ gases) × ((length gas ≡ length gas₀) × (gas ≡ staying gas₀ gases giver goes i))
+Inv-loop immutable gases gas₀ giver goes stays from i₀ gas i = (i ≤ gases) × ((length gas ≡ length gas₀) × (gas ≡ staying gas₀ gases giver goes i))
 
 abbrev μ-loop : tie.MeasureT-loop
-μ-loop immutable gas₀ gases giver goes stays from i₀ gas i = gases - i
+μ-loop immutable gases gas₀ giver goes stays from i₀ gas i = gases - i
 
 shared-slice-read-if1 : tie.Need-shared-slice-read-if1 Inv-loop μ-loop
 shared-slice-read-if1 c = search needs

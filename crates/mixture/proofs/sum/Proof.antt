@@ -9,7 +9,7 @@ use lib.Seq.{drop-cons}
 use lib.Ieee.{Float, nan}
 use Rattle.basics.specs.Loops.{run}
 use Rattle.basics.specs.Floats.{_+f_}
-use Rattle.mixture_rules.specs.Mixture.{sum}
+use Rattle.rules_mixture.specs.Mixture.{sum}
 use borrow.Author.Needs.{needs}
 use Rattle.mixture.proofs.sum.Statement.{statement}
 use Rattle.mixture.proofs.sum.Tie as tie

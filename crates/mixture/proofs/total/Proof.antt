@@ -4,7 +4,7 @@ use mathlib.Core.Path.{_∙_, ap, sym}
 use mathlib.Core.List.{List}
 use lib.ListN.{getD}
 use denote.Ref.{now}
-use Rattle.mixture_rules.specs.Mixture.{total, totalMix}
+use Rattle.rules_mixture.specs.Mixture.{total, totalMix}
 use native.Mathlib.Omega.{arith}
 use borrow.Author.Needs.{needs}
 use Rattle.mixture.proofs.total.Statement.{statement}

@@ -3,7 +3,7 @@ use Prim.Native.Nat.{ℕ, _+_, _-_, _*_}
 use mathlib.Core.Path.{_≡_, _∙_, ap, sym}
 use lib.ListN.{take, drop}
 use denote.Ref.{now}
-use Rattle.mixture_rules.specs.Mixture.{sum, part, totalMix, amounts}
+use Rattle.rules_mixture.specs.Mixture.{sum, part, totalMix, amounts}
 use native.Mathlib.Omega.{arith}
 use borrow.Author.Needs.{needs}
 use Rattle.mixture.proofs.total_mix.Statement.{statement}

@@ -15,10 +15,12 @@ element-copy-out-neighbours : tie.Need-element-copy-out-neighbours
 element-copy-out-neighbours c = search needs
 
 starts-at-requires : tie.Need-starts-at-requires
-starts-at-requires c κs = search needs
+starts-at-requires c κs = c .before .before .before .before .before .pre .1 .0 .sizes
 
 add-at : tie.Need-add-at
-add-at c = search needs
+add-at c =
+    let entry = c .before .before .before .before .before .before in
+    omega (arith, c .starts-at .ensures, entry .pre .1 .0 .sizes, entry .pre .1 .1 .0)
 
 mul-from : tie.Need-mul-from
 mul-from c = search needs
@@ -48,13 +50,18 @@ cast-to c =
     omega (arith, range, entry .pre .1 .0 .sizes .turfs, entry .pre .1 .0 .sizes .links)
 
 moles-at-requires : tie.Need-moles-at-requires
-moles-at-requires c κs = search needs
+moles-at-requires c κs = c .before .before .before .before .before .before .before .before .pre .1 .0 .sizes
+
+add-total : tie.Need-add-total
+add-total c =
+    let entry = c .before .before .before .before .before .before .before .before .before in
+    omega (arith, c .moles-at .ensures, entry .pre .1 .0 .sizes, entry .pre .1 .1 .0)
 
 cast-t24 : tie.Need-cast-t24
 cast-t24 c = search needs
 
 nodes-at-requires : tie.Need-nodes-at-requires
-nodes-at-requires c κs = search needs
+nodes-at-requires c κs = c .before .before .before .before .before .before .before .before .before .pre .1 .0 .sizes
 
 add-t25 : tie.Need-add-t25
 add-t25 c =
@@ -93,10 +100,9 @@ same-length-2 : tie.Need-same-length-2
 same-length-2 c = search needs
 
 returns : tie.Need-returns
-returns c =
-    let entry = c .before .before .before .before .before .before .before .before .before .before .before .before .before .before .before .before .before .before in
+returns c = let entry = c .before .before .before .before .before .before .before .before .before .before .before .before .before .before .before .before .before .before in
     zone-planned (boardOf (entry .args .rows .now) (entry .args .marks .now) (entry .args .gases)) _ (c .before .before .before .before .before .before .before .before .before .before .before .before .starts-at .ensures)
-    (entry .pre .1 .1 .0) (entry .pre .1 .1 .1 .1) (c .before .before .before .before .before .before .before .before .nodes-at .ensures) (c .before .before .before .before .before .before .before .before .before .moles-at .ensures)
+    (entry .pre .1 .1 .0) (entry .pre .1 .1 .1 .1) (c .before .before .before .before .before .before .before .before .nodes-at .ensures) (omega (arith, c .before .before .before .before .before .before .before .before .before .moles-at .ensures))
     (c .before .before .before .before .process-zone .ensures)
 
 pub plan-zone-at-spec : {M : Type 1} → statement M
@@ -115,6 +121,7 @@ plan-zone-at-spec =
     slice-read-to
     cast-to
     moles-at-requires
+    add-total
     cast-t24
     nodes-at-requires
     add-t25

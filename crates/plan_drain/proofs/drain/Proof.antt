@@ -6,7 +6,7 @@ use mathlib.Core.List.{reverse}
 use lib.ListN.{length, take, drop}
 use borrow.Author.Needs.{needs}
 use Rattle.basics.specs.Loops.{run}
-use Rattle.plan_state.specs.Held.{area, view}
+use Rattle.plan_state.specs.Held.{area, planView}
 use Rattle.plan_trade.specs.Steps.{drainVia}
 use Rattle.plan_state.proofs.Nodes.{Onto, onto-start, onto-next, onto-end}
 use Rattle.plan_drain.proofs.Drains.{queue-length, row-within, row-next, back-end, drained-same}
@@ -16,15 +16,15 @@ use Rattle.plan_drain.proofs.drain.Tie as tie
 abbrev Inv-loop : tie.InvT-loop
 Inv-loop from to z n e words floats₀ queue i₀ floats i =
     ((i ≤ to) × (length floats ≡ length floats₀))
-    × Onto n e (λ o p. run (drainVia (view n e (area words floats₀) .reverse) (view n e (area words floats₀) .via) z o) (reverse (take (i - from) (drop from (view n e (area words floats₀) .queue)))) p)
-    (λ o p. run (drainVia (view n e (area words floats₀) .reverse) (view n e (area words floats₀) .via) z o) (reverse (take (to - from) (drop from (view n e (area words floats₀) .queue)))) p)
+    × Onto n e (λ o p. run (drainVia (planView n e (area words floats₀) .reverse) (planView n e (area words floats₀) .via) z o) (reverse (take (i - from) (drop from (planView n e (area words floats₀) .queue)))) p)
+    (λ o p. run (drainVia (planView n e (area words floats₀) .reverse) (planView n e (area words floats₀) .via) z o) (reverse (take (to - from) (drop from (planView n e (area words floats₀) .queue)))) p)
     (area words floats₀) (area words floats)
 
 abbrev μ-loop : tie.MeasureT-loop
 μ-loop from to z n e words floats₀ queue i₀ floats i = i
 
 queue-at-requires : tie.Need-queue-at-requires Inv-loop μ-loop
-queue-at-requires c κs = (c .before .before .pre .0 .links, c .before .before .pre .0 .turfs)
+queue-at-requires c κs = record { turfs = c .before .before .pre .0 .turfs; links = c .before .before .pre .0 .links }
 
 loop-holds : tie.Need-loop-holds Inv-loop μ-loop
 loop-holds c = ((omega arith, refl), onto-start _ (c .before .before .before .pre .0))

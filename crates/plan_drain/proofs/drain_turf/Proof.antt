@@ -1,6 +1,5 @@
 -- By the three ways out: nothing to hand on, nowhere to hand it, over the link by which the turf was met. Assumes nothing.
 use native.Mathlib.Omega.{arith}
-use Prim.Native.Nat.{_+_}
 use Rattle.plan_drain.proofs.Drains.{drained, drained-still, drained-none, back-row, back-k, back-p, back-there}
 use borrow.Author.Needs.{needs}
 use Rattle.plan_drain.proofs.drain_turf.Statement.{statement}
@@ -15,35 +14,29 @@ load-requires c κs = search needs
 cast-direction : tie.Need-cast-direction
 cast-direction c = search needs
 
-add-k : tie.Need-add-k
-add-k c = search needs
-
-add-k-2 : tie.Need-add-k-2
-add-k-2 c = search needs
-
-add-k-3 : tie.Need-add-k-3
-add-k-3 c = search needs
-
-add-k-4 : tie.Need-add-k-4
-add-k-4 c = search needs
+via-at-requires : tie.Need-via-at-requires
+via-at-requires c κs = (omega (arith, c .before .before .before .before .before .before .before .pre .0 .turfs, c .before .before .before .before .before .before .before .pre .1 .1 .0), c .before .before .before .before .before .before .before .pre .0 .links)
 
 mul-k : tie.Need-mul-k
-mul-k c = search needs
+mul-k c = omega (arith, c .via-at .ensures, c .before .before .before .before .before .before .before .before .pre .0 .turfs, c .before .before .before .before .before .before .before .before .pre .0 .links, c .before .before .before .before .before .before .before .before .pre .1 .1 .0)
 
 shared-slice-read-k : tie.Need-shared-slice-read-k
-shared-slice-read-k c = search needs
+shared-slice-read-k c = omega (arith, c .before .via-at .ensures, c .before .before .before .before .before .before .before .before .before .pre .0 .words, c .before .before .before .before .before .before .before .before .before .pre .1 .1 .0)
 
 cast-k : tie.Need-cast-k
-cast-k c = omega (arith, c .shared-slice-known2 .given (c .before .before .before .before .before .before .before .before .args .e + c .before .before .before .before .before .before .before .before .args .e + c .before .before .before .before .before .before .before .before .args .r + c .before .before .before .before .before .before .before .before .args .r + 1))
+cast-k c = omega (arith, c .shared-slice-known2 .given (c .before .via-at .result))
 
 back-link-requires : tie.Need-back-link-requires
-back-link-requires c κs =
-    let entry = c .before .before .before .before .before .before .before .before in
-    let load = c .before .before .before .before .load in (
+back-link-requires c κs = let entry = c .before .before .before .before .before .before .before .before .before in
+    let load = c .before .before .before .before .before .load in
+    let via = c .before .via-at in (
       omega (arith, entry .pre .0 .words),
       (
-        back-k _ _ (entry .args .z) _ _ _ _ (load .ensures) (entry .pre .0) (entry .pre .1 .1 .0) (entry .pre .1 .1 .1) (c .before .if2 .taken),
-        (back-p _ _ (entry .args .z) _ _ _ _ (load .ensures) (entry .pre .0) (entry .pre .1 .1 .0) (entry .pre .1 .1 .1) (c .before .if2 .taken), entry .pre .1 .0),
+        back-k _ _ (entry .args .z) _ _ _ _ (load .ensures) (entry .pre .0) (entry .pre .1 .1 .0) (entry .pre .1 .1 .1) (c .before .before .if2 .taken) _ (via .ensures),
+        (
+          back-p _ _ (entry .args .z) _ _ _ _ (load .ensures) (entry .pre .0) (entry .pre .1 .1 .0) (entry .pre .1 .1 .1) (c .before .before .if2 .taken) _ (via .ensures),
+          (entry .pre .1 .0, entry .pre .0 .links),
+        ),
       ),
     )
 
@@ -51,18 +44,18 @@ sub-hand-on : tie.Need-sub-hand-on
 sub-hand-on c = search needs
 
 hand-on-requires : tie.Need-hand-on-requires
-hand-on-requires c κs =
-    let entry = c .before .before .before .before .before .before .before .before .before .before in
-    let met = c .before .before .before .before .before .before .load .ensures in
-    let pointed = c .before .before .before .if2 .taken in (
+hand-on-requires c κs = let entry = c .before .before .before .before .before .before .before .before .before .before .before in
+    let met = c .before .before .before .before .before .before .before .load .ensures in
+    let via = c .before .before .before .via-at .ensures in
+    let pointed = c .before .before .before .before .if2 .taken in (
       entry .pre .0,
       (
         entry .pre .1 .1 .0,
         (
-          back-row _ _ (entry .args .z) _ _ _ _ met (entry .pre .0) (entry .pre .1 .1 .0) (entry .pre .1 .1 .1) pointed,
+          back-row _ _ (entry .args .z) _ _ _ _ met (entry .pre .0) (entry .pre .1 .1 .0) (entry .pre .1 .1 .1) pointed _ via,
           (
-            back-there _ _ _ _ _ _ _ met (entry .pre .0) (entry .pre .1 .1 .0) (entry .pre .1 .1 .1) pointed _ (c .before .back-link .ensures),
-            back-k _ _ (entry .args .z) _ _ _ _ met (entry .pre .0) (entry .pre .1 .1 .0) (entry .pre .1 .1 .1) pointed,
+            back-there _ _ _ _ _ _ _ met (entry .pre .0) (entry .pre .1 .1 .0) (entry .pre .1 .1 .1) pointed _ via _ (c .before .back-link .ensures),
+            back-k _ _ (entry .args .z) _ _ _ _ met (entry .pre .0) (entry .pre .1 .1 .0) (entry .pre .1 .1 .1) pointed _ via,
           ),
         ),
       ),
@@ -72,11 +65,9 @@ same-length : tie.Need-same-length
 same-length c = search needs
 
 returns : tie.Need-returns
-returns c =
-    let entry = c .before .before .before .before .before .before .before .before .before .before .before .before .before in
-    drained _ _ _ _ _ _ _ (c .before .before .before .before .before .before .before .before .before .load .ensures) (entry .pre .0) (entry .pre .1 .1 .0) (entry .pre .1 .1 .1)
-    (c .before .before .before .before .before .before .if2 .taken) _ (c .before .before .before .before .back-link .ensures) (c .before .before .before .before .before .before .before .if1 .taken)
-    (c .before .before .hand-on .ensures)
+returns c = let entry = c .before .before .before .before .before .before .before .before .before .before .before .before .before .before in
+    drained _ _ _ _ _ _ _ (c .before .before .before .before .before .before .before .before .before .before .load .ensures) (entry .pre .0) (entry .pre .1 .1 .0) (entry .pre .1 .1 .1) (c .before .before .before .before .before .before .before .if2 .taken) _ (c .before .before .before .before .before .before .via-at .ensures) _
+    (c .before .before .before .before .back-link .ensures) (c .before .before .before .before .before .before .before .before .if1 .taken) (c .before .before .hand-on .ensures)
 
 same-length-2 : tie.Need-same-length-2
 same-length-2 c = search needs
@@ -96,10 +87,7 @@ drain-turf-spec =
     (tie.spec
     load-requires
     cast-direction
-    add-k
-    add-k-2
-    add-k-3
-    add-k-4
+    via-at-requires
     mul-k
     shared-slice-read-k
     cast-k

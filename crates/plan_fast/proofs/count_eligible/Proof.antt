@@ -1,11 +1,12 @@
 -- The loop's invariant: the links left, counted on from here, come to all links counted from 0. Assumes nothing.
-use Prim.Native.Nat.{ℕ, _≤_, _-_, _+_}
+use Prim.Native.Nat.{ℕ, _≤_, _-_}
 use native.Mathlib.Omega.{arith}
 use mathlib.Core.Path.{_≡_, refl, _∙_, sym, ap}
 use mathlib.Core.List.{List}
-use lib.ListN.{getD, take, drop}
+use lib.ListN.{getD}
 use Rattle.basics.specs.Loops.{run, upFrom}
 use Rattle.basics.proofs.Loops.{run-up, run-up-end}
+use Rattle.scratch.specs.View.{ownerIn, fastIn}
 use Rattle.plan_fast.specs.Steps.{tallyStep}
 use Rattle.plan_fast.proofs.Moves.{tally-le}
 use Rattle.plan_fast.proofs.count_eligible.Statement.{statement}
@@ -13,7 +14,7 @@ use Rattle.plan_fast.proofs.count_eligible.Tie as tie
 
 -- one link counted
 abbrev step : ℕ → ℕ → ℕ → List ℕ → List ℕ → ℕ → ℕ → ℕ
-step z n e neighbours w k d = tallyStep (take e w) (take n (drop (e + e + n + n) w)) z k (getD neighbours k 0) d
+step z n e neighbours w k d = tallyStep (ownerIn e w) (fastIn n e w) z k (getD neighbours k 0) d
 
 abbrev Inv-loop : tie.InvT-loop
 Inv-loop from to z n e neighbours words c₀ k₀ c k = ((from ≤ k) × ((k ≤ to) × (c ≤ k)))
@@ -34,7 +35,7 @@ shared-slice-read-tally c = omega (arith, c .before .loop-test .taken, c .before
 tally-requires : tie.Need-tally-requires Inv-loop μ-loop
 tally-requires c κs =
     let entry = c .before .before .before .before .before in
-    (entry .pre .0, (omega (arith, entry .pre .1 .1 .1 .1 .0, c .before .loop-test .taken), (entry .pre .1 .1 .1 .1 .1 .1 _ (omega (arith, entry .pre .1 .1 .1 .1 .0, c .before .loop-test .taken)), (entry .pre .1 .0, omega (arith, c .before .before .loop .inv .0, c .before .loop-test .taken, entry .pre .1 .1 .1 .1 .0, entry .pre .1 .1 .0)))))
+    (entry .pre .0, (omega (arith, entry .pre .1 .1 .1 .1 .0, c .before .loop-test .taken), (entry .pre .1 .1 .1 .1 .1 .1 _ (omega (arith, entry .pre .1 .1 .1 .1 .0, c .before .loop-test .taken)), (entry .pre .1 .0, (omega (arith, c .before .before .loop .inv .0, c .before .loop-test .taken, entry .pre .1 .1 .1 .1 .0, entry .pre .1 .1 .0), entry .pre .1 .1 .0)))))
 
 add-k : tie.Need-add-k Inv-loop μ-loop
 add-k c = omega (arith, c .before .before .loop-test .taken, c .before .before .before .before .before .before .pre .1 .1 .1 .1 .0, c .before .before .before .before .before .before .pre .1 .1 .0)

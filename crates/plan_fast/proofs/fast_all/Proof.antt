@@ -5,8 +5,8 @@ use mathlib.Core.Path.{_≡_, refl, _∙_}
 use lib.ListN.{length, drop}
 use Rattle.basics.specs.Loops.{run}
 use Rattle.turfs.specs.Tables.{boardOf}
-use Rattle.plan_rules.specs.Plan.{fastTurf}
-use Rattle.plan_state.specs.Held.{area, view, nodesOf}
+use Rattle.rules_plan.specs.Plan.{fastTurf}
+use Rattle.plan_state.specs.Held.{area, planView, nodesOf}
 use Rattle.plan_state.proofs.Nodes.{Onto, onto-start, onto-next, onto-end, onto-frame, reverses-kept, now-below, walk-next, walk-end}
 use Rattle.plan_fast.proofs.fast_all.Statement.{statement}
 use Rattle.plan_fast.proofs.fast_all.Tie as tie
@@ -14,8 +14,8 @@ use Rattle.plan_fast.proofs.fast_all.Tie as tie
 abbrev Inv-loop : tie.InvT-loop
 Inv-loop zone rows marks gases words₀ floats₀ first count i₀ words floats i = ((i ≤ zone .count) × ((length words ≡ length words₀) × (length floats ≡ length floats₀)))
     × Onto (zone .n) (zone .e)
-    (λ o p. run (fastTurf (boardOf rows marks gases) o (zone .z)) (drop i (nodesOf (zone .n) (zone .e) (view (zone .n) (zone .e) (area words₀ floats₀)) (zone .first) (zone .count))) p)
-    (λ o p. run (fastTurf (boardOf rows marks gases) o (zone .z)) (nodesOf (zone .n) (zone .e) (view (zone .n) (zone .e) (area words₀ floats₀)) (zone .first) (zone .count)) p)
+    (λ o p. run (fastTurf (boardOf rows marks gases) o (zone .z)) (drop i (nodesOf (zone .n) (zone .e) (planView (zone .n) (zone .e) (area words₀ floats₀)) (zone .first) (zone .count))) p)
+    (λ o p. run (fastTurf (boardOf rows marks gases) o (zone .z)) (nodesOf (zone .n) (zone .e) (planView (zone .n) (zone .e) (area words₀ floats₀)) (zone .first) (zone .count)) p)
     (area words₀ floats₀) (area words floats)
 
 abbrev μ-loop : tie.MeasureT-loop

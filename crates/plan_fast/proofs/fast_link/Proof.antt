@@ -35,53 +35,39 @@ cast-a c =
     let ha = entry .pre .1 .1 .0 .ends (entry .args .k) hk in
     omega (arith, ha, entry .pre .0 .turfs)
 
-add-if2 : tie.Need-add-if2
-add-if2 c = search needs
-
-add-if2-2 : tie.Need-add-if2-2
-add-if2-2 c = search needs
-
-add-if2-3 : tie.Need-add-if2-3
-add-if2-3 c = search needs
-
-add-if2-4 : tie.Need-add-if2-4
-add-if2-4 c =
-    let entry = c .before .before .before .before .before .before in
+fast-at-requires : tie.Need-fast-at-requires
+fast-at-requires c κs = let entry = c .before .before .before .before .before .before in
     let hk : entry .args .k < entry .args .share .e = omega (arith, entry .pre .1 .1 .0 .within) in
     let ha = entry .pre .1 .1 .0 .ends (entry .args .k) hk in
-    omega (arith, ha, entry .pre .0 .turfs, entry .pre .0 .links)
+    (omega (arith, ha, entry .pre .0 .turfs), record { turfs = entry .pre .0 .turfs; links = entry .pre .0 .links })
 
 mul-if2 : tie.Need-mul-if2
-mul-if2 c =
-    let entry = c .before .before .before .before .before .before in
+mul-if2 c = let entry = c .before .before .before .before .before .before .before in
     let hk : entry .args .k < entry .args .share .e = omega (arith, entry .pre .1 .1 .0 .within) in
     let ha = entry .pre .1 .1 .0 .ends (entry .args .k) hk in
-    omega (arith, ha, entry .pre .0 .turfs, entry .pre .0 .links)
+    omega (arith, c .fast-at .ensures, ha, entry .pre .0 .turfs, entry .pre .0 .links)
 
 shared-slice-read-if2 : tie.Need-shared-slice-read-if2
-shared-slice-read-if2 c =
-    let entry = c .before .before .before .before .before .before .before in
+shared-slice-read-if2 c = let entry = c .before .before .before .before .before .before .before .before in
     let hk : entry .args .k < entry .args .share .e = omega (arith, entry .pre .1 .1 .0 .within) in
     let ha = entry .pre .1 .1 .0 .ends (entry .args .k) hk in
-    omega (arith, ha, entry .pre .0 .words)
+    omega (arith, c .before .fast-at .ensures, ha, entry .pre .0 .words)
 
 returns-2 : tie.Need-returns-2
-returns-2 c =
-    let entry = c .before .before .before .before .before .before .before .before in
+returns-2 c = let entry = c .before .before .before .before .before .before .before .before .before in
     let hk : entry .args .k < entry .args .share .e = omega (arith, entry .pre .1 .1 .0 .within) in
     let ha = entry .pre .1 .1 .0 .ends (entry .args .k) hk in
-    fast-marked _ _ (entry .args .share .z) (entry .args .share .r) _ _ (entry .args .share .x) _ _ (entry .pre .0) hk ha (c .before .before .before .if1 .left) (c .if2 .taken)
+    fast-marked _ _ (entry .args .share .z) (entry .args .share .r) _ _ (entry .args .share .x) _ _ (entry .pre .0) hk ha (c .before .before .before .before .if1 .left) _ (c .before .before .fast-at .ensures) (c .if2 .taken)
 
 back-link-requires : tie.Need-back-link-requires
-back-link-requires c κs =
-    let entry = c .before .before .before .before .before .before .before .before in
+back-link-requires c κs = let entry = c .before .before .before .before .before .before .before .before .before in
     let hk : entry .args .k < entry .args .share .e = omega (arith, entry .pre .1 .1 .0 .within) in
     let ha = entry .pre .1 .1 .0 .ends (entry .args .k) hk in
-    (omega (arith, entry .pre .0 .words), (hk, (fast-p _ _ (entry .args .share .z) (entry .args .share .r) _ _ (entry .args .share .x) _ _ (entry .pre .0) hk ha (entry .pre .1 .1 .1), entry .pre .1 .0)))
+    (omega (arith, entry .pre .0 .words), (hk, (fast-p _ _ (entry .args .share .z) (entry .args .share .r) _ _ (entry .args .share .x) _ _ (entry .pre .0) hk ha (entry .pre .1 .1 .1), (entry .pre .1 .0, entry .pre .0 .links))))
 
 fast-move-requires : tie.Need-fast-move-requires
 fast-move-requires c κs =
-    let entry = c .before .before .before .before .before .before .before .before .before .before in
+    let entry = c .before .before .before .before .before .before .before .before .before .before .before in
     let hk : entry .args .k < entry .args .share .e = omega (arith, entry .pre .1 .1 .0 .within) in
     let ha = entry .pre .1 .1 .0 .ends (entry .args .k) hk in
     (entry .pre .0, (entry .pre .1 .1 .0 .row, (ha, (hk, fast-back _ _ (entry .args .share .z) (entry .args .share .r) _ _ (entry .args .share .x) _ _ (entry .pre .0) hk ha (entry .pre .1 .1 .1) _ (c .before .back-link .ensures)))))
@@ -90,11 +76,11 @@ same-length : tie.Need-same-length
 same-length c = search needs
 
 returns-3 : tie.Need-returns-3
-returns-3 c =
-    let entry = c .before .before .before .before .before .before .before .before .before .before .before .before .before in
+returns-3 c = let entry = c .before .before .before .before .before .before .before .before .before .before .before .before .before .before in
     let hk : entry .args .k < entry .args .share .e = omega (arith, entry .pre .1 .1 .0 .within) in
     let ha = entry .pre .1 .1 .0 .ends (entry .args .k) hk in
-    fast-more _ _ (entry .args .share .z) (entry .args .share .r) _ _ (entry .args .share .x) _ _ (entry .pre .0) hk ha (entry .pre .1 .1 .1) _ (c .before .before .before .before .back-link .ensures) (c .before .before .before .before .before .before .before .before .if1 .left) (c .before .before .before .before .before .if2 .left) (c .before .before .fast-move .ensures)
+    fast-more _ _ (entry .args .share .z) (entry .args .share .r) _ _ (entry .args .share .x) _ _ (entry .pre .0) hk ha (entry .pre .1 .1 .1) _ (c .before .before .before .before .back-link .ensures) (c .before .before .before .before .before .before .before .before .before .if1 .left) _
+    (c .before .before .before .before .before .before .before .fast-at .ensures) (c .before .before .before .before .before .if2 .left) (c .before .before .fast-move .ensures)
 
 pub fast-link-spec : {M : Type 1} → statement M
 fast-link-spec =
@@ -107,10 +93,7 @@ fast-link-spec =
     mul-a
     shared-slice-read-a
     cast-a
-    add-if2
-    add-if2-2
-    add-if2-3
-    add-if2-4
+    fast-at-requires
     mul-if2
     shared-slice-read-if2
     returns-2

@@ -12,59 +12,50 @@ adjust-eq-movement-requires c κs =
     let entry = c .before .before .before in
     (found-more _ _ (entry .args .there) (omega (arith, entry .pre .0 .floats)) (entry .pre .1 .1 .1 .0), found-more _ _ (entry .args .back) (omega (arith, entry .pre .0 .floats)) (entry .pre .1 .1 .1 .1))
 
-add-from : tie.Need-add-from
-add-from c = search needs
+delta-at-requires : tie.Need-delta-at-requires
+delta-at-requires c κs = (omega (arith, c .before .before .before .before .before .before .pre .0 .turfs, c .before .before .before .before .before .before .pre .1 .0), c .before .before .before .before .before .before .pre .0 .links)
 
-add-from-2 : tie.Need-add-from-2
-add-from-2 c = search needs
-
-add-to : tie.Need-add-to
-add-to c = search needs
-
-add-to-2 : tie.Need-add-to-2
-add-to-2 c = search needs
+delta-at-requires-2 : tie.Need-delta-at-requires-2
+delta-at-requires-2 c κs = (omega (arith, c .before .before .before .before .before .before .before .pre .0 .turfs, c .before .before .before .before .before .before .before .pre .1 .1 .0), c .before .before .before .before .before .before .before .pre .0 .links)
 
 mul-floats : tie.Need-mul-floats
-mul-floats c = search needs
+mul-floats c = omega (arith, c .before .delta-at .ensures, c .before .before .before .before .before .before .before .before .pre .0, c .before .before .before .before .before .before .before .before .pre .1 .0)
 
 slice-read-floats : tie.Need-slice-read-floats
-slice-read-floats c = search needs
+slice-read-floats c = omega (arith, c .before .before .delta-at .ensures, c .before .before .before .before .before .before .before .before .before .pre .0, c .before .before .before .before .before .before .before .before .before .pre .1 .0, c .before .before .before .before .before .adjust-eq-movement .kept)
 
 mul-floats-2 : tie.Need-mul-floats-2
-mul-floats-2 c = search needs
+mul-floats-2 c = omega (arith, c .before .before .delta-at .ensures, c .before .before .before .before .before .before .before .before .before .pre .0, c .before .before .before .before .before .before .before .before .before .pre .1 .0)
 
 slice-write-floats : tie.Need-slice-write-floats
-slice-write-floats c = search needs
+slice-write-floats c = omega (arith, c .before .before .delta-at .ensures, c .before .before .before .before .before .before .before .before .before .pre .0, c .before .before .before .before .before .before .before .before .before .pre .1 .0, c .before .before .before .before .before .adjust-eq-movement .kept)
 
 mul-floats-3 : tie.Need-mul-floats-3
-mul-floats-3 c = search needs
+mul-floats-3 c = omega (arith, c .before .delta-at2 .ensures, c .before .before .before .before .before .before .before .before .before .pre .0, c .before .before .before .before .before .before .before .before .before .pre .1 .1 .0)
 
 slice-read-floats-2 : tie.Need-slice-read-floats-2
-slice-read-floats-2 c = simp length-set (omega arith)
+slice-read-floats-2 c = simp length-set (omega (arith, c .before .before .delta-at2 .ensures, c .before .before .before .before .before .before .before .before .before .before .pre .0, c .before .before .before .before .before .before .before .before .before .before .pre .1 .1 .0, c .before .before .before .before .before .before .adjust-eq-movement .kept))
 
 mul-floats-4 : tie.Need-mul-floats-4
-mul-floats-4 c = search needs
+mul-floats-4 c = omega (arith, c .before .before .delta-at2 .ensures, c .before .before .before .before .before .before .before .before .before .before .pre .0, c .before .before .before .before .before .before .before .before .before .before .pre .1 .1 .0)
 
 slice-write-floats-2 : tie.Need-slice-write-floats-2
-slice-write-floats-2 c = simp length-set (omega arith)
+slice-write-floats-2 c = simp length-set (omega (arith, c .before .before .delta-at2 .ensures, c .before .before .before .before .before .before .before .before .before .before .pre .0, c .before .before .before .before .before .before .before .before .before .before .pre .1 .1 .0, c .before .before .before .before .before .before .adjust-eq-movement .kept))
 
 same-length : tie.Need-same-length
 same-length c = search needs
 
 returns : tie.Need-returns
-returns c =
-    let entry = c .before .before .before .before .before .before .before .before in
-    moved _ _ _ _ _ _ _ _ _ _ (entry .pre .0) (entry .pre .1 .0) (entry .pre .1 .1 .0) (entry .pre .1 .1 .1 .0) (entry .pre .1 .1 .1 .1) (c .before .before .before .before .adjust-eq-movement .ensures)
+returns c = let entry = c .before .before .before .before .before .before .before .before .before .before in
+    moved _ _ _ _ _ _ _ _ _ _ (entry .pre .0) (entry .pre .1 .0) (entry .pre .1 .1 .0) (entry .pre .1 .1 .1 .0) (entry .pre .1 .1 .1 .1) (c .before .before .before .before .before .before .adjust-eq-movement .ensures) _ _ (c .before .before .before .delta-at .ensures) (c .before .before .delta-at2 .ensures)
 
 pub fast-move-spec : {M : Type 1} → statement M
 fast-move-spec =
     tie.close
     (tie.spec
     adjust-eq-movement-requires
-    add-from
-    add-from-2
-    add-to
-    add-to-2
+    delta-at-requires
+    delta-at-requires-2
     mul-floats
     slice-read-floats
     mul-floats-2

@@ -5,7 +5,7 @@ use mathlib.Core.Path.{_≡_, refl, _∙_}
 use lib.ListN.{length}
 use Rattle.basics.specs.Loops.{run, upFrom}
 use Rattle.basics.proofs.Loops.{run-up, run-up-end}
-use Rattle.plan_state.specs.Held.{area, view}
+use Rattle.plan_state.specs.Held.{area, planView}
 use Rattle.plan_state.proofs.Nodes.{Onto, onto-start, onto-next, onto-end}
 use Rattle.plan_fast.specs.Steps.{shareOver}
 use Rattle.plan_fast.proofs.Moves.{reverse-same, fast-same}
@@ -14,8 +14,8 @@ use Rattle.plan_fast.proofs.fast_row.Tie as tie
 
 abbrev Inv-loop : tie.InvT-loop
 Inv-loop share from to neighbours words floats₀ k₀ floats k = ((from ≤ k) × ((k ≤ to) × (length floats ≡ length floats₀)))
-    × Onto (share .n) (share .e) (λ o p. run (shareOver share neighbours (view (share .n) (share .e) (area words floats₀) .reverse) o) (upFrom k (to - k)) p)
-    (λ o p. run (shareOver share neighbours (view (share .n) (share .e) (area words floats₀) .reverse) o) (upFrom from (to - from)) p)
+    × Onto (share .n) (share .e) (λ o p. run (shareOver share neighbours (planView (share .n) (share .e) (area words floats₀) .reverse) o) (upFrom k (to - k)) p)
+    (λ o p. run (shareOver share neighbours (planView (share .n) (share .e) (area words floats₀) .reverse) o) (upFrom from (to - from)) p)
     (area words floats₀) (area words floats)
 
 abbrev μ-loop : tie.MeasureT-loop

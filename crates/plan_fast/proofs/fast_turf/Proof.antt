@@ -53,7 +53,7 @@ count-eligible-requires c κs =
       (
         entry .pre .0 .zone,
         (
-          entry .pre .0 .fit .links,
+          record { turfs = entry .pre .0 .fit .turfs; links = entry .pre .0 .fit .links },
           (
             entry .pre .0 .sized .linked .rise _ (entry .pre .1),
             (omega (arith, entry .pre .0 .sized .linked .within _ (entry .pre .1), entry .pre .0 .sized .links), (entry .pre .0 .sized .links, λ k l. entry .pre .0 .sized .linked .rows k (omega (arith, l, entry .pre .0 .sized .links)))),

@@ -4,22 +4,22 @@ use native.Mathlib.Omega.{arith}
 use mathlib.Core.Path.{_≡_, refl, _∙_, sym}
 use lib.ListN.{length}
 use Rattle.turfs.specs.Tables.{table, boardOf}
-use Rattle.plan_rules.specs.Plan.{seekNext}
-use Rattle.plan_state.specs.Held.{area, view}
+use Rattle.rules_plan.specs.Plan.{seekNext}
+use Rattle.plan_state.specs.Held.{area, planView}
 use Rattle.plan_trade.specs.Search.{AllMet, Idle}
 use Rattle.plan_search.proofs.Rows.{sought-as, links-are, links-lead}
-use Rattle.plan_search.proofs.Search.{Trail, trail-start, trail-next, trail-end, seen-below, turn-on, turn-settled, turn-end}
+use Rattle.plan_search.proofs.Search.{Trail, trail-start, trail-next, trail-end, seen-below, turn-unsettled, turn-on, turn-settled, turn-end}
 use borrow.Author.Needs.{needs}
 use Rattle.plan_search.proofs.seek.Statement.{statement}
 use Rattle.plan_search.proofs.seek.Tie as tie
 
 abbrev Inv-loop : tie.InvT-loop
-Inv-loop hand rows marks gases words₀ floats₀ side g n e starts neighbours queue count₀ first₀ looked₀ words floats count first looked = ((length words ≡ length words₀) × (length floats ≡ length floats₀))
+Inv-loop hand rows marks gases words₀ floats₀ side g n e starts neighbours queue own count₀ first₀ looked₀ words floats count first looked = ((length words ≡ length words₀) × (length floats ≡ length floats₀))
     × (Trail (hand .n) (hand .e) (λ o s. seekNext (boardOf rows marks gases) o (hand .z) (hand .side) (hand .g) s) 1 count looked (area words₀ floats₀) (area words floats)
-    × (AllMet (hand .n) (hand .z) (table rows 2) (table rows 3) (view (hand .n) (hand .e) (area words floats)) count × Idle (view (hand .n) (hand .e) (area words floats)) count first))
+    × (AllMet (hand .n) (hand .z) (table rows 2) (table rows 3) (planView (hand .n) (hand .e) (area words floats)) count × Idle (planView (hand .n) (hand .e) (area words floats)) count first))
 
 abbrev μ-loop : tie.MeasureT-loop
-μ-loop hand rows marks gases words₀ floats₀ side g n e starts neighbours queue count₀ first₀ looked₀ words floats count first looked = hand .n - looked
+μ-loop hand rows marks gases words₀ floats₀ side g n e starts neighbours queue own count₀ first₀ looked₀ words floats count first looked = hand .n - looked
 
 element-copy-out-starts : tie.Need-element-copy-out-starts Inv-loop μ-loop
 element-copy-out-starts c = search needs
@@ -28,46 +28,25 @@ element-copy-out-neighbours : tie.Need-element-copy-out-neighbours Inv-loop μ-l
 element-copy-out-neighbours c = search needs
 
 queue-at-requires : tie.Need-queue-at-requires Inv-loop μ-loop
-queue-at-requires c κs = (c .before .before .before .before .pre .0 .seeking .fit .links, c .before .before .before .before .pre .0 .seeking .fit .turfs)
+queue-at-requires c κs =
+    let entry = c .before .before .before .before in
+    record { turfs = entry .pre .0 .seeking .fit .turfs; links = entry .pre .0 .seeking .fit .links }
+
+delta-at-requires : tie.Need-delta-at-requires Inv-loop μ-loop
+delta-at-requires c κs =
+    let entry = c .before .before .before .before .before in
+    (omega (arith, entry .pre .0 .row, entry .pre .0 .seeking .fit .turfs), entry .pre .0 .seeking .fit .links)
 
 loop-holds : tie.Need-loop-holds Inv-loop μ-loop
-loop-holds c = ((refl, refl), (trail-start _ (c .before .before .before .before .before .pre .0 .seeking), c .before .before .before .before .before .pre .1 .1))
-
-add-settled : tie.Need-add-settled Inv-loop μ-loop
-add-settled c = omega (arith, c .before .loop .inv .1 .0 .seeking .fit .words, c .before .loop .inv .1 .0 .seeking .fit .floats, c .before .loop .inv .1 .0 .seeking .fit .turfs, c .before .loop .inv .1 .0 .seeking .fit .links, c .before .loop .inv .1 .0 .seeking .line .few, c .before .before .queue-at .ensures, c .before .before .before .before .before .before .before .pre .0 .row)
-
-add-settled-2 : tie.Need-add-settled-2 Inv-loop μ-loop
-add-settled-2 c = omega (arith, c .before .loop .inv .1 .0 .seeking .fit .words, c .before .loop .inv .1 .0 .seeking .fit .floats, c .before .loop .inv .1 .0 .seeking .fit .turfs, c .before .loop .inv .1 .0 .seeking .fit .links, c .before .loop .inv .1 .0 .seeking .line .few, c .before .before .queue-at .ensures, c .before .before .before .before .before .before .before .pre .0 .row)
+loop-holds c = ((refl, refl), (trail-start _ (c .before .before .before .before .before .before .pre .0 .seeking), c .before .before .before .before .before .before .pre .1 .1))
 
 mul-settled : tie.Need-mul-settled Inv-loop μ-loop
 mul-settled c =
-    let entry = c .before .before .before .before .before .before .before in
-    omega (
-      arith,
-      c .before .loop .inv .1 .0 .seeking .fit .words,
-      c .before .loop .inv .1 .0 .seeking .fit .floats,
-      c .before .loop .inv .1 .0 .seeking .fit .turfs,
-      c .before .loop .inv .1 .0 .seeking .fit .links,
-      c .before .loop .inv .1 .0 .seeking .line .few,
-      c .before .before .queue-at .ensures,
-      entry .pre .0 .row,
-      c .before .loop .inv .0,
-      entry .good,
-    )
+    let entry = c .before .before .before .before .before .before .before .before in
+    omega (arith, c .before .before .delta-at .ensures, entry .pre .0 .row, entry .pre .0 .seeking .fit .turfs, entry .pre .0 .seeking .fit .links)
 
 slice-read-settled : tie.Need-slice-read-settled Inv-loop μ-loop
-slice-read-settled c =
-    let loop = c .before .before .loop in
-    omega (
-      arith,
-      loop .inv .1 .0 .seeking .fit .words,
-      loop .inv .1 .0 .seeking .fit .floats,
-      loop .inv .1 .0 .seeking .fit .turfs,
-      loop .inv .1 .0 .seeking .fit .links,
-      loop .inv .1 .0 .seeking .line .few,
-      c .before .before .before .queue-at .ensures,
-      c .before .before .before .before .before .before .before .before .pre .0 .row,
-    )
+slice-read-settled c = omega (arith, c .before .before .before .delta-at .ensures, c .before .before .loop .inv .1 .0 .seeking .fit .floats, c .before .before .before .before .before .before .before .before .before .pre .0 .row)
 
 settled-requires : tie.Need-settled-requires Inv-loop μ-loop
 settled-requires c κs = search needs
@@ -79,67 +58,34 @@ same-length-2 : tie.Need-same-length-2 Inv-loop μ-loop
 same-length-2 c = c .before .before .before .before .loop .inv .0 .1
 
 returns : tie.Need-returns Inv-loop μ-loop
-returns c =
-    let loop = c .before .before .before .before .loop in (
-      trail-end _ (loop .inv .1 .0) (turn-settled _ _ _ _ _ _ (loop .inv .1 .0 .seeking) (c .before .before .before .loop-test .taken) _ (c .before .before .before .before .before .queue-at .ensures)
-          _ _ _ _ (c .before .before .before .before .before .before .before .before .before .before .pre .0 .row) (sym (c .before .settled .ensures) ∙ c .if1 .taken)),
-      loop .inv .1 .1,
-    )
+returns c = let loop = c .before .before .before .before .loop in (
+  trail-end _ (loop .inv .1 .0) (turn-settled _ _ _ _ _ _ (loop .inv .1 .0 .seeking) (c .before .before .before .loop-test .taken) _ (c .before .before .before .before .before .before .queue-at .ensures) _ _ _ _ (c .before .before .before .before .before .before .before .before .before .before .before .pre .0 .row) _
+      (c .before .before .before .before .before .delta-at .ensures) (sym (c .before .settled .ensures) ∙ c .if1 .taken)),
+  loop .inv .1 .1,
+)
 
 add-r : tie.Need-add-r Inv-loop μ-loop
 add-r c =
-    let loop = c .before .before .before .before .loop in
-    omega (
-      arith,
-      loop .inv .1 .0 .seeking .fit .words,
-      loop .inv .1 .0 .seeking .fit .floats,
-      loop .inv .1 .0 .seeking .fit .turfs,
-      loop .inv .1 .0 .seeking .fit .links,
-      loop .inv .1 .0 .seeking .line .few,
-      c .before .before .before .before .before .queue-at .ensures,
-      c .before .before .before .loop-test .taken,
-    )
+    let entry = c .before .before .before .before .before .before .before .before .before .before .before in
+    omega (arith, c .before .before .before .before .loop .inv .1 .0 .seeking .line .few, entry .pre .0 .seeking .fit .turfs, entry .pre .0 .seeking .fit .links, c .before .before .before .before .before .before .queue-at .ensures, c .before .before .before .loop-test .taken)
 
 mul-r : tie.Need-mul-r Inv-loop μ-loop
 mul-r c =
-    let loop = c .before .before .before .before .loop in
-    omega (
-      arith,
-      loop .inv .1 .0 .seeking .fit .words,
-      loop .inv .1 .0 .seeking .fit .floats,
-      loop .inv .1 .0 .seeking .fit .turfs,
-      loop .inv .1 .0 .seeking .fit .links,
-      loop .inv .1 .0 .seeking .line .few,
-      c .before .before .before .before .before .queue-at .ensures,
-      c .before .before .before .loop-test .taken,
-      loop .inv .0,
-      c .before .before .before .before .before .before .before .before .before .before .good,
-    )
+    let entry = c .before .before .before .before .before .before .before .before .before .before .before in
+    omega (arith, c .before .before .before .before .loop .inv .1 .0 .seeking .line .few, entry .pre .0 .seeking .fit .turfs, entry .pre .0 .seeking .fit .links, c .before .before .before .before .before .before .queue-at .ensures, c .before .before .before .loop-test .taken)
 
 slice-read-r : tie.Need-slice-read-r Inv-loop μ-loop
-slice-read-r c =
-    let loop = c .before .before .before .before .before .loop in
-    omega (
-      arith,
-      loop .inv .1 .0 .seeking .fit .words,
-      loop .inv .1 .0 .seeking .fit .floats,
-      loop .inv .1 .0 .seeking .fit .turfs,
-      loop .inv .1 .0 .seeking .fit .links,
-      loop .inv .1 .0 .seeking .line .few,
-      c .before .before .before .before .before .before .queue-at .ensures,
-      c .before .before .before .before .loop-test .taken,
-    )
+slice-read-r c = omega (arith, c .before .before .before .before .before .loop .inv .1 .0 .seeking .fit .words, c .before .before .before .before .before .loop .inv .1 .0 .seeking .line .few, c .before .before .before .before .before .before .before .queue-at .ensures, c .before .before .before .before .loop-test .taken)
 
 seek-turf-requires : tie.Need-seek-turf-requires Inv-loop μ-loop
-seek-turf-requires c κs =
-    let entry = c .before .before .before .before .before .before .before .before .before .before .before .before .before in
+seek-turf-requires c κs = let entry = c .before .before .before .before .before .before .before .before .before .before .before .before .before .before in
     let loop = c .before .before .before .before .before .before .before .loop in (
       record { seeking = loop .inv .1 .0 .seeking; zone = entry .pre .0 .zone; row = entry .pre .0 .row },
       (
-        sym (c .before .before .before .before .settled .ensures) ∙ c .before .before .before .if1 .left,
+        turn-unsettled _ _ _ _ _ _ (loop .inv .1 .0 .seeking) (c .before .before .before .before .before .before .loop-test .taken) _ (c .before .before .before .before .before .before .before .before .before .queue-at .ensures) (boardOf (entry .args .rows .now) (entry .args .marks .now) (entry .args .gases))
+            (entry .args .hand .z) (entry .args .hand .side) (entry .args .hand .g) (entry .pre .0 .row) _ (c .before .before .before .before .before .before .before .before .delta-at .ensures) (sym (c .before .before .before .before .settled .ensures) ∙ c .before .before .before .if1 .left),
         (
-          seen-below _ _ _ _ _ _ (loop .inv .1 .0 .seeking) (c .before .before .before .before .before .before .loop-test .taken)
-              _ (c .before .before .before .before .before .before .before .before .queue-at .ensures),
+          seen-below _ _ _ _ _ _ (loop .inv .1 .0 .seeking) (c .before .before .before .before .before .before .loop-test .taken) _ (c .before .before .before .before .before .before .before .before .before .queue-at .ensures),
           (entry .pre .1 .0 .linked, entry .pre .1 .0 .links),
         ),
       ),
@@ -154,19 +100,16 @@ loop-less : tie.Need-loop-less Inv-loop μ-loop
 loop-less c = omega (arith, c .before .before .before .before .before .before .before .before .before .before .before .before .loop .inv .1 .0 .seeking .line .few, c .before .before .before .before .before .before .before .before .before .before .before .loop-test .taken)
 
 loop-again : tie.Need-loop-again Inv-loop μ-loop
-loop-again c =
-    let entry = c .before .before .before .before .before .before .before .before .before .before .before .before .before .before .before .before .before .before in
-    let queue-at = c .before .before .before .before .before .before .before .before .before .before .before .before .before .queue-at in
+loop-again c = let entry = c .before .before .before .before .before .before .before .before .before .before .before .before .before .before .before .before .before .before .before in
+    let queue-at = c .before .before .before .before .before .before .before .before .before .before .before .before .before .before .queue-at in
     let loop = c .before .before .before .before .before .before .before .before .before .before .before .before .loop in
     let loop-test = c .before .before .before .before .before .before .before .before .before .before .before .loop-test in
     let seek-turf = c .before .before .before .before .seek-turf in (
       (seek-turf .kept .1 .1 .1 .1 .1 .0 ∙ loop .inv .0 .0, seek-turf .kept .1 .1 .1 .1 .1 .1 .0 ∙ loop .inv .0 .1),
       (
-        trail-next _ _ (loop .inv .1 .0) (sought-as (seek-turf .ensures .sought) (links-are (boardOf (entry .args .rows .now) (entry .args .marks .now) (entry .args .gases))
-            (entry .args .hand .z) (entry .args .hand .side) (entry .args .hand .g) _))
-            (omega (arith, loop .inv .1 .0 .seeking .line .few, loop-test .taken))
-            (turn-on _ _ _ _ _ _ (loop .inv .1 .0 .seeking) (loop-test .taken) _ (queue-at .ensures) (boardOf (entry .args .rows .now) (entry .args .marks .now) (entry .args .gases))
-            _ _ _ (entry .pre .0 .row) (sym (c .before .before .before .before .before .before .before .before .before .settled .ensures) ∙ c .before .before .before .before .before .before .before .before .if1 .left)),
+        trail-next _ _ (loop .inv .1 .0) (sought-as (seek-turf .ensures .sought) (links-are (boardOf (entry .args .rows .now) (entry .args .marks .now) (entry .args .gases)) (entry .args .hand .z) (entry .args .hand .side) (entry .args .hand .g) _)) (omega (arith, loop .inv .1 .0 .seeking .line .few, loop-test .taken))
+            (turn-on _ _ _ _ _ _ (loop .inv .1 .0 .seeking) (loop-test .taken) _ (queue-at .ensures) (boardOf (entry .args .rows .now) (entry .args .marks .now) (entry .args .gases)) _ _ _ (entry .pre .0 .row) _
+            (c .before .before .before .before .before .before .before .before .before .before .before .before .before .delta-at .ensures) (sym (c .before .before .before .before .before .before .before .before .before .settled .ensures) ∙ c .before .before .before .before .before .before .before .before .if1 .left)),
         (
           seek-turf .ensures .met .keeps _ (links-lead (seen-below _ _ _ _ _ _ (loop .inv .1 .0 .seeking) (loop-test .taken) _ (queue-at .ensures))) (loop .inv .1 .1 .0),
           seek-turf .ensures .idle .keeps (loop .inv .1 .1 .1),
@@ -192,9 +135,8 @@ seek-spec =
     element-copy-out-starts
     element-copy-out-neighbours
     queue-at-requires
+    delta-at-requires
     loop-holds
-    add-settled
-    add-settled-2
     mul-settled
     slice-read-settled
     settled-requires

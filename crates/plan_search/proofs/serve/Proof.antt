@@ -9,22 +9,34 @@ use Rattle.plan_search.proofs.serve.Statement.{statement}
 use Rattle.plan_search.proofs.serve.Tie as tie
 
 load-requires : tie.Need-load-requires
-load-requires c κs = search needs
+load-requires c κs =
+    let entry = c .before .before .before .before in
+    (entry .pre .0 .fit, entry .pre .1)
 
 store-requires : tie.Need-store-requires
-store-requires c κs = search needs
+store-requires c κs =
+    let entry = c .before .before .before .before .before .before .before in
+    (entry .pre .0 .fit, entry .pre .1)
 
 queue-at-requires : tie.Need-queue-at-requires
-queue-at-requires c κs = search needs
+queue-at-requires c κs =
+    let entry = c .before .before .before .before .before .before .before .before .before .before .before .before in
+    record { turfs = entry .pre .0 .fit .turfs; links = entry .pre .0 .fit .links }
 
 places-at-requires : tie.Need-places-at-requires
-places-at-requires c κs = search needs
+places-at-requires c κs =
+    let entry = c .before .before .before .before .before .before .before .before .before .before .before .before .before in
+    record { turfs = entry .pre .0 .fit .turfs; links = entry .pre .0 .fit .links }
 
 cast-insert : tie.Need-cast-insert
-cast-insert c = search needs
+cast-insert c =
+    let entry = c .before .before .before .before .before .before .before .before .before .before .before .before .before .before in
+    omega (arith, entry .pre .1, entry .pre .0 .fit .turfs)
 
 insert-requires : tie.Need-insert-requires
-insert-requires c κs = search needs
+insert-requires c κs =
+    let entry = c .before .before .before .before .before .before .before .before .before .before .before .before .before .before .before in
+    (omega (arith, c .before .before .queue-at .ensures, c .before .before .before .before .before .before .before .store .ensures .fit .words, entry .pre .1), (omega (arith, c .before .places-at .ensures, c .before .before .before .before .before .before .before .store .ensures .fit .words, entry .pre .1), omega arith))
 
 seek-requires : tie.Need-seek-requires
 seek-requires c κs =

@@ -1,94 +1,62 @@
 -- Each number is read from its own place. Assumes nothing.
+use native.Mathlib.Omega.{arith}
 use Rattle.plan_state.proofs.Stores.{loaded}
-use borrow.Author.Needs.{needs}
 use Rattle.plan_state.proofs.load.Statement.{statement}
 use Rattle.plan_state.proofs.load.Tie as tie
 
-add-t6 : tie.Need-add-t6
-add-t6 c = search needs
+delta-at-requires : tie.Need-delta-at-requires
+delta-at-requires c κs = (omega (arith, c .before .before .pre), c .before .before .pre .0 .links)
 
-add-t7 : tie.Need-add-t7
-add-t7 c = search needs
+mul-t7 : tie.Need-mul-t7
+mul-t7 c = omega (arith, c .delta-at .ensures, c .before .before .before .pre)
 
-mul-t8 : tie.Need-mul-t8
-mul-t8 c = search needs
+shared-slice-read-t9 : tie.Need-shared-slice-read-t9
+shared-slice-read-t9 c = omega (arith, c .before .delta-at .ensures, c .before .before .before .before .pre)
 
-shared-slice-read-t10 : tie.Need-shared-slice-read-t10
-shared-slice-read-t10 c = search needs
+amount-at-requires : tie.Need-amount-at-requires
+amount-at-requires c κs = (omega (arith, c .before .before .before .before .pre), c .before .before .before .before .pre .0 .links)
 
-add-t11 : tie.Need-add-t11
-add-t11 c = search needs
+mul-t11 : tie.Need-mul-t11
+mul-t11 c = omega (arith, c .amount-at .ensures, c .before .before .before .before .before .pre)
 
-add-t12 : tie.Need-add-t12
-add-t12 c = search needs
+shared-slice-read-t13 : tie.Need-shared-slice-read-t13
+shared-slice-read-t13 c = omega (arith, c .before .amount-at .ensures, c .before .before .before .before .before .before .pre)
 
-add-t13 : tie.Need-add-t13
-add-t13 c = search needs
+direction-at-requires : tie.Need-direction-at-requires
+direction-at-requires c κs = (omega (arith, c .before .before .before .before .before .before .pre), c .before .before .before .before .before .before .pre .0 .links)
 
-mul-t14 : tie.Need-mul-t14
-mul-t14 c = search needs
+mul-t15 : tie.Need-mul-t15
+mul-t15 c = omega (arith, c .direction-at .ensures, c .before .before .before .before .before .before .before .pre)
 
-shared-slice-read-t16 : tie.Need-shared-slice-read-t16
-shared-slice-read-t16 c = search needs
+shared-slice-read-t17 : tie.Need-shared-slice-read-t17
+shared-slice-read-t17 c = omega (arith, c .before .direction-at .ensures, c .before .before .before .before .before .before .before .before .pre)
 
-add-t17 : tie.Need-add-t17
-add-t17 c = search needs
+fast-at-requires : tie.Need-fast-at-requires
+fast-at-requires c κs = (omega (arith, c .before .before .before .before .before .before .before .before .pre), record { turfs = c .before .before .before .before .before .before .before .before .pre .0 .turfs; links = c .before .before .before .before .before .before .before .before .pre .0 .links })
 
-add-t18 : tie.Need-add-t18
-add-t18 c = search needs
+mul-t19 : tie.Need-mul-t19
+mul-t19 c = omega (arith, c .fast-at .ensures, c .before .before .before .before .before .before .before .before .before .pre)
 
-add-t19 : tie.Need-add-t19
-add-t19 c = search needs
-
-mul-t20 : tie.Need-mul-t20
-mul-t20 c = search needs
-
-shared-slice-read-t22 : tie.Need-shared-slice-read-t22
-shared-slice-read-t22 c = search needs
-
-add-t23 : tie.Need-add-t23
-add-t23 c = search needs
-
-add-t24 : tie.Need-add-t24
-add-t24 c = search needs
-
-add-t25 : tie.Need-add-t25
-add-t25 c = search needs
-
-add-t26 : tie.Need-add-t26
-add-t26 c = search needs
-
-mul-t27 : tie.Need-mul-t27
-mul-t27 c = search needs
-
-shared-slice-read-t29 : tie.Need-shared-slice-read-t29
-shared-slice-read-t29 c = search needs
+shared-slice-read-t21 : tie.Need-shared-slice-read-t21
+shared-slice-read-t21 c = omega (arith, c .before .fast-at .ensures, c .before .before .before .before .before .before .before .before .before .before .pre)
 
 returns : tie.Need-returns
-returns c = loaded _ _ _ _ _ (c .before .before .before .before .pre .1)
+returns c = rw (c .before .before .before .before .before .before .before .delta-at .ensures, c .before .before .before .before .before .amount-at .ensures, c .before .before .before .direction-at .ensures, c .before .fast-at .ensures) (loaded _ _ _ _ _ (c .before .before .before .before .before .before .before .before .before .before .pre .1))
 
 pub load-spec : {M : Type 1} → statement M
 load-spec =
     tie.close
     (tie.spec
-    add-t6
-    add-t7
-    mul-t8
-    shared-slice-read-t10
-    add-t11
-    add-t12
-    add-t13
-    mul-t14
-    shared-slice-read-t16
-    add-t17
-    add-t18
-    add-t19
-    mul-t20
-    shared-slice-read-t22
-    add-t23
-    add-t24
-    add-t25
-    add-t26
-    mul-t27
-    shared-slice-read-t29
+    delta-at-requires
+    mul-t7
+    shared-slice-read-t9
+    amount-at-requires
+    mul-t11
+    shared-slice-read-t13
+    direction-at-requires
+    mul-t15
+    shared-slice-read-t17
+    fast-at-requires
+    mul-t19
+    shared-slice-read-t21
     returns)

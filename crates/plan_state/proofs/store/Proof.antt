@@ -6,65 +6,41 @@ use borrow.Author.Needs.{needs}
 use Rattle.plan_state.proofs.store.Statement.{statement}
 use Rattle.plan_state.proofs.store.Tie as tie
 
-add-floats : tie.Need-add-floats
-add-floats c = search needs
-
-add-floats-2 : tie.Need-add-floats-2
-add-floats-2 c = search needs
+delta-at-requires : tie.Need-delta-at-requires
+delta-at-requires c κs = (omega (arith, c .before .before .pre), c .before .before .pre .0 .links)
 
 mul-floats : tie.Need-mul-floats
-mul-floats c = search needs
+mul-floats c = omega (arith, c .delta-at .ensures, c .before .before .before .pre)
 
 slice-write-floats : tie.Need-slice-write-floats
-slice-write-floats c = search needs
+slice-write-floats c = (omega (arith, c .delta-at .ensures, c .before .before .before .pre))
 
-add-floats-3 : tie.Need-add-floats-3
-add-floats-3 c = search needs
-
-add-floats-4 : tie.Need-add-floats-4
-add-floats-4 c = search needs
-
-add-floats-5 : tie.Need-add-floats-5
-add-floats-5 c = search needs
+amount-at-requires : tie.Need-amount-at-requires
+amount-at-requires c κs = (omega (arith, c .before .before .before .pre), c .before .before .before .pre .0 .links)
 
 mul-floats-2 : tie.Need-mul-floats-2
-mul-floats-2 c = search needs
+mul-floats-2 c = omega (arith, c .amount-at .ensures, c .before .before .before .before .pre)
 
 slice-write-floats-2 : tie.Need-slice-write-floats-2
-slice-write-floats-2 c = simp length-set (omega arith)
+slice-write-floats-2 c = simp length-set (omega (arith, c .amount-at .ensures, c .before .before .before .before .pre))
 
-add-words : tie.Need-add-words
-add-words c = search needs
-
-add-words-2 : tie.Need-add-words-2
-add-words-2 c = search needs
-
-add-words-3 : tie.Need-add-words-3
-add-words-3 c = search needs
+direction-at-requires : tie.Need-direction-at-requires
+direction-at-requires c κs = (omega (arith, c .before .before .before .before .pre), c .before .before .before .before .pre .0 .links)
 
 mul-words : tie.Need-mul-words
-mul-words c = search needs
+mul-words c = omega (arith, c .direction-at .ensures, c .before .before .before .before .before .pre)
 
 slice-write-words : tie.Need-slice-write-words
-slice-write-words c = search needs
+slice-write-words c = (omega (arith, c .direction-at .ensures, c .before .before .before .before .before .pre))
 
-add-words-4 : tie.Need-add-words-4
-add-words-4 c = search needs
-
-add-words-5 : tie.Need-add-words-5
-add-words-5 c = search needs
-
-add-words-6 : tie.Need-add-words-6
-add-words-6 c = search needs
-
-add-words-7 : tie.Need-add-words-7
-add-words-7 c = search needs
+fast-at-requires : tie.Need-fast-at-requires
+fast-at-requires c κs = (omega (arith, c .before .before .before .before .before .pre), record { turfs = c .before .before .before .before .before .pre .0 .turfs; links = c .before .before .before .before .before .pre .0 .links })
 
 mul-words-2 : tie.Need-mul-words-2
-mul-words-2 c = search needs
+mul-words-2 c = omega (arith, c .fast-at .ensures, c .before .before .before .before .before .before .pre)
 
 slice-write-words-2 : tie.Need-slice-write-words-2
-slice-write-words-2 c = simp length-set (omega arith)
+slice-write-words-2 c = simp length-set (omega (arith, c .fast-at .ensures, c .before .before .before .before .before .before .pre))
 
 same-length : tie.Need-same-length
 same-length c = search needs
@@ -73,30 +49,22 @@ same-length-2 : tie.Need-same-length-2
 same-length-2 c = search needs
 
 returns : tie.Need-returns
-returns c = stored _ _ _ _ _ (c .pre .1) (c .pre .0) _
+returns c = rw (c .before .before .before .delta-at .ensures, c .before .before .amount-at .ensures, c .before .direction-at .ensures, c .fast-at .ensures) (stored _ _ _ _ _ (c .before .before .before .before .before .before .pre .1) (c .before .before .before .before .before .before .pre .0) _)
 
 pub store-spec : {M : Type 1} → statement M
 store-spec =
     tie.close
     (tie.spec
-    add-floats
-    add-floats-2
+    delta-at-requires
     mul-floats
     slice-write-floats
-    add-floats-3
-    add-floats-4
-    add-floats-5
+    amount-at-requires
     mul-floats-2
     slice-write-floats-2
-    add-words
-    add-words-2
-    add-words-3
+    direction-at-requires
     mul-words
     slice-write-words
-    add-words-4
-    add-words-5
-    add-words-6
-    add-words-7
+    fast-at-requires
     mul-words-2
     slice-write-words-2
     same-length

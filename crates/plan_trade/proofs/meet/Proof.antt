@@ -1,4 +1,5 @@
 -- A turf that doesn't want leaves all as it is, so its trade may be left out. Assumes nothing.
+use native.Mathlib.Omega.{arith}
 use mathlib.Core.Path.{_∙_, sym}
 use Rattle.plan_trade.proofs.Trades.{wanted, met-some, met-none}
 use borrow.Author.Needs.{needs}
@@ -14,17 +15,14 @@ add-point c = search needs
 point-requires : tie.Need-point-requires
 point-requires c κs = search needs
 
-add-wants : tie.Need-add-wants
-add-wants c = search needs
-
-add-wants-2 : tie.Need-add-wants-2
-add-wants-2 c = search needs
+delta-at-requires : tie.Need-delta-at-requires
+delta-at-requires c κs = (omega (arith, c .before .before .before .before .before .before .before .before .before .pre .0 .turfs, c .before .before .before .before .before .before .before .before .before .pre .1 .1 .0), c .before .before .before .before .before .before .before .before .before .pre .0 .links)
 
 mul-wants : tie.Need-mul-wants
-mul-wants c = search needs
+mul-wants c = omega (arith, c .delta-at .ensures, c .before .before .before .before .before .before .before .before .before .before .pre .0 .turfs, c .before .before .before .before .before .before .before .before .before .before .pre .0 .links, c .before .before .before .before .before .before .before .before .before .before .pre .1 .1 .0)
 
 slice-read-wants : tie.Need-slice-read-wants
-slice-read-wants c = search needs
+slice-read-wants c = omega (arith, c .before .delta-at .ensures, c .before .before .before .before .before .before .point .ensures .fit .floats, c .before .before .before .before .before .before .before .before .before .before .before .pre .1 .1 .0)
 
 wants-requires : tie.Need-wants-requires
 wants-requires c κs = search needs
@@ -39,12 +37,10 @@ same-length-2 : tie.Need-same-length-2
 same-length-2 c = search needs
 
 returns : tie.Need-returns
-returns c =
-    let entry = c .before .before .before .before .before .before .before .before .before .before .before .before .before .before .before .before .before .before .before in
-    let point = c .before .before .before .before .before .before .before .before .before .before .before .before .before .before .point in (
+returns c = let entry = c .before .before .before .before .before .before .before .before .before .before .before .before .before .before .before .before .before .before .before .before in
+    let point = c .before .before .before .before .before .before .before .before .before .before .before .before .before .before .before .point in (
       met-some _ _ _ _ _ _ (entry .pre .1 .1 .0) (point .ensures) (c .before .before .before .before .trade .ensures),
-      wanted _ _ (entry .args .g) (entry .args .r) _
-          (entry .args .side) (entry .pre .1 .1 .0) (point .ensures) (c .before .before .before .before .before .before .before .before .wants .ensures),
+      wanted _ _ (entry .args .g) (entry .args .r) _ (entry .args .side) (entry .pre .1 .1 .0) (point .ensures) _ (c .before .before .before .before .before .before .before .before .before .before .delta-at .ensures) (c .before .before .before .before .before .before .before .before .wants .ensures),
     )
 
 same-length-3 : tie.Need-same-length-3
@@ -54,12 +50,10 @@ same-length-4 : tie.Need-same-length-4
 same-length-4 c = search needs
 
 returns-2 : tie.Need-returns-2
-returns-2 c =
-    let entry = c .before .before .before .before .before .before .before .before .before .before .before .before in
-    let point = c .before .before .before .before .before .before .before .point in (
-      met-none _ _ _ _ _ _ (entry .pre .1 .1 .0) (point .ensures) (sym (c .before .wants .ensures) ∙ c .if1 .left),
-      wanted _ _ (entry .args .g) (entry .args .r) _ (entry .args .side)
-          (entry .pre .1 .1 .0) (point .ensures) (c .before .wants .ensures),
+returns-2 c = let entry = c .before .before .before .before .before .before .before .before .before .before .before .before .before in
+    let point = c .before .before .before .before .before .before .before .before .point in (
+      met-none _ _ _ _ _ _ (entry .pre .1 .1 .0) (point .ensures) _ (c .before .before .before .delta-at .ensures) (sym (c .before .wants .ensures) ∙ c .if1 .left),
+      wanted _ _ (entry .args .g) (entry .args .r) _ (entry .args .side) (entry .pre .1 .1 .0) (point .ensures) _ (c .before .before .before .delta-at .ensures) (c .before .wants .ensures),
     )
 
 pub meet-spec : {M : Type 1} → statement M
@@ -68,8 +62,7 @@ meet-spec =
     (tie.spec
     add-point
     point-requires
-    add-wants
-    add-wants-2
+    delta-at-requires
     mul-wants
     slice-read-wants
     wants-requires

@@ -1,38 +1,27 @@
 -- One store in each of two arrays. Assumes nothing.
+use native.Mathlib.Omega.{arith}
 use Rattle.plan_trade.proofs.Trades.{pointed}
 use borrow.Author.Needs.{needs}
 use Rattle.plan_trade.proofs.point.Statement.{statement}
 use Rattle.plan_trade.proofs.point.Tie as tie
 
-add-words : tie.Need-add-words
-add-words c = search needs
-
-add-words-2 : tie.Need-add-words-2
-add-words-2 c = search needs
-
-add-words-3 : tie.Need-add-words-3
-add-words-3 c = search needs
+direction-at-requires : tie.Need-direction-at-requires
+direction-at-requires c κs = (omega (arith, c .before .before .pre), c .before .before .pre .0 .links)
 
 mul-words : tie.Need-mul-words
-mul-words c = search needs
+mul-words c = omega (arith, c .direction-at .ensures, c .before .before .before .pre)
 
 slice-write-words : tie.Need-slice-write-words
-slice-write-words c = search needs
+slice-write-words c = omega (arith, c .direction-at .ensures, c .before .before .before .pre)
 
-add-floats : tie.Need-add-floats
-add-floats c = search needs
-
-add-floats-2 : tie.Need-add-floats-2
-add-floats-2 c = search needs
-
-add-floats-3 : tie.Need-add-floats-3
-add-floats-3 c = search needs
+amount-at-requires : tie.Need-amount-at-requires
+amount-at-requires c κs = (omega (arith, c .before .before .before .pre), c .before .before .before .pre .0 .links)
 
 mul-floats : tie.Need-mul-floats
-mul-floats c = search needs
+mul-floats c = omega (arith, c .amount-at .ensures, c .before .before .before .before .pre)
 
 slice-write-floats : tie.Need-slice-write-floats
-slice-write-floats c = search needs
+slice-write-floats c = omega (arith, c .amount-at .ensures, c .before .before .before .before .pre)
 
 same-length : tie.Need-same-length
 same-length c = search needs
@@ -41,20 +30,16 @@ same-length-2 : tie.Need-same-length-2
 same-length-2 c = search needs
 
 returns : tie.Need-returns
-returns c = pointed _ _ _ _ _ _ (c .pre .1) (c .pre .0)
+returns c = rw (c .before .direction-at .ensures, c .amount-at .ensures) (pointed _ _ _ _ _ _ (c .before .before .before .before .pre .1) (c .before .before .before .before .pre .0))
 
 pub point-spec : {M : Type 1} → statement M
 point-spec =
     tie.close
     (tie.spec
-    add-words
-    add-words-2
-    add-words-3
+    direction-at-requires
     mul-words
     slice-write-words
-    add-floats
-    add-floats-2
-    add-floats-3
+    amount-at-requires
     mul-floats
     slice-write-floats
     same-length

@@ -2,7 +2,7 @@
 use mathlib.Core.Path.{_∙_, ap, sym}
 use mathlib.Core.Bool.{Bool, false, cond}
 use borrow.Author.Needs.{needs}
-use Rattle.plan_rules.specs.Plan.{settled}
+use Rattle.rules_plan.specs.Plan.{settled}
 use Rattle.plan_trade.proofs.settles.Statement.{statement}
 use Rattle.plan_trade.proofs.settles.Tie as tie
 

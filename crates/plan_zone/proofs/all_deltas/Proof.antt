@@ -7,11 +7,11 @@ use lib.ListN.{length, drop}
 use lib.Ieee.{Float}
 use Rattle.basics.specs.Floats.{0f, _-f_}
 use Rattle.basics.specs.Loops.{run}
-use Rattle.board_rules.specs.Board.{Board}
+use Rattle.rules_board.specs.Board.{Board}
 use Rattle.turfs.specs.Tables.{boardOf}
-use Rattle.mixture_rules.specs.Mixture.{total}
-use Rattle.plan_rules.specs.Plan.{Plan, store, deltas}
-use Rattle.plan_state.specs.Held.{area, view, nodesOf}
+use Rattle.rules_mixture.specs.Mixture.{total}
+use Rattle.rules_plan.specs.Plan.{Plan, store, deltas}
+use Rattle.plan_state.specs.Held.{area, planView, nodesOf}
 use Rattle.plan_state.proofs.Nodes.{Onto, onto-start, onto-next, onto-end, onto-frame, now-below, walk-next, walk-end}
 use Rattle.plan_zone.proofs.Whole.{delta-set}
 use borrow.Author.Needs.{needs}
@@ -24,8 +24,8 @@ step b gas average r t = store t r (record { delta = total b gas r -f average; a
 
 abbrev Inv-loop : tie.InvT-loop
 Inv-loop rows marks gases gas words₀ floats₀ first count n e mixtures size average i₀ words floats i = ((i ≤ count) × ((length words ≡ length words₀) × (length floats ≡ length floats₀)))
-    × Onto n e (λ o p. run (step (boardOf rows marks gases) gas average) (drop i (nodesOf n e (view n e (area words₀ floats₀)) first count)) p)
-    (λ o p. run (step (boardOf rows marks gases) gas average) (nodesOf n e (view n e (area words₀ floats₀)) first count) p) (area words₀ floats₀) (area words floats)
+    × Onto n e (λ o p. run (step (boardOf rows marks gases) gas average) (drop i (nodesOf n e (planView n e (area words₀ floats₀)) first count)) p)
+    (λ o p. run (step (boardOf rows marks gases) gas average) (nodesOf n e (planView n e (area words₀ floats₀)) first count) p) (area words₀ floats₀) (area words floats)
 
 abbrev μ-loop : tie.MeasureT-loop
 μ-loop rows marks gases gas words₀ floats₀ first count n e mixtures size average i₀ words floats i = count - i

@@ -1,20 +1,20 @@
 -- By the two ways out. Assumes nothing.
-use mathlib.Core.Path.{_∙_, sym}
+use native.Mathlib.Omega.{arith}
+use Rattle.plan_zone.proofs.Counts.{picked-as}
 use borrow.Author.Needs.{needs}
 use Rattle.plan_zone.proofs.choose.Statement.{statement}
 use Rattle.plan_zone.proofs.choose.Tie as tie
 
-add-picks : tie.Need-add-picks
-add-picks c = search needs
-
-add-picks-2 : tie.Need-add-picks-2
-add-picks-2 c = search needs
+delta-at-requires : tie.Need-delta-at-requires
+delta-at-requires c κs =
+    let entry = c .before .before in
+    (omega (arith, entry .pre .1 .1 .1), entry .pre .1 .1 .1 .1 .links)
 
 mul-picks : tie.Need-mul-picks
-mul-picks c = search needs
+mul-picks c = omega (arith, c .delta-at .ensures, c .before .before .before .pre .1 .1 .1)
 
 shared-slice-read-picks : tie.Need-shared-slice-read-picks
-shared-slice-read-picks c = search needs
+shared-slice-read-picks c = omega (arith, c .before .delta-at .ensures, c .before .before .before .before .pre .1 .0)
 
 picks-requires : tie.Need-picks-requires
 picks-requires c κs = search needs
@@ -29,23 +29,26 @@ slice-write-words : tie.Need-slice-write-words
 slice-write-words c = search needs
 
 add-result : tie.Need-add-result
-add-result c = search needs
+add-result c = omega (arith, c .before .before .before .before .before .before .pre .1 .1 .0)
 
 same-length : tie.Need-same-length
 same-length c = search needs
 
 returns : tie.Need-returns
-returns c = (rw (sym (c .before .picks .ensures) ∙ c .if1 .taken), rw (sym (c .before .picks .ensures) ∙ c .if1 .taken))
+returns c =
+    let entry = c .before .before .before .before .before .before in
+    let t = picked-as (entry .args .side) (entry .args .floats .now) _ _ _ (c .before .before .before .delta-at .ensures) (c .before .picks .ensures) (c .if1 .taken) in (rw t, rw t)
 
 returns-2 : tie.Need-returns-2
-returns-2 c = (rw (sym (c .before .picks .ensures) ∙ c .if1 .left), rw (sym (c .before .picks .ensures) ∙ c .if1 .left))
+returns-2 c =
+    let entry = c .before .before .before .before .before .before in
+    let t = picked-as (entry .args .side) (entry .args .floats .now) _ _ _ (c .before .before .before .delta-at .ensures) (c .before .picks .ensures) (c .if1 .left) in (rw t, rw t)
 
 pub choose-spec : {M : Type 1} → statement M
 choose-spec =
     tie.close
     (tie.spec
-    add-picks
-    add-picks-2
+    delta-at-requires
     mul-picks
     shared-slice-read-picks
     picks-requires

@@ -5,9 +5,9 @@ use mathlib.Core.Path.{_≡_, _∙_, sym}
 use lib.ListN.{length, drop, getD}
 use lib.Ieee.{nan}
 use Rattle.basics.specs.Loops.{keep}
-use Rattle.plan_rules.specs.Plan.{picks, chosen}
-use Rattle.plan_rules.specs.declared.Side.the-variants.{Giving}
-use Rattle.plan_state.specs.Held.{area, view, nodesOf}
+use Rattle.rules_plan.specs.Plan.{picks, chosen}
+use Rattle.rules_plan.specs.declared.Side.the-variants.{Giving}
+use Rattle.plan_state.specs.Held.{area, planView, nodesOf}
 use Rattle.plan_state.proofs.Nodes.{node-below}
 use Rattle.plan_zone.proofs.Counts.{count-next, count-end, cond-le}
 use Rattle.plan_zone.proofs.count_givers.Statement.{statement}
@@ -15,8 +15,8 @@ use Rattle.plan_zone.proofs.count_givers.Tie as tie
 
 abbrev Inv-loop : tie.InvT-loop
 Inv-loop zone words floats first count c₀ i₀ c i = ((i ≤ zone .count) × (c ≤ i))
-    × (c + length (keep (λ r. picks Giving (getD ((view (zone .n) (zone .e) (area words floats)) .plan .delta) r nan)) (drop i (nodesOf (zone .n) (zone .e) (view (zone .n) (zone .e) (area words floats)) (zone .first) (zone .count))))
-    ≡ length (chosen Giving (nodesOf (zone .n) (zone .e) (view (zone .n) (zone .e) (area words floats)) (zone .first) (zone .count)) ((view (zone .n) (zone .e) (area words floats)) .plan)))
+    × (c + length (keep (λ r. picks Giving (getD ((planView (zone .n) (zone .e) (area words floats)) .plan .delta) r nan)) (drop i (nodesOf (zone .n) (zone .e) (planView (zone .n) (zone .e) (area words floats)) (zone .first) (zone .count))))
+    ≡ length (chosen Giving (nodesOf (zone .n) (zone .e) (planView (zone .n) (zone .e) (area words floats)) (zone .first) (zone .count)) ((planView (zone .n) (zone .e) (area words floats)) .plan)))
 
 abbrev μ-loop : tie.MeasureT-loop
 μ-loop zone words floats first count c₀ i₀ c i = zone .count - i
@@ -36,7 +36,7 @@ shared-slice-read-count-one c = omega (arith, c .before .before .before .before 
 count-one-requires : tie.Need-count-one-requires Inv-loop μ-loop
 count-one-requires c κs =
     let entry = c .before .before .before .before .before in
-    (omega (arith, entry .pre .0 .floats, node-below (entry .pre .1) _ (c .before .loop-test .taken)), omega (arith, c .before .before .loop .inv .0, c .before .loop-test .taken, entry .pre .1 .few, entry .pre .0 .turfs))
+    (omega (arith, entry .pre .0 .floats, node-below (entry .pre .1) _ (c .before .loop-test .taken)), (omega (arith, c .before .before .loop .inv .0, c .before .loop-test .taken, entry .pre .1 .few, entry .pre .0 .turfs), (node-below (entry .pre .1) _ (c .before .loop-test .taken), record { turfs = entry .pre .0 .turfs; links = entry .pre .0 .links })))
 
 add-i : tie.Need-add-i Inv-loop μ-loop
 add-i c = omega (arith, c .before .before .loop-test .taken, c .before .before .before .before .before .before .pre .1 .few, c .before .before .before .before .before .before .pre .0 .turfs)

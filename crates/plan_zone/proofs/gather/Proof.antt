@@ -4,8 +4,8 @@ use native.Mathlib.Omega.{arith}
 use mathlib.Core.Path.{_≡_, refl, _∙_}
 use lib.ListN.{length, getD}
 use lib.Ieee.{nan}
-use Rattle.plan_rules.specs.Plan.{picks}
-use Rattle.plan_state.specs.Held.{area, view, nodesOf}
+use Rattle.rules_plan.specs.Plan.{picks}
+use Rattle.plan_state.specs.Held.{area, planView, nodesOf}
 use Rattle.plan_state.proofs.Nodes.{nodes-length}
 use Rattle.plan_zone.proofs.Lists.{Picking, picking-start, picking-next, picking-end, pick-row, pick-below, pick-test}
 use Rattle.plan_zone.proofs.gather.Statement.{statement}
@@ -13,13 +13,15 @@ use Rattle.plan_zone.proofs.gather.Tie as tie
 
 abbrev Inv-loop : tie.InvT-loop
 Inv-loop side zone words₀ floats first count list c₀ i₀ words c i = ((i ≤ zone .count) × (length words ≡ length words₀))
-    × Picking (zone .n) (zone .e) (λ r. picks side (getD ((view (zone .n) (zone .e) (area words₀ floats)) .plan .delta) r nan)) (nodesOf (zone .n) (zone .e) (view (zone .n) (zone .e) (area words₀ floats)) (zone .first) (zone .count)) c i (area words₀ floats) (area words floats)
+    × Picking (zone .n) (zone .e) (λ r. picks side (getD ((planView (zone .n) (zone .e) (area words₀ floats)) .plan .delta) r nan)) (nodesOf (zone .n) (zone .e) (planView (zone .n) (zone .e) (area words₀ floats)) (zone .first) (zone .count)) c i (area words₀ floats) (area words floats)
 
 abbrev μ-loop : tie.MeasureT-loop
 μ-loop side zone words₀ floats first count list c₀ i₀ words c i = zone .count - i
 
 list-at-requires : tie.Need-list-at-requires Inv-loop μ-loop
-list-at-requires c κs = (c .before .before .pre .0 .links, c .before .before .pre .0 .turfs)
+list-at-requires c κs =
+    let entry = c .before .before in
+    record { turfs = entry .pre .0 .turfs; links = entry .pre .0 .links }
 
 loop-holds : tie.Need-loop-holds Inv-loop μ-loop
 loop-holds c = ((omega arith, refl), picking-start _ _ (c .before .before .before .pre .0))
@@ -34,10 +36,10 @@ slice-read-choose : tie.Need-slice-read-choose Inv-loop μ-loop
 slice-read-choose c = omega (arith, c .before .before .before .before .before .before .pre .1 .room, c .before .before .loop .inv .0, c .before .before .before .before .before .before .good, c .before .loop-test .taken)
 
 choose-requires : tie.Need-choose-requires Inv-loop μ-loop
-choose-requires c κs =
-    let entry = c .before .before .before .before .before .before .before in (
+choose-requires c κs = let entry = c .before .before .before .before .before .before .before in
+    let below = pick-below (entry .pre .1) (entry .args .side) (c .before .before .before .loop .inv .1) (c .before .before .before .loop .inv .0 .1) (c .before .before .loop-test .taken) in (
       omega (arith, c .before .before .before .loop .inv .1 .fit .words, c .before .before .before .before .list-at .ensures, c .before .before .before .loop .inv .1 .few, c .before .before .loop-test .taken, entry .pre .1 .few),
-      (omega (arith, entry .pre .0 .floats, pick-below (entry .pre .1) (entry .args .side) (c .before .before .before .loop .inv .1) (c .before .before .before .loop .inv .0 .1) (c .before .before .loop-test .taken)), omega (arith, c .before .before .before .loop .inv .1 .few, c .before .before .loop-test .taken, entry .pre .1 .few, entry .pre .0 .turfs)),
+      (omega (arith, entry .pre .0 .floats, below), (omega (arith, c .before .before .before .loop .inv .1 .few, c .before .before .loop-test .taken, entry .pre .1 .few, entry .pre .0 .turfs), (below, record { turfs = entry .pre .0 .turfs; links = entry .pre .0 .links }))),
     )
 
 add-i : tie.Need-add-i Inv-loop μ-loop

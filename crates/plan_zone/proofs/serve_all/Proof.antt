@@ -5,8 +5,8 @@ use mathlib.Core.Path.{_≡_, refl, _∙_}
 use lib.ListN.{length, take, drop}
 use Rattle.basics.specs.Loops.{run}
 use Rattle.turfs.specs.Tables.{boardOf}
-use Rattle.plan_rules.specs.Plan.{serve}
-use Rattle.plan_state.specs.Held.{area, view}
+use Rattle.rules_plan.specs.Plan.{serve}
+use Rattle.plan_state.specs.Held.{area, planView}
 use Rattle.plan_state.proofs.Nodes.{reverses-kept}
 use Rattle.plan_zone.proofs.Lists.{Along, along-start, along-next, along-end, list-below, list-next, list-end}
 use Rattle.plan_zone.proofs.serve_all.Statement.{statement}
@@ -14,14 +14,16 @@ use Rattle.plan_zone.proofs.serve_all.Tie as tie
 
 abbrev Inv-loop : tie.InvT-loop
 Inv-loop side listed rows marks gases words₀ floats₀ z n e list i₀ words floats i = ((i ≤ listed) × ((length words ≡ length words₀) × (length floats ≡ length floats₀)))
-    × Along n e (λ o p. run (serve (boardOf rows marks gases) o z side) (drop i (take listed (view n e (area words₀ floats₀) .list))) p)
-    (λ o p. run (serve (boardOf rows marks gases) o z side) (take listed (view n e (area words₀ floats₀) .list)) p) (area words₀ floats₀) (area words floats)
+    × Along n e (λ o p. run (serve (boardOf rows marks gases) o z side) (drop i (take listed (planView n e (area words₀ floats₀) .list))) p)
+    (λ o p. run (serve (boardOf rows marks gases) o z side) (take listed (planView n e (area words₀ floats₀) .list)) p) (area words₀ floats₀) (area words floats)
 
 abbrev μ-loop : tie.MeasureT-loop
 μ-loop side listed rows marks gases words₀ floats₀ z n e list i₀ words floats i = listed - i
 
 list-at-requires : tie.Need-list-at-requires Inv-loop μ-loop
-list-at-requires c κs = (c .before .before .pre .0 .fit .links, c .before .before .pre .0 .fit .turfs)
+list-at-requires c κs =
+    let entry = c .before .before in
+    record { turfs = entry .pre .0 .fit .turfs; links = entry .pre .0 .fit .links }
 
 loop-holds : tie.Need-loop-holds Inv-loop μ-loop
 loop-holds c = ((omega arith, (refl, refl)), along-start _ (c .before .before .before .pre .0 .fit))

@@ -8,10 +8,10 @@ use Rattle.replay.proofs.tears.Statement.{statement}
 use Rattle.replay.proofs.tears.Tie as tie
 
 abbrev Inv-loop : tie.InvT-loop
-Inv-loop vector t₀ count₀ t count = Unit {0}
+Inv-loop vector t₀ n₀ t n = Unit {0}
 
 abbrev μ-loop : tie.MeasureT-loop
-μ-loop vector t₀ count₀ t count = length vector - count
+μ-loop vector t₀ n₀ t n = length vector - n
 
 loop-holds : tie.Need-loop-holds Inv-loop μ-loop
 loop-holds c = search needs
@@ -25,8 +25,8 @@ replay-requires c κs = search needs
 one-more-requires : tie.Need-one-more-requires Inv-loop μ-loop
 one-more-requires c κs = search needs
 
-add-count : tie.Need-add-count Inv-loop μ-loop
-add-count c = search needs
+add-n : tie.Need-add-n Inv-loop μ-loop
+add-n c = search needs
 
 loop-less : tie.Need-loop-less Inv-loop μ-loop
 loop-less c = search needs
@@ -47,7 +47,7 @@ tears-spec =
     slice-aggregate-replay
     replay-requires
     one-more-requires
-    add-count
+    add-n
     loop-less
     loop-again
     returns)

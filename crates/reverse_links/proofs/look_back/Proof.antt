@@ -6,7 +6,7 @@ use lib.ListN.{getD}
 use borrow.Author.Tests.{eq-eqb, ne-eqb}
 use borrow.Author.Needs.{needs}
 use Rattle.basics.proofs.Loops.{first-here, first-on, first-end}
-use Rattle.reverse_links.specs.Reverse.{wordOf}
+use Rattle.reverse_links.specs.Reverse.{wordFor}
 use Rattle.reverse_links.specs.Words.{found}
 use Rattle.reverse_links.proofs.look_back.Statement.{statement}
 use Rattle.reverse_links.proofs.look_back.Tie as tie
@@ -33,7 +33,7 @@ add-result : tie.Need-add-result Inv-loop μ-loop
 add-result c = search needs
 
 returns : tie.Need-returns Inv-loop μ-loop
-returns c = sym (ap wordOf (first-here (λ j. eqb (getD (c .before .before .before .before .args .neighbours .now) j 0) (c .before .before .before .before .args .r)) (c .before .before .before .loop .k) (c .before .before .before .before .args .to) (c .before .before .loop-test .taken) (eq-eqb _ _ (c .if1 .taken)))) ∙ c .before .before .before .loop .inv
+returns c = sym (ap wordFor (first-here (λ j. eqb (getD (c .before .before .before .before .args .neighbours .now) j 0) (c .before .before .before .before .args .r)) (c .before .before .before .loop .k) (c .before .before .before .before .args .to) (c .before .before .loop-test .taken) (eq-eqb _ _ (c .if1 .taken)))) ∙ c .before .before .before .loop .inv
 
 add-k : tie.Need-add-k Inv-loop μ-loop
 add-k c = search needs
@@ -42,10 +42,10 @@ loop-less : tie.Need-loop-less Inv-loop μ-loop
 loop-less c = search needs
 
 loop-again : tie.Need-loop-again Inv-loop μ-loop
-loop-again c = ap wordOf (first-on (λ j. eqb (getD (c .before .before .before .before .args .neighbours .now) j 0) (c .before .before .before .before .args .r)) (c .before .before .before .loop .k) (c .before .before .before .before .args .to) (c .before .before .loop-test .taken) (ne-eqb _ _ (c .if1 .left))) ∙ c .before .before .before .loop .inv
+loop-again c = ap wordFor (first-on (λ j. eqb (getD (c .before .before .before .before .args .neighbours .now) j 0) (c .before .before .before .before .args .r)) (c .before .before .before .loop .k) (c .before .before .before .before .args .to) (c .before .before .loop-test .taken) (ne-eqb _ _ (c .if1 .left))) ∙ c .before .before .before .loop .inv
 
 returns-2 : tie.Need-returns-2 Inv-loop μ-loop
-returns-2 c = sym (ap wordOf (first-end (λ j. eqb (getD (c .before .before .args .neighbours .now) j 0) (c .before .before .args .r)) (c .before .loop .k) (c .before .before .args .to) (c .loop-test .left))) ∙ c .before .loop .inv
+returns-2 c = sym (ap wordFor (first-end (λ j. eqb (getD (c .before .before .args .neighbours .now) j 0) (c .before .before .args .r)) (c .before .loop .k) (c .before .before .args .to) (c .loop-test .left))) ∙ c .before .loop .inv
 
 pub look-back-spec : {M : Type 1} → statement M
 look-back-spec =

@@ -3,6 +3,7 @@ use Prim.Native.Nat.{_+_, _-_, _≤_}
 use native.Mathlib.Omega.{arith}
 use mathlib.Core.Path.{refl}
 use lib.ListN.{getD}
+use Rattle.scratch.specs.Layout.{reverseAt}
 use Rattle.reverse_links.specs.Words.{But, Paired}
 use Rattle.reverse_links.proofs.Places.{but-none, but-then}
 use Rattle.reverse_links.proofs.Pairs.{paired-upto}
@@ -10,7 +11,7 @@ use Rattle.reverse_links.proofs.pair_row.Statement.{statement}
 use Rattle.reverse_links.proofs.pair_row.Tie as tie
 
 abbrev Inv-loop : tie.InvT-loop
-Inv-loop r starts neighbours n e words₀ from to k₀ words k = ((getD starts r 0 ≤ k) × (k ≤ getD starts (r + 1) 0)) × (But e (e + e) words₀ words × Paired starts neighbours n e k words)
+Inv-loop r starts neighbours n e words₀ from to k₀ words k = ((getD starts r 0 ≤ k) × (k ≤ getD starts (r + 1) 0)) × (But e (reverseAt e e) words₀ words × Paired starts neighbours n e k words)
 
 abbrev μ-loop : tie.MeasureT-loop
 μ-loop r starts neighbours n e words₀ from to k₀ words k = getD starts (r + 1) 0 - k
@@ -53,7 +54,13 @@ pair-requires c κs =
     )
 
 add-k : tie.Need-add-k Inv-loop μ-loop
-add-k c = omega (arith, c .before .before .before .before .loop-test .taken, c .before .before .before .before .before .before .before .before .before .before .before .pre .0 .linked .within _ (c .before .before .before .before .before .before .before .before .before .before .before .pre .1 .0), c .before .before .before .before .before .before .before .before .before .before .before .pre .0)
+add-k c = omega (
+  arith,
+  c .before .before .before .before .loop-test .taken,
+  c .before .before .before .before .before .before .before .before .before .before .before .pre .0 .linked .within _
+      (c .before .before .before .before .before .before .before .before .before .before .before .pre .1 .0),
+  c .before .before .before .before .before .before .before .before .before .before .before .pre .0,
+)
 
 loop-less : tie.Need-loop-less Inv-loop μ-loop
 loop-less c = omega (arith, c .before .before .before .before .loop-test .taken)

@@ -3,6 +3,7 @@ use Prim.Native.Nat.{_+_, _-_, _≤_}
 use native.Mathlib.Omega.{arith}
 use mathlib.Core.Path.{_∙_, sym}
 use lib.ListN.{getD}
+use Rattle.scratch.specs.Layout.{reverseAt}
 use Rattle.reverse_links.specs.Words.{But, Paired}
 use Rattle.reverse_links.proofs.Places.{but-none, but-then}
 use Rattle.reverse_links.proofs.Pairs.{paired-upto, rows-end}
@@ -10,7 +11,7 @@ use Rattle.reverse_links.proofs.pair_rows.Statement.{statement}
 use Rattle.reverse_links.proofs.pair_rows.Tie as tie
 
 abbrev Inv-loop : tie.InvT-loop
-Inv-loop starts neighbours n e words₀ r₀ words r = (r ≤ n) × (But e (e + e) words₀ words × Paired starts neighbours n e (getD starts r 0) words)
+Inv-loop starts neighbours n e words₀ r₀ words r = (r ≤ n) × (But e (reverseAt e e) words₀ words × Paired starts neighbours n e (getD starts r 0) words)
 
 abbrev μ-loop : tie.MeasureT-loop
 μ-loop starts neighbours n e words₀ r₀ words r = n - r

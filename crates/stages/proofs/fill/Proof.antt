@@ -3,12 +3,12 @@ use mathlib.Core.Path.{_∙_, sym}
 use mathlib.Core.List.{[]}
 use denote.Ref.{now}
 use borrow.Author.Needs.{needs}
-use Rattle.board_rules.specs.Board.{Board}
+use Rattle.rules_board.specs.Board.{Board}
 use Rattle.turfs.specs.Tables.{boardOf}
-use Rattle.lent_rules.specs.Lent.{Lent}
+use Rattle.rules_lent.specs.Lent.{Lent}
 use Rattle.lent.specs.Given.{lent}
 use Rattle.fill_all.specs.Held.{asked}
-use Rattle.equalize_rules.specs.Equalize.{Ask}
+use Rattle.rules_equalize.specs.Equalize.{Ask}
 use Rattle.fill_all.proofs.Asked.{fill-asks}
 use Rattle.stages.proofs.Calls.{refused-fills, done-fills}
 use Rattle.stages.proofs.fill.Statement.{statement}
@@ -37,12 +37,14 @@ same-length-3 : tie.Need-same-length-3
 same-length-3 c = search needs
 
 returns : tie.Need-returns
-returns c = refused-fills _ _ _ (c .before .refusal .ensures (c .before .before .before .before .before .before .before .before .before .before .args .settings .limit) (c .before .before .before .before .before .before .before .before .before .before .args .settings .allowance)) (c .if1 .taken)
+returns c =
+    let s : tie.Start = c .before .before .before .before .before .before .before .before .before .before in
+    refused-fills _ _ _ (c .before .refusal .ensures (s .args .settings .limit) (s .args .settings .allowance)) (c .if1 .taken)
 
 fill-all-requires : tie.Need-fill-all-requires
 fill-all-requires c κs =
     let s : tie.Start = c .before .before .before .before .before .before .before .before .before .before .before .before .before in
-    fill-asks (B s) (Q s) [] (L s) (sym (c .before .before .before .before .refusal .ensures (c .before .before .before .before .before .before .before .before .before .before .before .before .before .args .settings .limit) (c .before .before .before .before .before .before .before .before .before .before .before .before .before .args .settings .allowance)) ∙ c .before .before .before .if1 .left)
+    fill-asks (B s) (Q s) [] (L s) (sym (c .before .before .before .before .refusal .ensures (s .args .settings .limit) (s .args .settings .allowance)) ∙ c .before .before .before .if1 .left)
 
 same-length-4 : tie.Need-same-length-4
 same-length-4 c = search needs
@@ -54,7 +56,9 @@ same-length-6 : tie.Need-same-length-6
 same-length-6 c = search needs
 
 returns-2 : tie.Need-returns-2
-returns-2 c = done-fills _ _ (L (c .before .before .before .before .before .before .before .before .before .before .before .before .before .before .before .before .before .before .before .before)) (c .before .before .before .before .before .before .before .before .before .before .before .refusal .ensures (c .before .before .before .before .before .before .before .before .before .before .before .before .before .before .before .before .before .before .before .before .args .settings .limit) (c .before .before .before .before .before .before .before .before .before .before .before .before .before .before .before .before .before .before .before .before .args .settings .allowance)) (c .before .before .before .before .before .before .before .before .before .before .if1 .left) (c .before .before .before .before .before .before .fill-all .ensures)
+returns-2 c =
+    let s : tie.Start = c .before .before .before .before .before .before .before .before .before .before .before .before .before .before .before .before .before .before .before .before in
+    done-fills _ _ (L s) (c .before .before .before .before .before .before .before .before .before .before .before .refusal .ensures (s .args .settings .limit) (s .args .settings .allowance)) (c .before .before .before .before .before .before .before .before .before .before .if1 .left) (c .before .before .before .before .before .before .fill-all .ensures)
 
 pub fill-spec : {M : Type 1} → statement M
 fill-spec =

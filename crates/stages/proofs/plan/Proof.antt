@@ -1,12 +1,12 @@
 -- Planned unless filling was refused or its clock ran out. Assumes nothing.
 use denote.Ref.{now}
 use borrow.Author.Needs.{needs}
-use Rattle.board_rules.specs.Board.{Board}
+use Rattle.rules_board.specs.Board.{Board}
 use Rattle.turfs.specs.Tables.{boardOf}
-use Rattle.lent_rules.specs.Lent.{Lent}
+use Rattle.rules_lent.specs.Lent.{Lent}
 use Rattle.lent.specs.Given.{lent}
 use Rattle.fill_all.specs.Held.{asked}
-use Rattle.equalize_rules.specs.Equalize.{Ask}
+use Rattle.rules_equalize.specs.Equalize.{Ask}
 use Rattle.stages.proofs.Calls.{refused-plans, cancelled-plans, plan-ready, planned-plans}
 use Rattle.stages.proofs.plan.Statement.{statement}
 use Rattle.stages.proofs.plan.Tie as tie

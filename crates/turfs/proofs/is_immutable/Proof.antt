@@ -1,7 +1,7 @@
 -- The turf's row of the mixtures is its mixture. Assumes nothing.
 use Prim.Native.Nat.{ℕ}
 use mathlib.Core.Path.{ap, sym, _∙_}
-use Rattle.board_rules.specs.Board.{immutable}
+use Rattle.rules_board.specs.Board.{immutable}
 use borrow.Author.Needs.{needs}
 use Rattle.turfs.proofs.is_immutable.Statement.{statement}
 use Rattle.turfs.proofs.is_immutable.Tie as tie

@@ -1,7 +1,7 @@
 -- It reads patterns that are no NaN's. Assumes nothing.
 use mathlib.Core.Path.{refl}
 use borrow.Author.Tests.{lt-ltb, le-ltb}
-use Rattle.vectors.specs.Cells.{amount}
+use Rattle.vectors.specs.Amounts.{amount}
 use Rattle.vectors.proofs.Patterns.{pattern}
 use native.Mathlib.Omega.{arith}
 use Rattle.vectors.proofs.amount_of.Statement.{statement}

@@ -1,6 +1,6 @@
 -- What equals itself is no NaN. Assumes nothing.
 use mathlib.Core.Path.{refl}
-use Rattle.vectors.specs.Cells.{hasBits}
+use Rattle.vectors.specs.Amounts.{sameBits}
 use Rattle.vectors.proofs.Patterns.{itself}
 use borrow.Author.Needs.{needs}
 use Rattle.vectors.proofs.has_bits.Statement.{statement}
@@ -10,14 +10,14 @@ float-to-bits-result : tie.Need-float-to-bits-result
 float-to-bits-result c = itself _ (c .if1 .taken)
 
 returns : tie.Need-returns
-unfolding hasBits
+unfolding sameBits
 returns c = rw (c .if1 .taken) refl
 
 nan-bits-requires : tie.Need-nan-bits-requires
 nan-bits-requires c κs = search needs
 
 returns-2 : tie.Need-returns-2
-unfolding hasBits
+unfolding sameBits
 returns-2 c = rw (c .before .if1 .left) (c .nan-bits .ensures)
 
 pub has-bits-spec : {M : Type 1} → statement M

@@ -1,4 +1,4 @@
--- A vector that is whole has all its lists inside. Assumes nothing.
+-- A vector that is whole is held to all that it expects. Assumes nothing.
 use borrow.Author.Tests.{lt-ltb, le-ltb}
 use mathlib.Core.Path.{refl}
 use borrow.Author.Needs.{needs}
@@ -14,6 +14,12 @@ torn-requires c κs = search needs
 returns : tie.Need-returns
 returns c = record { due = c .before .before .before .due-at .result; stands = c .before .before .before .due-at .ensures; says = rw (lt-ltb _ _ (c .before .if1 .taken)) (c .torn .ensures) }
 
+slice-aggregate-part : tie.Need-slice-aggregate-part
+slice-aggregate-part c = search needs
+
+part-requires : tie.Need-part-requires
+part-requires c κs = search needs
+
 number-at-requires : tie.Need-number-at-requires
 number-at-requires c κs = search needs
 
@@ -21,9 +27,17 @@ meets-requires : tie.Need-meets-requires
 meets-requires c κs = search needs
 
 returns-2 : tie.Need-returns-2
-returns-2 c = record { due = c .before .before .before .before .due-at .result; stands = c .before .before .before .before .due-at .ensures; says = rw (le-ltb _ _ (c .before .before .if1 .left), ← c .before .number-at .ensures, ← c .meets .ensures) refl }
+returns-2 c = record { due = c .before .before .before .before .before .before .due-at .result; stands = c .before .before .before .before .before .before .due-at .ensures; says = rw (le-ltb _ _ (c .before .before .before .before .if1 .left), ← c .before .before .part .ensures, ← c .before .number-at .ensures, ← c .meets .ensures) refl }
 
 pub held-spec : {M : Type 1} → statement M
 held-spec =
     tie.close
-    (tie.spec due-at-requires torn-requires returns number-at-requires meets-requires returns-2)
+    (tie.spec
+    due-at-requires
+    torn-requires
+    returns
+    slice-aggregate-part
+    part-requires
+    number-at-requires
+    meets-requires
+    returns-2)

@@ -7,7 +7,7 @@ use lib.Dec.{ltb}
 use lib.ListN.{length, drop, getD}
 use borrow.Author.Needs.{needs}
 use borrow.Author.Tests.{lt-ltb, le-ltb}
-use Rattle.board_rules.specs.Refuse.{ascending}
+use Rattle.rules_board.specs.Refuse.{ascending}
 use Rattle.turfs.proofs.Refused.{pairwise-next, pairwise-fails, pairwise-end}
 use Rattle.turfs.proofs.refuse.ascending.Statement.{statement}
 use Rattle.turfs.proofs.refuse.ascending.Tie as tie

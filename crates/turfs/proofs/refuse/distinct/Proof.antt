@@ -4,7 +4,7 @@ use Prim.Native.Nat.{_≤_, _-_}
 use mathlib.Core.Path.{_≡_, refl, _∙_, sym}
 use lib.ListN.{length, drop}
 use borrow.Author.Needs.{needs}
-use Rattle.board_rules.specs.Refuse.{distinct}
+use Rattle.rules_board.specs.Refuse.{distinct}
 use Rattle.turfs.proofs.Refused.{distinct-next, distinct-fails, distinct-end}
 use Rattle.turfs.proofs.refuse.distinct.Statement.{statement}
 use Rattle.turfs.proofs.refuse.distinct.Tie as tie

@@ -7,7 +7,7 @@ use Rattle.turfs.specs.Tables.{table}
 use native.Mathlib.Omega.{arith}
 use borrow.Author.Tests.{eq-eqb, ne-eqb}
 use Rattle.basics.proofs.Tests.{one-fails, last-is, all-hold, all-none, yes, no}
-use Rattle.board_rules.specs.Refuse.{linksFit, rowFits}
+use Rattle.rules_board.specs.Refuse.{linksFit, rowFits}
 use Rattle.turfs.proofs.Tables.{parts-of}
 use borrow.Author.Needs.{needs}
 use Rattle.turfs.proofs.refuse.links_fit.Statement.{statement}

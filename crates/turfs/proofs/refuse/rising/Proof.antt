@@ -7,7 +7,7 @@ use lib.Dec.{leb}
 use lib.ListN.{length, drop, getD}
 use borrow.Author.Needs.{needs}
 use borrow.Author.Tests.{le-leb, lt-leb}
-use Rattle.board_rules.specs.Refuse.{rising}
+use Rattle.rules_board.specs.Refuse.{rising}
 use Rattle.turfs.proofs.Refused.{pairwise-next, pairwise-fails, pairwise-end}
 use Rattle.turfs.proofs.refuse.rising.Statement.{statement}
 use Rattle.turfs.proofs.refuse.rising.Tie as tie

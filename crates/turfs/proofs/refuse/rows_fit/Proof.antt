@@ -11,7 +11,7 @@ use borrow.Author.Tests.{not-true, not-false}
 use Rattle.basics.specs.Loops.{every, upFrom}
 use Rattle.basics.proofs.Tests.{every-up-next, every-up-fails, every-up-end}
 use Rattle.turfs.specs.Tables.{boardOf}
-use Rattle.board_rules.specs.Refuse.{rowFits}
+use Rattle.rules_board.specs.Refuse.{rowFits}
 use Rattle.turfs.proofs.Refused.{row-test}
 use Rattle.turfs.proofs.refuse.rows_fit.Statement.{statement}
 use Rattle.turfs.proofs.refuse.rows_fit.Tie as tie

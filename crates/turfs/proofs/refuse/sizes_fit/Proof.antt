@@ -3,7 +3,7 @@ use mathlib.Core.Path.{_∙_, sym}
 use mathlib.Core.List.{[], _∷_}
 use borrow.Author.Tests.{lt-leb, le-leb}
 use Rattle.basics.proofs.Tests.{one-fails, last-is, all-hold, all-none, yes, no}
-use Rattle.board_rules.specs.Refuse.{sizesFit}
+use Rattle.rules_board.specs.Refuse.{sizesFit}
 use borrow.Author.Needs.{needs}
 use Rattle.turfs.proofs.refuse.sizes_fit.Statement.{statement}
 use Rattle.turfs.proofs.refuse.sizes_fit.Tie as tie

@@ -5,7 +5,7 @@ use native.Mathlib.Nat.{mul-le-mul, lt-of-le-of-lt}
 use native.Mathlib.Omega.{arith}
 use borrow.Author.Tests.{eq-eqb, ne-eqb}
 use Rattle.basics.proofs.Tests.{one-fails, last-is, all-hold, all-none}
-use Rattle.board_rules.specs.Refuse.{tablesFit}
+use Rattle.rules_board.specs.Refuse.{tablesFit}
 use borrow.Author.Needs.{needs}
 use Rattle.turfs.proofs.refuse.tables_fit.Statement.{statement}
 use Rattle.turfs.proofs.refuse.tables_fit.Tie as tie

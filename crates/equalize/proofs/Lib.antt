@@ -1,8 +1,0 @@
-pub mod Extra
-pub mod Apart
-pub mod Hot
-pub mod Ends
-pub mod Demand3
-pub mod Zones
-pub mod Room
-pub mod Tests

@@ -1,0 +1,5 @@
+pub mod Does
+pub mod Stores
+pub mod Asks
+pub mod Bounds
+pub mod Links

@@ -1,1 +1,0 @@
-// Laws of finishing over its definition (`finish_rules`): depth, order, room, the second slice. No code.

@@ -1,4 +1,0 @@
-pub mod Steps
-pub mod Held
-pub mod Start
-pub mod Asked

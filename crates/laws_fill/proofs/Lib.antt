@@ -1,0 +1,5 @@
+pub mod Steps
+pub mod Counts
+pub mod Joins
+pub mod Owned
+pub mod Rest

@@ -1,0 +1,1 @@
+// Laws of planning over its definition (`rules_plan`): sizes stay, and a search comes to rest. No code.

@@ -1,1 +1,0 @@
-// Laws of planning over its definition (`plan_rules`): sizes stay, and a search comes to rest. No code.

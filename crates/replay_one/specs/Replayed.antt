@@ -1,0 +1,22 @@
+-- What comes of a vector that is replayed.
+use mathlib.Core.Path.{_≡_}
+use mathlib.Core.Logic.{_⊎_}
+use mathlib.Core.List.{List}
+use Prim.Native.Nat.{ℕ}
+use lib.Ieee.{Float}
+use Rattle.vectors.specs.Cells.{tornVector, CellsHeld}
+use Rattle.vectors.specs.declared.Answer.{Answer}
+use Rattle.vectors.specs.declared.Vector.{Vector}
+
+-- what a call answered and left was looked at
+pub record Looked (numbers : List ℕ) (r : Vector) : Type 0 where
+  pub gas : List Float
+  pub words : List ℕ
+  pub floats : List Float
+  pub events : List ℕ
+  pub answer : Answer
+  pub held : CellsHeld numbers gas words floats events answer r
+
+-- it was, or there is no room for the case
+abbrev pub Replayed : List ℕ → Vector → Type 0
+Replayed numbers r = (r ≡ tornVector) ⊎ Looked numbers r

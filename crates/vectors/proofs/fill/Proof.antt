@@ -1,0 +1,75 @@
+-- Each part is filled by its own loop. Assumes nothing.
+use mathlib.Core.Path.{_∙_, ap}
+use Rattle.vectors.specs.Vectors.{number}
+use Rattle.vectors.specs.Amounts.{amount}
+use mathlib.Core.List.{List}
+use Prim.Native.Nat.{ℕ}
+use borrow.Author.Needs.{needs}
+use Rattle.vectors.proofs.fill.Statement.{statement}
+use Rattle.vectors.proofs.fill.Tie as tie
+
+case-of-requires : tie.Need-case-of-requires
+case-of-requires c κs = search needs
+
+put-bytes-requires : tie.Need-put-bytes-requires
+put-bytes-requires c κs = search needs
+
+part-requires : tie.Need-part-requires
+part-requires c κs = search needs
+
+put-amounts-requires : tie.Need-put-amounts-requires
+put-amounts-requires c κs = search needs
+
+lend-words-requires : tie.Need-lend-words-requires
+lend-words-requires c κs = search needs
+
+lend-floats-requires : tie.Need-lend-floats-requires
+lend-floats-requires c κs = search needs
+
+lend-events-requires : tie.Need-lend-events-requires
+lend-events-requires c κs = search needs
+
+same-length : tie.Need-same-length
+same-length c = search needs
+
+same-length-2 : tie.Need-same-length-2
+same-length-2 c = search needs
+
+same-length-3 : tie.Need-same-length-3
+same-length-3 c = search needs
+
+same-length-4 : tie.Need-same-length-4
+same-length-4 c = search needs
+
+same-length-5 : tie.Need-same-length-5
+same-length-5 c = search needs
+
+returns : tie.Need-returns
+returns c =
+    record {
+      case = c .before .before .before .before .before .before .before .before .before .before .before .before .before .before .before .before .before .before .before .before .before .case-of .result;
+      reads = c .before .before .before .before .before .before .before .before .before .before .before .before .before .before .before .before .before .before .before .before .before .case-of .ensures;
+      bytes = c .before .before .before .before .before .before .before .before .before .before .before .before .before .before .before .before .before .before .before .put-bytes .ensures;
+      gas = λ i h. c .before .before .before .before .before .before .before .before .before .before .before .before .before .before .put-amounts .ensures i h ∙ ap (λ (l : List ℕ). amount (number l i)) (c .before .before .before .before .before .before .before .before .before .before .before .before .before .before .before .before .part .ensures);
+      words = c .before .before .before .before .before .before .before .before .before .before .lend-words .ensures;
+      floats = c .before .before .before .before .before .before .lend-floats .ensures;
+      events = c .before .before .lend-events .ensures;
+    }
+
+pub fill-spec : {M : Type 1} → statement M
+fill-spec =
+    tie.close
+    (tie.spec
+    case-of-requires
+    put-bytes-requires
+    part-requires
+    put-amounts-requires
+    lend-words-requires
+    lend-floats-requires
+    lend-events-requires
+    same-length
+    same-length-2
+    same-length-3
+    same-length-4
+    same-length-5
+    returns)

@@ -1,0 +1,217 @@
+-- One turf of the way back: its air, its amounts, its events and its rip, each in an area of its own. Assumes nothing.
+use Prim.Native.Nat.{ℕ, _+_, _-_, _*_, _≤_, _<_}
+use native.Mathlib.Omega.{arith}
+use native.Mathlib.Numerals.{add-one}
+use mathlib.Core.Path.{_≡_, refl, ap, ap₂, _∙_, sym, subst}
+use mathlib.Core.List.{List, [], _∷_, _++_}
+use mathlib.Core.Bool.{Bool, true, false, not}
+use lib.Dec.{T, eqb}
+use lib.ListN.{length, getD, take, drop, set, length-set}
+use lib.Seq.{take-suc-set, length-take-le}
+use lib.Ieee.{Float, nan, isNan}
+use Rattle.basics.specs.Loops.{every, snoc}
+use Rattle.basics.specs.Floats.{_+f_}
+use Rattle.basics.specs.Regions.{cut, region}
+use Rattle.basics.proofs.Regions.{cut-set, cut-get, cut-length}
+use Rattle.rules_board.specs.Board.{Board, turfCount, mixOf}
+use Rattle.rules_events.specs.Events.{encodeAll, encode, kindOf, sizeOf}
+use Rattle.events.specs.Area.{Wrote}
+use Rattle.rules_events.specs.declared.Event.{Event}
+use Rattle.rules_events.specs.declared.Event.the-variants.{HighPressure, Difference, FloorRip}
+use Rattle.events.proofs.Areas.{wrote-length}
+use Rattle.events.proofs.Sizes.{encode-size, size, size-cons}
+use Rattle.index_set.specs.Line.{Below}
+use Rattle.index_set.proofs.Queue.{Below-snoc}
+use Rattle.scratch.specs.Layout.{outSizes, backSizes, waysAt, sumsAt}
+use Rattle.walk_first.specs.Does.{WalkDoes}
+use Rattle.walk_first.proofs.Does.{both-wrote, one-wrote}
+use Rattle.rules_back.specs.Back.{backTo}
+use Rattle.walk_back.specs.Backed.{notNegative, BackState, backAt, ripsOf, backIn, backOf, BackFits, backing, Points, directions, Settled, told}
+use Rattle.walk_back.specs.declared.Way.{Way}
+use Rattle.walk_back.specs.declared.Sums.{Sums}
+use Rattle.walk_back.proofs.Signs.{add-clear, clear-number, every-at, every-set, every-snoc, total-clear, cleared-clear}
+use Rattle.rules_back.specs.Worked as worked  -- checked before the laws
+
+-- ---- the events of a turf
+
+high-kind : (id : ℕ) → sizeOf (kindOf (HighPressure id)) ≡ 8
+unfolding sizeOf kindOf
+high-kind id = refl
+
+difference-kind : (id : ℕ) (x : Float) → sizeOf (kindOf (Difference id x id id)) ≡ 20
+unfolding sizeOf kindOf
+difference-kind id x = refl
+
+high-size : (id : ℕ) → length (encode (HighPressure id)) ≡ 8
+high-size id = encode-size (HighPressure id) ∙ high-kind id
+
+difference-size : (id : ℕ) (x : Float) → length (encode (Difference id x id id)) ≡ 20
+difference-size id x = encode-size (Difference id x id id) ∙ difference-kind id x
+
+module _ (id : ℕ) (mine theirs : Float) (used : ℕ) (e : List ℕ) (room : used + 48 ≤ length e) where
+  pub high-room : used + 8 ≤ length e
+  high-room = omega arith
+
+  module _ (e₁ : List ℕ) (u₁ : ℕ) (w₁ : Wrote (encode (HighPressure id)) used u₁ e e₁) where
+    pub mine-room : u₁ + 20 ≤ length e₁
+    mine-room = omega (arith, high-size id, w₁ .end, wrote-length w₁)
+
+    module _ (e₂ : List ℕ) (u₂ : ℕ) (w₂ : Wrote (encode (Difference id mine id id)) u₁ u₂ e₁ e₂) where
+      pub theirs-room : u₂ + 20 ≤ length e₂
+      theirs-room = omega (arith, high-size id, difference-size id mine, w₁ .end, w₂ .end, wrote-length w₁, wrote-length w₂)
+
+      two : Wrote (encodeAll (HighPressure id ∷ Difference id mine id id ∷ [])) used u₂ e e₂
+      two = both-wrote (HighPressure id ∷ []) (Difference id mine id id ∷ []) (one-wrote (HighPressure id) w₁) (one-wrote (Difference id mine id id) w₂)
+
+      pub told-two : (last : Bool) → last ≡ false → Wrote (encodeAll (told id mine theirs last)) used u₂ e e₂
+      unfolding told
+      told-two last q = rw q two
+
+      pub told-three : (last : Bool) → last ≡ true → (e₃ : List ℕ) (u₃ : ℕ) → Wrote (encode (Difference id theirs id id)) u₂ u₃ e₂ e₃ → Wrote (encodeAll (told id mine theirs last)) used u₃ e e₃
+      unfolding told
+      told-three last q e₃ u₃ w₃ = rw q (both-wrote (HighPressure id ∷ Difference id mine id id ∷ []) (Difference id theirs id id ∷ []) two (one-wrote (Difference id theirs id id) w₃))
+
+told-size : (id : ℕ) (mine theirs : Float) (last : Bool) → size (told id mine theirs last) ≤ 48
+unfolding told encodeAll
+told-size id mine theirs true = omega (arith, size-cons (HighPressure id) (Difference id mine id id ∷ Difference id theirs id id ∷ []), size-cons (Difference id mine id id) (Difference id theirs id id ∷ []), size-cons (Difference id theirs id id) [], high-kind id, difference-kind id mine, difference-kind id theirs)
+told-size id mine theirs false = omega (arith, size-cons (HighPressure id) (Difference id mine id id ∷ []), size-cons (Difference id mine id id) [], high-kind id, difference-kind id mine)
+
+-- ---- rips
+
+pub rips-snoc : (ids rs : List ℕ) (xs : List Float) (r : ℕ) (x : Float) → length rs ≡ length xs → ripsOf ids (snoc rs r) (snoc xs x) ≡ snoc (ripsOf ids rs xs) (FloorRip (getD ids r 0) x)
+unfolding ripsOf
+rips-snoc ids [] [] r x l = refl
+rips-snoc ids [] (y ∷ ys) r x l = absurd (omega arith)
+rips-snoc ids (q ∷ rs) [] r x l = absurd (omega arith)
+rips-snoc ids (q ∷ rs) (y ∷ ys) r x l = ap (λ (es : List Event). FloorRip (getD ids q 0) y ∷ es) (rips-snoc ids rs ys r x (omega arith))
+
+-- what is written stands in the area
+pub written-room : (b : Board) (a : BackState) → BackFits b a → a .way .used ≤ length (a .area)
+written-room b a h = omega (arith, h .bytes, h .written, h .few)
+
+-- ---- one turf
+
+module _ (b : Board) (row d : ℕ) (s : Way) (gas : List Float) (e w : List ℕ) (f : List Float) (p : Points b row d (backAt s gas w f e))
+    (sums : Sums) (gas′ f₁ : List Float) (q : Settled b row d sums gas gas′ f f₁) where
+  abbrev n : ℕ
+  n = turfCount b
+
+  abbrev h : BackFits b (backAt s gas w f e)
+  h = p .fit
+
+  abbrev mineOf : List Float
+  mineOf = region (backSizes n) 0 f
+
+  lots-n : length mineOf ≡ n
+  lots-n = cut-length (backSizes n) f 0 (omega arith) (omega (arith, h .floats))
+
+  sums-n : length (region (backSizes n) 1 f) ≡ n
+  sums-n = cut-length (backSizes n) f 1 (omega arith) (omega (arith, h .floats))
+
+  rows-n : length (region (outSizes n) 0 w) ≡ n
+  rows-n = cut-length (outSizes n) w 0 (omega arith) (omega (arith, h .words))
+
+  mine-is : sums .mine ≡ getD mineOf row nan +f sums .sum
+  mine-is = q .mine ∙ ap (λ (x : Float). x +f sums .sum) (cut-get (backSizes n) f nan 0 row row (omega arith) (p .from) (omega arith))
+
+  stored-mine : cut (backSizes n) (set f row (sums .mine)) ≡ set (cut (backSizes n) f) 0 (set mineOf row (sums .mine))
+  stored-mine = cut-set (backSizes n) f 0 row (sums .mine) row (omega arith) (p .from) (omega arith)
+
+  theirs-is : sums .theirs ≡ getD (set mineOf row (sums .mine)) d nan +f sums .mine
+  theirs-is =
+      q .theirs
+      ∙ ap (λ (x : Float). x +f sums .mine)
+      (cut-get (backSizes n) (set f row (sums .mine)) nan 0 d d (omega arith) (p .to) (omega arith) ∙ ap (λ (fs : List (List Float)). getD (getD fs 0 []) d nan) stored-mine)
+
+  gas-clear : T (every notNegative gas′)
+  gas-clear = rw (q .cleared) (cleared-clear b gas (h .gas) (mixOf b row))
+
+  sum-clear : T (notNegative (sums .sum))
+  sum-clear = rw (q .sum) (total-clear b gas′ gas-clear d)
+
+  mine-clear : T (notNegative (sums .mine))
+  mine-clear = rw mine-is (add-clear (getD mineOf row nan) (sums .sum) (every-at mineOf (h .amounts) row (omega (arith, lots-n, p .from))) sum-clear)
+
+  set-clear : T (every notNegative (set mineOf row (sums .mine)))
+  set-clear = every-set mineOf (h .amounts) row (sums .mine) mine-clear
+
+  theirs-clear : T (notNegative (sums .theirs))
+  theirs-clear = rw theirs-is (add-clear (getD (set mineOf row (sums .mine)) d nan) (sums .mine) (every-at (set mineOf row (sums .mine)) set-clear d (omega (arith, p .to, lots-n, length-set mineOf row (sums .mine)))) mine-clear)
+
+  pub mine-number : T (not (isNan (sums .mine)))
+  mine-number = clear-number (sums .mine) mine-clear
+
+  pub theirs-number : T (not (isNan (sums .theirs)))
+  theirs-number = clear-number (sums .theirs) theirs-clear
+
+  pub told-room : s .used + 48 ≤ length e
+  told-room = omega (arith, h .bytes, h .written, p .room)
+
+  abbrev w′ : List ℕ
+  w′ = set w (s .rips) row
+
+  abbrev f′ : ℕ → List Float
+  f′ place = set f₁ (place + s .rips) (sums .sum)
+
+  stores-w : cut (outSizes n) w′ ≡ set (cut (outSizes n) w) 0 (set (region (outSizes n) 0 w) (s .rips) row)
+  stores-w = cut-set (outSizes n) w 0 (s .rips) row (s .rips) (omega arith) (omega (arith, p .room)) (omega arith)
+
+  stores-f : (place : ℕ) → place ≡ sumsAt n → cut (backSizes n) (f′ place) ≡ (set (set mineOf row (sums .mine)) d (sums .theirs) ∷ set (region (backSizes n) 1 f) (s .rips) (sums .sum) ∷ region (backSizes n) 2 f ∷ [])
+  stores-f place o =
+      cut-set (backSizes n) f₁ 1 (s .rips) (sums .sum) (place + s .rips) (omega arith) (omega (arith, p .room)) (omega (arith, o))
+      ∙ ap (λ (fs : List (List Float)). set fs 1 (set (getD fs 1 []) (s .rips) (sums .sum)))
+      (ap (cut (backSizes n)) (q .amounts)
+      ∙ cut-set (backSizes n) (set f row (sums .mine)) 0 d (sums .theirs) d (omega arith) (p .to) (omega arith)
+      ∙ ap (λ (fs : List (List Float)). set fs 0 (set (getD fs 0 []) d (sums .theirs))) stored-mine)
+
+  more-rows : take (s .rips + 1) (set (region (outSizes n) 0 w) (s .rips) row) ≡ snoc (take (s .rips) (region (outSizes n) 0 w)) row
+  more-rows = rw add-one (take-suc-set (region (outSizes n) 0 w) (s .rips) row (omega (arith, p .room, rows-n)))
+
+  more-sums : take (s .rips + 1) (set (region (backSizes n) 1 f) (s .rips) (sums .sum)) ≡ snoc (take (s .rips) (region (backSizes n) 1 f)) (sums .sum)
+  more-sums = rw add-one (take-suc-set (region (backSizes n) 1 f) (s .rips) (sums .sum) (omega (arith, p .room, sums-n)))
+
+  even : length (take (s .rips) (region (outSizes n) 0 w)) ≡ length (take (s .rips) (region (backSizes n) 1 f))
+  even = length-take-le (s .rips) (region (outSizes n) 0 w) (omega (arith, p .room, rows-n)) ∙ sym (length-take-le (s .rips) (region (backSizes n) 1 f) (omega (arith, p .room, sums-n)))
+
+  -- the next one's direction, as the code reads it
+  pub direction-at : (ways : ℕ) → ways ≡ waysAt n → getD w (ways + d) 0 ≡ getD (directions n w) d 0
+  direction-at ways o = cut-get (outSizes n) w 0 3 d (ways + d) (omega arith) (p .to) (omega (arith, o))
+
+  module _ (place : ℕ) (at-place : place ≡ sumsAt n) (last : Bool) (o : last ≡ eqb (getD (directions n w) d 0) 0) (e′ : List ℕ) (used : ℕ) (wr : Wrote (encodeAll (told (getD (b .ids) row 0) (sums .mine) (sums .theirs) last)) (s .used) used e e′) (lg : length gas′ ≡ length gas) where
+    abbrev g : Way
+    g = record { left = s .left; rips = s .rips + 1; used = used }
+
+    f₁-length : length f₁ ≡ length f
+    f₁-length = ap length (q .amounts) ∙ length-set (set f row (sums .mine)) d (sums .theirs) ∙ length-set f row (sums .mine)
+
+    f-length : length (f′ place) ≡ length f
+    f-length = length-set f₁ (place + s .rips) (sums .sum) ∙ f₁-length
+
+    same : (es : List Event) → backOf (b .ids) (backAt g gas′ w′ (f′ place) e′) (es ++ told (getD (b .ids) row 0) (sums .mine) (sums .theirs) last) ≡ backTo b (directions n w) row d (backOf (b .ids) (backAt s gas w f e) es)
+    unfolding backOf backTo told
+    same es =
+        ap₂ (λ (ws : List (List ℕ)) (fs : List (List Float)). backIn (b .ids) g gas′ ws fs (es ++ told (getD (b .ids) row 0) (sums .mine) (sums .theirs) last)) stores-w (stores-f place at-place)
+        ∙ rw (more-rows, more-sums, rips-snoc (b .ids) (take (s .rips) (region (outSizes n) 0 w)) (take (s .rips) (region (backSizes n) 1 f)) row (sums .sum) even) (rw (← q .cleared, ← q .sum, ← mine-is, ← theirs-is, o))
+
+    pub does-back : WalkDoes (backing b) (backTo b (directions n w) row d) (backAt s gas w f e) (backAt g gas′ w′ (f′ place) e′)
+    does-back = record {
+      fit = record {
+        small = h .small;
+        words = rw length-set (h .words);
+        floats = rw f-length (h .floats);
+        bytes = rw (wrote-length wr) (h .bytes);
+        written = omega (arith, h .written, wr .end, told-size (getD (b .ids) row 0) (sums .mine) (sums .theirs) last);
+        few = omega (arith, p .room);
+        count = lg ∙ h .count;
+        gas = gas-clear;
+        amounts = subst (λ (fs : List (List Float)). T (every notNegative (getD fs 0 []))) (sym (stores-f place at-place)) (every-set (set mineOf row (sums .mine)) set-clear d (sums .theirs) theirs-clear);
+        sums = subst (λ (fs : List (List Float)). T (every notNegative (take (s .rips + 1) (getD fs 1 [])))) (sym (stores-f place at-place)) (rw more-sums (every-snoc (take (s .rips) (region (backSizes n) 1 f)) (h .sums) (sums .sum) sum-clear));
+        rows = subst (λ (ws : List (List ℕ)). Below n (take (s .rips + 1) (getD ws 0 []))) (sym stores-w) (rw more-rows (Below-snoc n (take (s .rips) (region (outSizes n) 0 w)) row (h .rows) (p .from)));
+        order = subst (λ (ws : List (List ℕ)). (i : ℕ) → i < s .left → getD (getD ws 2 []) i 0 < n) (sym stores-w) (h .order);
+        directed = subst (λ (ws : List (List ℕ)). (x : ℕ) → getD (getD ws 3 []) x 0 ≤ n) (sym stores-w) (h .directed);
+      };
+      kept = rw (length-set w (s .rips) row, f-length, lg) (ap₂ (λ (ws : List (List ℕ)) (fs : List (List Float)). record { words = length w; arrays = drop 1 ws; floats = length f; beyond = getD fs 2 []; gas = length gas }) stores-w (stores-f place at-place));
+      new = told (getD (b .ids) row 0) (sums .mine) (sums .theirs) last;
+      wrote = wr;
+      same = same;
+    }
