@@ -399,7 +399,7 @@ tells-gases rows marks gases t = record { words = t .words; answer = t .answer }
 
 -- ---- the whole pass
 
-module _ {b : Board} {zones : ℕ} {w : List ℕ} (fits : ApartFits b zones w) (first nodes at : ℕ) (ef : first ≡ startsAt (turfCount b) (linkCount b)) (en : nodes ≡ layout.nodesAt (turfCount b) (linkCount b))
+module _ {b : Board} {zones : ℕ} {w : List ℕ} (fits : ApartFits b zones w) (first nodes at : ℕ) (ef : first ≡ startsAt (turfCount b) (linkCount b)) (en : nodes ≡ layout.zoneNodesAt (turfCount b) (linkCount b))
     (ea : at ≡ marksAt (turfCount b) (linkCount b)) where
   pub marks-room : at + mixtureCount b ≤ length w
   marks-room = omega (arith, ea, fits .pass .room)
@@ -415,8 +415,8 @@ module _ {b : Board} {zones : ℕ} {w : List ℕ} (fits : ApartFits b zones w) (
     )
 
     pub pass-tells : {r : Bool} {w′ : List ℕ} → ApartTells b zones first nodes at r w₁ w′
-        → let n = turfCount b in let e = linkCount b in ApartTells b zones (startsAt n e) (layout.nodesAt n e) (marksAt n e) r w w′
+        → let n = turfCount b in let e = linkCount b in ApartTells b zones (startsAt n e) (layout.zoneNodesAt n e) (marksAt n e) r w w′
     pass-tells {r} {w′} t =
-        subst (λ (x : ℕ). ApartTells b zones (startsAt (turfCount b) (linkCount b)) (layout.nodesAt (turfCount b) (linkCount b)) x r w w′) ea
+        subst (λ (x : ℕ). ApartTells b zones (startsAt (turfCount b) (linkCount b)) (layout.zoneNodesAt (turfCount b) (linkCount b)) x r w w′) ea
         (subst (λ (x : ℕ). ApartTells b zones (startsAt (turfCount b) (linkCount b)) x at r w w′) en
         (subst (λ (x : ℕ). ApartTells b zones x nodes at r w w′) ef (tells-after laid-at k refl t)))

@@ -41,7 +41,7 @@ pub record PassFits (b : Board) (at : ℕ) (w : List ℕ) : Type 0 where
 pub record ApartFits (b : Board) (zones : ℕ) (w : List ℕ) : Type 0 where
   pub sizes : Sizes (turfCount b) (linkCount b)
   pub pass : PassFits b (marksAt (turfCount b) (linkCount b)) w
-  pub laid : ZonesLaid (turfCount b) zones (startsAt (turfCount b) (linkCount b)) (layout.nodesAt (turfCount b) (linkCount b)) (marksAt (turfCount b) (linkCount b)) w
+  pub laid : ZonesLaid (turfCount b) zones (startsAt (turfCount b) (linkCount b)) (layout.zoneNodesAt (turfCount b) (linkCount b)) (marksAt (turfCount b) (linkCount b)) w
 
 -- they are the nodes of these zones
 pub record ZonesStand (first base : ℕ) (zs : List Zone) (w : List ℕ) : Type 0 where

@@ -12,7 +12,7 @@ ghost use lib.ListN.{getD};
 ghost use Rattle.rules_board.specs.Board.{turfCount, linkCount, mixtureCount, mixOf, immutableMix};
 ghost use Rattle.turfs.specs.Tables.{boardAt};
 ghost use Rattle.reverse_links.specs.Words.{But};
-ghost use Rattle.scratch.specs.Layout.{startsAt, nodesAt, marksAt};
+ghost use Rattle.scratch.specs.Layout.{startsAt, zoneNodesAt, marksAt};
 ghost use Rattle.rules_finish.specs.Turns.{Zone};
 ghost use Rattle.apart.specs.Marks.{Marked, ZonesLaid, PassFits, ApartFits, Passed, ApartTells};
 
@@ -105,7 +105,7 @@ pub fn apart(zones: usize, rows: &Rows, marks: &Marks, words: &mut [u32]) -> boo
     ensures { λ r. ⌜ ((gases : ℕ) → let b = boardAt (rows .entry) (marks .entry) gases in
         let n = turfCount b in
         let e = linkCount b in
-        ApartTells b zones (startsAt n e) (nodesAt n e) (marksAt n e) r (now (words .entry)) (now (words .exit))) ⌝ }
+        ApartTells b zones (startsAt n e) (zoneNodesAt n e) (marksAt n e) r (now (words .entry)) (now (words .exit))) ⌝ }
 {
     let ids = rows[IDS];
     let neighbours = rows[NEIGHBOURS];

@@ -22,7 +22,7 @@ use Rattle.events.proofs.Areas.{wrote-length}
 use Rattle.events.proofs.Sizes.{size}
 use Rattle.index_set.proofs.Queue.{Below-at, all-below, all-apart}
 use Rattle.rules_lent.specs.Lent.{Lent, Extra, noExtra, wordsRoom, floatsRoom, refusal, after}
-use Rattle.lent_room.specs.Areas.{cleared, Roomy}
+use Rattle.lent_room.specs.Areas.{clearedFirst, Roomy}
 use Rattle.lent.specs.Given.{lent, Given}
 use Rattle.lent.proofs.Numbers.{bare, given, no-links, scratch-of}
 use Rattle.lent.proofs.Passed.{passed}
@@ -237,7 +237,7 @@ module _ (b : Board) (limit id : ℕ) (l : Lent) (x : Extra) (number : ℕ) (q :
       few = omega (arith, bytes-is, depressurize-room b (passed b l (84 * turfCount b) noExtra is-zero .board) limit (l .gas) id, given-all .accepted .tables .sizes .small .turfs)
 
       pub answered : (w′ : List ℕ) (f′ : List Float)
-          → w′ ≡ cleared 0 (wordsRoom (bare b)) w₁ → f′ ≡ cleared 0f (floatsRoom (bare b)) f₁
+          → w′ ≡ clearedFirst 0 (wordsRoom (bare b)) w₁ → f′ ≡ clearedFirst 0f (floatsRoom (bare b)) f₁
           → record { answer = record { number = 0; outcome = g .outcome; bytes = g .used }; lent = lent gas′ e′ w′ f′ } ≡ depressurizeResult b limit id l
       unfolding depressurizeResult depressurizeNumber depressurizeDone after wordsRoom floatsRoom
       answered w′ f′ c k =

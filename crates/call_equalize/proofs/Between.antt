@@ -34,7 +34,7 @@ use Rattle.fill_all.specs.declared.Filling.{Filling}
 use Rattle.fill_all.proofs.Words.{at, rowsOf, starts-word, starts-rise, starts-below, nodes-few, zones-count, zones-are, rows-are, rows-length, rows-line, owners-are, tests-are}
 use Rattle.rules_finish.specs.Turns.{Zone, zoneAt, nodeCount, finishAll}
 use Rattle.rules_finish.specs.Turns as turns
-use Rattle.scratch.specs.Layout.{wordSizes, floatSizes, foundAt, startsAt, nodesAt, marksAt, liftedAt}
+use Rattle.scratch.specs.Layout.{wordSizes, floatSizes, foundAt, startsAt, zoneNodesAt, marksAt, liftedAt}
 use Rattle.scratch.specs.View.{reverseIn, ownerIn}
 use Rattle.finish_send.specs.Areas.{finishAreas, floatsOf, others, weightOn}
 use Rattle.finish_send.proofs.Shown.{holds-written}
@@ -97,8 +97,8 @@ module _ (b : Board) (q : Ask) (l₀ l : Lent) (s : Filling) (d : CallFills b q 
   abbrev D : FillsAll n e (fillAll b (l₀ .gas) q) s (l₀ .words) (l .words) (l₀ .floats) (l .floats) (l₀ .area) (l .area)
   D = d .fills
 
-  row-at : (z i : ℕ) → i < at D (z + 1) - at D z → getD (l .words) (nodesAt n e + at D z + i) 0 ≡ getD (rowsOf D z) i 0
-  row-at z i p = sym (getD-take (at D (z + 1) - at D z) (drop (nodesAt n e + at D z) (l .words)) i 0 p ∙ getD-drop (nodesAt n e + at D z) (l .words) i 0)
+  row-at : (z i : ℕ) → i < at D (z + 1) - at D z → getD (l .words) (zoneNodesAt n e + at D z + i) 0 ≡ getD (rowsOf D z) i 0
+  row-at z i p = sym (getD-take (at D (z + 1) - at D z) (drop (zoneNodesAt n e + at D z) (l .words)) i 0 p ∙ getD-drop (zoneNodesAt n e + at D z) (l .words) i 0)
 
   node-rows : (z : ℕ) → z < s .zones → All (λ r. r < n) (rowsOf D z)
   node-rows z p = rows-line accepted (l₀ .gas) q D z p .rows
@@ -133,7 +133,7 @@ module _ (b : Board) (q : Ask) (l₀ l : Lent) (s : Filling) (d : CallFills b q 
         let i : startsAt n e + z + 1 ≡ startsAt n e + (z + 1) = omega arith in
         ap (λ (x : ℕ). getD w₁ x 0) i ∙ start₁ (z + 1) (omega arith)
 
-    laid : ZonesLaid n (s .zones) (startsAt n e) (nodesAt n e) marks w₁
+    laid : ZonesLaid n (s .zones) (startsAt n e) (zoneNodesAt n e) marks w₁
     laid = record {
       few = omega (arith, few-zones, h .turfs .1);
       starts = omega (arith, few-zones);
@@ -143,25 +143,25 @@ module _ (b : Board) (q : Ask) (l₀ l : Lent) (s : Filling) (d : CallFills b q 
       rows = λ z j a lo hi. row z j a (omega (arith, lo, start₁ z (omega arith))) (omega (arith, hi, next₁ z a));
     }
       where
-        row : (z j : ℕ) → z < s .zones → nodesAt n e + at D z ≤ j → j < nodesAt n e + at D (z + 1) → getD w₁ j 0 < n
+        row : (z j : ℕ) → z < s .zones → zoneNodesAt n e + at D z ≤ j → j < zoneNodesAt n e + at D (z + 1) → getD w₁ j 0 < n
         row z j a lo hi =
-            let i : ℕ = j - (nodesAt n e + at D z) in
-            let q : j ≡ nodesAt n e + at D z + i = omega (arith, lo) in
+            let i : ℕ = j - (zoneNodesAt n e + at D z) in
+            let q : j ≡ zoneNodesAt n e + at D z + i = omega (arith, lo) in
             let k : i < at D (z + 1) - at D z = omega (arith, lo, hi) in
             rw (kept₁ j (omega (arith, lo)) ∙ ap (λ (x : ℕ). getD (l .words) x 0) q ∙ row-at z i k)
             (All-getD (λ x. x < n) (rowsOf D z) i 0 (node-rows z a) (omega (arith, rows-length D z a, k)))
 
-    stands : ZonesStand (startsAt n e) (nodesAt n e) zones w₁
+    stands : ZonesStand (startsAt n e) (zoneNodesAt n e) zones w₁
     stands = record { size = λ z a. size-of z (omega (arith, a, zones-count D)); node = λ z i a c. node-of z i (omega (arith, a, zones-count D)) c }
       where
         size-of : (z : ℕ) → z < s .zones → getD w₁ (startsAt n e + z) 0 + length (turns.nodesAt zones z) ≡ getD w₁ (startsAt n e + z + 1) 0
         size-of z a = omega (arith, start₁ z (omega arith), next₁ z a, ap length (rows-are D z a), rows-length D z a, starts-rise D z a)
 
-        node-of : (z i : ℕ) → z < s .zones → i < length (turns.nodesAt zones z) → getD w₁ (nodesAt n e + getD w₁ (startsAt n e + z) 0 + i) 0 ≡ getD (turns.nodesAt zones z) i 0
+        node-of : (z i : ℕ) → z < s .zones → i < length (turns.nodesAt zones z) → getD w₁ (zoneNodesAt n e + getD w₁ (startsAt n e + z) 0 + i) 0 ≡ getD (turns.nodesAt zones z) i 0
         node-of z i a c =
             let k : i < at D (z + 1) - at D z = omega (arith, c, ap length (rows-are D z a), rows-length D z a) in
-            ap (λ (x : ℕ). getD w₁ (nodesAt n e + x + i) 0) (start₁ z (omega arith))
-            ∙ kept₁ (nodesAt n e + at D z + i) (omega arith)
+            ap (λ (x : ℕ). getD w₁ (zoneNodesAt n e + x + i) 0) (start₁ z (omega arith))
+            ∙ kept₁ (zoneNodesAt n e + at D z + i) (omega arith)
             ∙ row-at z i k ∙ ap (λ (x : List ℕ). getD x i 0) (sym (rows-are D z a))
 
     pub apart-asks : ApartFits (bare b) (s .zones) w₁
@@ -171,7 +171,7 @@ module _ (b : Board) (q : Ask) (l₀ l : Lent) (s : Filling) (d : CallFills b q 
       laid = laid;
     }
 
-    apart-is : {r : Bool} {w₂ : List ℕ} → ApartTells b (s .zones) (startsAt n e) (nodesAt n e) marks r w₁ w₂ → r ≡ apart b zones
+    apart-is : {r : Bool} {w₂ : List ℕ} → ApartTells b (s .zones) (startsAt n e) (zoneNodesAt n e) marks r w₁ w₂ → r ≡ apart b zones
     apart-is t = t .answer zones (zones-count D) stands
 
     -- ---- finishing
@@ -199,10 +199,10 @@ module _ (b : Board) (q : Ask) (l₀ l : Lent) (s : Filling) (d : CallFills b q 
 
       nodes₂ : (z : ℕ) → z < s .zones → zoneNodes n e w₂ z ≡ rowsOf D z
       nodes₂ z a =
-          ap (λ (x : ℕ). take (startOf n e w₂ (z + 1) - x) (drop (nodesAt n e + x) w₂)) (start₂ z (omega arith))
-          ∙ ap (λ (x : ℕ). take (x - at D z) (drop (nodesAt n e + at D z) w₂)) (start₂ (z + 1) (omega arith))
-          ∙ part-alike (nodesAt n e + at D z) (at D (z + 1) - at D z) w₂ (l .words) long₂
-          (λ j c. kept₂ (nodesAt n e + at D z + j) (omega arith) (omega (arith, c, ends-within z a)))
+          ap (λ (x : ℕ). take (startOf n e w₂ (z + 1) - x) (drop (zoneNodesAt n e + x) w₂)) (start₂ z (omega arith))
+          ∙ ap (λ (x : ℕ). take (x - at D z) (drop (zoneNodesAt n e + at D z) w₂)) (start₂ (z + 1) (omega arith))
+          ∙ part-alike (zoneNodesAt n e + at D z) (at D (z + 1) - at D z) w₂ (l .words) long₂
+          (λ j c. kept₂ (zoneNodesAt n e + at D z + j) (omega arith) (omega (arith, c, ends-within z a)))
 
       same-zones : Same n e (s .zones) w₂ zones
       same-zones = record { size = zones-count D; nodes = λ z a. rows-are D z a ∙ sym (nodes₂ z a) }
@@ -261,7 +261,7 @@ module _ (b : Board) (q : Ask) (l₀ l : Lent) (s : Filling) (d : CallFills b q 
             ∙ drop-later (liftedAt n e) m f₁ (l .floats) (omega arith) (p .floats .1)
             ∙ later-same (floatSizes n e) m (l₀ .floats) (l .floats) (omega arith) (ap (λ (v : FilledView). v .around .restR) (D .same))
 
-        pub comes-played : (r : Bool) → ApartTells b (s .zones) (startsAt n e) (nodesAt n e) marks r w₁ w₂ → (mark : ℕ) → mark ≡ bit r
+        pub comes-played : (r : Bool) → ApartTells b (s .zones) (startsAt n e) (zoneNodesAt n e) marks r w₁ w₂ → (mark : ℕ) → mark ≡ bit r
             → Comes b (played b (l₀ .gas) q turns (fillAll b (l₀ .gas) q)) (record { cancelled = 0; processed = s .nodes; tests = s .tests + 2; zones = s .zones; apart = mark; used = used }) l₀ (record { gas = g₃; area = a₃; words = w₃; floats = f₃ })
         unfolding played
         comes-played r o mark m = record {
@@ -292,7 +292,7 @@ module _ {b : Board} {s : Filling} {l : Lent} (x : CallFilled b s l) where
     pub apart-fits : ApartFits (bare b) (s .zones) w₁
     apart-fits = apart-asks b (x .asked) (x .lent) l s (x .fills) (x .board) (x .links) (x .area) (x .words) (x .floats) w₁ f₁ p
 
-    module _ (r : Bool) (w₂ : List ℕ) (t : ApartTells b (s .zones) (startsAt N E) (nodesAt N E) (marksAt N E) r w₁ w₂) where
+    module _ (r : Bool) (w₂ : List ℕ) (t : ApartTells b (s .zones) (startsAt N E) (zoneNodesAt N E) (marksAt N E) r w₁ w₂) where
       pub finish-fits : Planned b (s .zones) w₂ (finishAreas (l .gas) f₁ (l .area) (s .used))
       finish-fits = finish-asks b (x .asked) (x .lent) l s (x .fills) (x .board) (x .links) (x .area) (x .words) (x .floats) w₁ f₁ p w₂ (t .words)
 

@@ -14,7 +14,7 @@ use Rattle.turfs.specs.Tables.{Accepted}
 use Rattle.events.proofs.Sizes.{size}
 use Rattle.events.proofs.Areas.{wrote-length}
 use Rattle.rules_lent.specs.Lent.{Lent, wordsRoom, floatsRoom, after}
-use Rattle.lent_room.specs.Areas.{cleared}
+use Rattle.lent_room.specs.Areas.{clearedFirst}
 use Rattle.lent.specs.Given.{lent}
 use Rattle.lent.proofs.Passed.{Passed}
 use Rattle.lent.proofs.Numbers.{bare}
@@ -98,7 +98,7 @@ module _ (b : Board) (q : Ask) (turns : List ℕ) (l : Lent) where
     refused-is z e = rw (e, ← r, ne-eqb number 0 z)
 
     pub answered : number ≡ 0 → {o : Outcome} {l₁ : Lent} → Comes b (equalize b (l .gas) q turns) o l l₁ → (w′ : List ℕ) (f′ : List Float)
-        → w′ ≡ cleared 0 (wordsRoom (bare b)) (l₁ .words) → f′ ≡ cleared 0f (floatsRoom (bare b)) (l₁ .floats)
+        → w′ ≡ clearedFirst 0 (wordsRoom (bare b)) (l₁ .words) → f′ ≡ clearedFirst 0f (floatsRoom (bare b)) (l₁ .floats)
         → record { answer = record { number = 0; cancelled = o .cancelled; processed = o .processed; tests = o .tests; zones = o .zones; apart = o .apart; bytes = o .used }; lent = lent (l₁ .gas) (l₁ .area) w′ f′ }
         ≡ equalizeResult b q turns l
     unfolding equalizeResult equalizeDone after wordsRoom floatsRoom

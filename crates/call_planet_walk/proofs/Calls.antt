@@ -18,7 +18,7 @@ use Rattle.rules_events.specs.Events.{encodeAll}
 use Rattle.events.specs.Area.{Wrote}
 use Rattle.events.proofs.Sizes.{size}
 use Rattle.rules_lent.specs.Lent.{Lent, Extra, noExtra, wordsRoom, floatsRoom, refusal, after}
-use Rattle.lent_room.specs.Areas.{cleared, Roomy}
+use Rattle.lent_room.specs.Areas.{clearedFirst, Roomy}
 use Rattle.lent.specs.Given.{lent, Given}
 use Rattle.lent.proofs.Numbers.{bare, given, no-links, scratch-of}
 use Rattle.lent.proofs.Passed.{passed}
@@ -93,7 +93,7 @@ module _ (b : Board) (limit id : ℕ) (l : Lent) (x : Extra) (number : ℕ) (q :
       few = omega (arith, wrote .end, planet-room b (passed b l (planetRoom b) noExtra (sym number-is ∙ z) .board) limit id, granted .accepted .tables .sizes .small .turfs)
 
       pub answered : (w₁ : List ℕ) → region (walkSizes (turfCount b)) 3 w₁ ≡ region (walkSizes (turfCount b)) 3 (l .words) → (w′ : List ℕ) (f′ : List Float)
-          → w′ ≡ cleared 0 (wordsRoom (bare b)) w₁ → f′ ≡ cleared 0f (floatsRoom (bare b)) (l .floats)
+          → w′ ≡ clearedFirst 0 (wordsRoom (bare b)) w₁ → f′ ≡ clearedFirst 0f (floatsRoom (bare b)) (l .floats)
           → record { answer = record { number = 0; bytes = bytes }; lent = lent (l .gas) e′ w′ f′ } ≡ planetResult b limit id l
       unfolding planetResult planetNumber planetDone after wordsRoom floatsRoom
       answered w₁ same w′ f′ c d =

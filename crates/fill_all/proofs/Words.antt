@@ -14,7 +14,7 @@ use Rattle.basics.specs.Floats.{0f}
 use Rattle.basics.proofs.Lists.{upFrom-length, map-up}
 use Rattle.basics.proofs.Regions.{cut-get, region-part}
 use Rattle.basics.proofs.Parts.{take-in}
-use Rattle.scratch.specs.Layout.{wordSizes, floatSizes, startsAt, nodesAt, molesAt}
+use Rattle.scratch.specs.Layout.{wordSizes, floatSizes, startsAt, zoneNodesAt, molesAt}
 use Rattle.scratch.specs.View.{ownerIn, startsIn, nodesIn, molesIn}
 use Rattle.rules_board.specs.Board.{Board, turfCount, linkCount}
 use Rattle.turfs.specs.Tables.{Accepted}
@@ -32,7 +32,7 @@ module _ {n e : ℕ} {all : Filled} {r : Filling} {w w′ : List ℕ} {f f′ : 
 
   -- the words that are zone i's nodes
   abbrev pub rowsOf : ℕ → List ℕ
-  rowsOf i = take (at (i + 1) - at i) (drop (nodesAt n e + at i) w′)
+  rowsOf i = take (at (i + 1) - at i) (drop (zoneNodesAt n e + at i) w′)
 
   pub starts-word : (i : ℕ) → i ≤ r .zones → at i ≡ getD (startsIn n e w′) i 0
   starts-word i l = cut-get (wordSizes n e) w′ 0 10 i (startsAt n e + i) (omega arith) (omega (arith, d .stored .zones)) (omega arith)
@@ -67,7 +67,7 @@ module _ {n e : ℕ} {all : Filled} {r : Filling} {w w′ : List ℕ} {f f′ : 
   rows-are i l =
       let a : ℕ = at i in
       let c : ℕ = at (i + 1) in
-      let p : base (wordSizes n e) 11 + a ≡ nodesAt n e + a = omega arith in
+      let p : base (wordSizes n e) 11 + a ≡ zoneNodesAt n e + a = omega arith in
       ap (λ (z : Zone). z .nodes) (zone-is i l)
       ∙ ap (λ (x : ℕ). take (getD (startsIn n e w′) (i + 1) 0 - x) (drop x (nodesIn n e w′))) (sym (starts-word i (omega arith)))
       ∙ ap (λ (x : ℕ). take (x - a) (drop a (nodesIn n e w′))) (sym (starts-word (i + 1) (omega arith)))
@@ -78,8 +78,8 @@ module _ {n e : ℕ} {all : Filled} {r : Filling} {w w′ : List ℕ} {f f′ : 
 
   -- as many as there are between two starts
   pub rows-length : (i : ℕ) → i < r .zones → length (rowsOf i) ≡ at (i + 1) - at i
-  rows-length i l = length-take-le (at (i + 1) - at i) (drop (nodesAt n e + at i) w′)
-      (rw (length-drop (nodesAt n e + at i) w′) (omega (arith, starts-rise i l, starts-below (i + 1) (omega arith), nodes-few, d .stored .words)))
+  rows-length i l = length-take-le (at (i + 1) - at i) (drop (zoneNodesAt n e + at i) w′)
+      (rw (length-drop (zoneNodesAt n e + at i) w′) (omega (arith, starts-rise i l, starts-below (i + 1) (omega arith), nodes-few, d .stored .words)))
 
   -- the float is the zone's total
   pub moles-are : (i : ℕ) → i < r .zones → zoneAt (all .zones) i .moles ≡ getD f′ (molesAt n e + i) nan

@@ -15,7 +15,7 @@ use Rattle.basics.proofs.Regions.{cut-set, cut-get, cut-length}
 use Rattle.basics.proofs.Stores.{Far}
 use Rattle.index_set.specs.Line.{Below, Apart, array, HoldsSet}
 use Rattle.index_set.proofs.Queue.{line-more, count-below}
-use Rattle.scratch.specs.Layout.{wordSizes, queueAt, placesAt, foundAt, nodesAt, marksAt}
+use Rattle.scratch.specs.Layout.{wordSizes, queueAt, placesAt, foundAt, zoneNodesAt, marksAt}
 use Rattle.scratch.specs.View.{ownerIn, queueIn, foundIn, nodesIn}
 use Rattle.rules_events.specs.declared.Event.{Event}
 use Rattle.rules_fill.specs.Fill.{Reach, insert}
@@ -75,7 +75,7 @@ module _ {n count queue places : ℕ} {w : List ℕ} (h : HoldsSet n count queue
 -- ---- what the code reads
 
 module _ (n e : ℕ) (w : List ℕ) (long : marksAt n e + n ≤ length w) where
-  enough : nodesAt n e + (n + e) ≤ length w
+  enough : zoneNodesAt n e + (n + e) ≤ length w
   enough = omega arith
 
   pub owner-at : (k : ℕ) → k < e → getD w k 0 ≡ getD (ownerIn e w) k 0
@@ -100,16 +100,16 @@ module _ (n e : ℕ) (w : List ℕ) (long : marksAt n e + n ≤ length w) where
   owner-long = cut-length (wordSizes n e) w 0 (omega arith) (omega arith)
 
   -- the nodes of a zone, by the array and by the words
-  pub nodes-array : (kept count : ℕ) → kept + count ≤ n + e → count ≤ n → take count (array n (nodesAt n e + kept) w) ≡ take count (drop kept (nodesIn n e w))
+  pub nodes-array : (kept count : ℕ) → kept + count ≤ n + e → count ≤ n → take count (array n (zoneNodesAt n e + kept) w) ≡ take count (drop kept (nodesIn n e w))
   nodes-array kept count h l =
-      let a : length (take count (array n (nodesAt n e + kept) w)) ≡ count =
-      length-take-le count (array n (nodesAt n e + kept) w) (rw (length-take-le n (drop (nodesAt n e + kept) w) (simp length-drop (omega arith))) l) in
+      let a : length (take count (array n (zoneNodesAt n e + kept) w)) ≡ count =
+      length-take-le count (array n (zoneNodesAt n e + kept) w) (rw (length-take-le n (drop (zoneNodesAt n e + kept) w) (simp length-drop (omega arith))) l) in
       let c : length (take count (drop kept (nodesIn n e w))) ≡ count =
       length-take-le count (drop kept (nodesIn n e w)) (simp (length-drop, nodes-long) (omega arith)) in
       ext-getD 0 _ _ (a ∙ sym c) (λ i k.
       let j : i < count = omega (arith, a) in
-      getD-take count (array n (nodesAt n e + kept) w) i 0 j ∙ getD-take n (drop (nodesAt n e + kept) w) i 0 (omega arith) ∙ getD-drop (nodesAt n e + kept) w i 0
-      ∙ cut-get (wordSizes n e) w 0 11 (kept + i) (nodesAt n e + kept + i) (omega arith) (omega arith) (omega arith)
+      getD-take count (array n (zoneNodesAt n e + kept) w) i 0 j ∙ getD-take n (drop (zoneNodesAt n e + kept) w) i 0 (omega arith) ∙ getD-drop (zoneNodesAt n e + kept) w i 0
+      ∙ cut-get (wordSizes n e) w 0 11 (kept + i) (zoneNodesAt n e + kept + i) (omega arith) (omega arith) (omega arith)
       ∙ sym (getD-take count (drop kept (nodesIn n e w)) i 0 j ∙ getD-drop kept (nodesIn n e w) i 0))
 
 -- ---- nothing done
@@ -172,19 +172,19 @@ module _ {s : Reached} {kept n e : ℕ} {w : List ℕ} (h : ReachFits n e kept s
   }
 
   -- the nodes in the view and in the words
-  in-nodes : (a : ℕ) (es : List Event) → member a (reachView n e kept s w es .reach .nodes) ≡ member a (take (s .nodes) (array n (nodesAt n e + kept) w))
+  in-nodes : (a : ℕ) (es : List Event) → member a (reachView n e kept s w es .reach .nodes) ≡ member a (take (s .nodes) (array n (zoneNodesAt n e + kept) w))
   unfolding reachView
   in-nodes a es = sym (ap (member a) (nodes-array n e w (h .words) kept (s .nodes) (h .nodes) (h .line .line .few)))
 
-  pub join-more : (a : ℕ) → a < n → kept + s .nodes < n + e → member a (take (s .nodes) (array n (nodesAt n e + kept) w)) ≡ false
+  pub join-more : (a : ℕ) → a < n → kept + s .nodes < n + e → member a (take (s .nodes) (array n (zoneNodesAt n e + kept) w)) ≡ false
       → Moves n e kept (join a) s (record { queued = s .queued; nodes = s .nodes + 1; ignored = s .ignored; used = s .used }) w
-      (set (set w (nodesAt n e + kept + s .nodes) a) (placesAt n e + a) (s .nodes))
+      (set (set w (zoneNodesAt n e + kept + s .nodes) a) (placesAt n e + a) (s .nodes))
   unfolding reachView
   join-more a ha room i =
       let ns : List ℕ = nodesIn n e w in
       let t : Reached = record { queued = s .queued; nodes = s .nodes + 1; ignored = s .ignored; used = s .used } in
-      let c₁ = cut-set (wordSizes n e) w 11 (kept + s .nodes) a (nodesAt n e + kept + s .nodes) (omega arith) room (omega arith) in
-      let c₂ = cut-set (wordSizes n e) (set w (nodesAt n e + kept + s .nodes) a) 5 a (s .nodes) (placesAt n e + a) (omega arith) ha (omega arith) in
+      let c₁ = cut-set (wordSizes n e) w 11 (kept + s .nodes) a (zoneNodesAt n e + kept + s .nodes) (omega arith) room (omega arith) in
+      let c₂ = cut-set (wordSizes n e) (set w (zoneNodesAt n e + kept + s .nodes) a) 5 a (s .nodes) (placesAt n e + a) (omega arith) ha (omega arith) in
       let c = c₂ ∙ ap (λ (ws : List (List ℕ)). set ws 5 (set (getD ws 5 []) a (s .nodes))) c₁ in
       let new : take (s .nodes + 1) (drop kept (set ns (kept + s .nodes) a)) ≡ snoc (take (s .nodes) (drop kept ns)) a =
       ap (take (s .nodes + 1)) (drop-set-add kept ns (s .nodes) a) ∙ ap (λ (j : ℕ). take j (set (drop kept ns) (s .nodes) a)) (add-one (s .nodes))
@@ -222,7 +222,7 @@ module _ (m : Met) (k z : ℕ) (s : Reached) (kept n e : ℕ) (w : List ℕ) (h 
   pub edge-none : m .on ≡ false → Moves n e kept (edgeTo m k z) s s w w
   edge-none o = moves-none (edgeTo m k z) h (λ es. edge-off m k z _ o)
 
-  module _ (on : m .on ≡ true) (at places : ℕ) (ea : at ≡ nodesAt n e) (ep : places ≡ placesAt n e) where
+  module _ (on : m .on ≡ true) (at places : ℕ) (ea : at ≡ zoneNodesAt n e) (ep : places ≡ placesAt n e) where
     abbrev w₁ : List ℕ
     w₁ = set w k (z + 1)
 
@@ -233,13 +233,13 @@ module _ (m : Met) (k z : ℕ) (s : Reached) (kept n e : ℕ) (w : List ℕ) (h 
     edge-holds = rw (ea, ep) (owned .fit .line)
 
     module _ (t : Bool) (i : t ≡ member (m .row) (take (s .nodes) (array n (at + kept) w₁))) where
-      here : member (m .row) (take (s .nodes) (array n (nodesAt n e + kept) w₁)) ≡ t
+      here : member (m .row) (take (s .nodes) (array n (zoneNodesAt n e + kept) w₁)) ≡ t
       here = sym (i ∙ ap (λ (x : ℕ). member (m .row) (take (s .nodes) (array n (x + kept) w₁))) ea)
 
       before : (es : List Event) → member (m .row) (reachView n e kept s w es .reach .nodes) ≡ t
       before es =
           in-nodes h (m .row) es
-          ∙ ap (λ (l : List ℕ). member (m .row) (take (s .nodes) l)) (sym (array-far n (nodesAt n e + kept) k (z + 1) w (inl (omega arith)))) ∙ here
+          ∙ ap (λ (l : List ℕ). member (m .row) (take (s .nodes) l)) (sym (array-far n (zoneNodesAt n e + kept) k (z + 1) w (inl (omega arith)))) ∙ here
 
     pub edge-old : true ≡ member (m .row) (take (s .nodes) (array n (at + kept) w₁)) → Moves n e kept (edgeTo m k z) s s w w₁
     edge-old i = moves-as (edgeTo m k z) owned (λ es. edge-known m k z _ on (before true i es))

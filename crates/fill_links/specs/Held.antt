@@ -8,7 +8,7 @@ use lib.ListN.{length, getD, take, drop}
 use Rattle.basics.specs.Regions.{cut}
 use Rattle.basics.specs.Lists.{All, count}
 use Rattle.index_set.specs.Line.{HoldsSet}
-use Rattle.scratch.specs.Layout.{wordSizes, placesAt, nodesAt, marksAt, Sizes}
+use Rattle.scratch.specs.Layout.{wordSizes, placesAt, zoneNodesAt, marksAt, Sizes}
 use Rattle.rules_events.specs.Events.{encodeAll}
 use Rattle.events.specs.Area.{Wrote}
 use Rattle.rules_events.specs.declared.Event.{Event}
@@ -84,7 +84,7 @@ pub record ReachFits (n e kept : ℕ) (s : Reached) (w : List ℕ) : Type 0 wher
   pub words : marksAt n e + n ≤ length w
   pub nodes : kept + s .nodes ≤ n + e
   pub queue : s .queued ≤ n
-  pub line : HoldsSet n (s .nodes) (nodesAt n e + kept) (placesAt n e) w
+  pub line : HoldsSet n (s .nodes) (zoneNodesAt n e + kept) (placesAt n e) w
 
 -- how many are 0
 unfoldable pub zeros : List ℕ → ℕ

@@ -14,7 +14,7 @@ use borrow.Author.Tests.{ltb-true, eq-eqb}
 use Rattle.basics.specs.Loops.{times, member}
 use Rattle.basics.specs.Floats.{0f}
 use Rattle.basics.proofs.Loops.{times-still}
-use Rattle.scratch.specs.Layout.{queueAt, placesAt, foundAt, nodesAt, marksAt, Sizes}
+use Rattle.scratch.specs.Layout.{queueAt, placesAt, foundAt, zoneNodesAt, marksAt, Sizes}
 use Rattle.rules_board.specs.Board.{Board, turfCount, linkCount}
 use Rattle.turfs.specs.Tables.{Accepted}
 use Rattle.rules_events.specs.declared.Event.{Event}
@@ -46,13 +46,13 @@ module _ (row used tests kept n e : ℕ) (w : List ℕ) (sz : Sizes n e) (hr : r
     words = long;
     nodes = omega arith;
     queue = omega arith;
-    line = holds-none n (nodesAt n e + kept) (placesAt n e) w (omega arith, omega arith);
+    line = holds-none n (zoneNodesAt n e + kept) (placesAt n e) w (omega arith, omega arith);
   }
 
   abbrev first : Flood
   first = record { reach = record { queued = 1; nodes = 1; ignored = false; used = used }; popped = 0; moles = 0f; planet = false; tests = tests; state = On }
 
-  module _ (fa qa na pa : ℕ) (ef : fa ≡ foundAt n e) (eq : qa ≡ queueAt n e) (en : na ≡ nodesAt n e) (ep : pa ≡ placesAt n e) where
+  module _ (fa qa na pa : ℕ) (ef : fa ≡ foundAt n e) (eq : qa ≡ queueAt n e) (en : na ≡ zoneNodesAt n e) (ep : pa ≡ placesAt n e) where
     abbrev w₁ : List ℕ
     w₁ = set w (fa + row) 1
 
@@ -71,7 +71,7 @@ module _ (row used tests kept n e : ℕ) (w : List ℕ) (sz : Sizes n e) (hr : r
         push-more m (none used) kept n e w₁ (d₁ .fit) refl (omega arith) qa eq w₂ (ap (λ (i : ℕ). set w₁ i row) (sym (add-zero qa))) in
         let d₃ = join-more (d₂ .fit) row hr (omega arith) refl in
         let d = moves-then (moves-then d₁ d₂) d₃ in
-        let e₁ : w′ ≡ set (set w₂ (nodesAt n e + kept + 0) row) (placesAt n e + row) 0 = ew ∙ ap₂ (λ (x p : ℕ). set (set w₂ (x + kept + 0) row) (p + row) 0) en ep in
+        let e₁ : w′ ≡ set (set w₂ (zoneNodesAt n e + kept + 0) row) (placesAt n e + row) 0 = ew ∙ ap₂ (λ (x p : ℕ). set (set w₂ (x + kept + 0) row) (p + row) 0) en ep in
         subst (λ (v : List ℕ). ZoneStarts n e kept used (λ found owner es. startFill row found owner es tests) first w v) (sym e₁)
         (record { fit = d .fit; same = λ es. ap (fillIn first) (d .same es) })
 

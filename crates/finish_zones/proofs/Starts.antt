@@ -16,7 +16,7 @@ use Rattle.basics.specs.Loops.{keep, consIf, upFrom}
 use Rattle.basics.proofs.Loops.{keep-append, up-append}
 use Rattle.basics.proofs.Parts.{take-alike, drop-alike}
 use Rattle.scratch.specs.Layout.{turnsAt, liveAt, startsAt}
-use Rattle.finish_zones.specs.Zones.{nodesOf, turnsOf, liveIn, without, Laid, Beside, TakenOut, StartsZone, Started, Settles}
+use Rattle.finish_zones.specs.Zones.{nodeCountOf, turnsOf, liveIn, without, Laid, Beside, TakenOut, StartsZone, Started, SettlesZone}
 use Rattle.finish_zones.proofs.Alike.{without-length, without-low, without-high}
 use Rattle.finish_zones.proofs.Words.{beside-none, beside-then, beside-next, beside-live, beside-out, laid-beside, size-same, live-next, next-out, live-at}
 
@@ -76,26 +76,26 @@ module _ (p count live : ℕ) (ws : List ℕ) where
 
 -- ---- a zone whose node had its turn
 
-module _ (n e z p count : ℕ) (ws : List ℕ) (l : Laid n e ws z) (h : (p < count) × (count ≤ n)) (had size : ℕ) (eh : had ≡ turnsOf n e ws z) (es : size ≡ nodesOf n e ws z) where
+module _ (n e z p count : ℕ) (ws : List ℕ) (l : Laid n e ws z) (h : (p < count) × (count ≤ n)) (had size : ℕ) (eh : had ≡ turnsOf n e ws z) (es : size ≡ nodeCountOf n e ws z) where
   abbrev Stays : Bool → List ℕ
   Stays t = cond t (liveIn (liveAt n e) count ws) (without p (liveIn (liveAt n e) count ws))
 
-  pub settles-none : had < size → Settles n e z p count count ws ws
+  pub settles-none : had < size → SettlesZone n e z p count count ws ws
   settles-none q = record {
     beside = beside-none n e ws;
     next = refl;
     less = omega arith;
-    live = ap Stays (sym (lt-ltb (turnsOf n e ws z) (nodesOf n e ws z) (omega (arith, q, eh, es))));
+    live = ap Stays (sym (lt-ltb (turnsOf n e ws z) (nodeCountOf n e ws z) (omega (arith, q, eh, es))));
   }
 
-  pub settles-out : (live : ℕ) (ws′ : List ℕ) → live ≡ liveAt n e → size ≤ had → TakenOut p count live ws ws′ → Settles n e z p count (count - 1) ws ws′
+  pub settles-out : (live : ℕ) (ws′ : List ℕ) → live ≡ liveAt n e → size ≤ had → TakenOut p count live ws ws′ → SettlesZone n e z p count (count - 1) ws ws′
   settles-out live ws′ el q t′ =
       let t : TakenOut p count (liveAt n e) ws ws′ = subst (λ (i : ℕ). TakenOut p count i ws ws′) el t′ in
       record {
         beside = beside-out n e p count ws ws′ (h .1) t;
         next = next-out n e p count ws ws′ (omega (arith, l .within)) t;
         less = omega arith;
-        live = t .left ∙ ap Stays (sym (le-ltb (turnsOf n e ws z) (nodesOf n e ws z) (omega (arith, q, eh, es))));
+        live = t .left ∙ ap Stays (sym (le-ltb (turnsOf n e ws z) (nodeCountOf n e ws z) (omega (arith, q, eh, es))));
       }
 
 -- ---- the start
@@ -108,17 +108,17 @@ module _ (n e z live : ℕ) (ws : List ℕ) (l : Laid n e ws z) (at : ℕ) (ea :
   pub stored-laid : Laid n e (set ws at 0) z
   stored-laid = laid-beside n e stored z l
 
-  pub starts-none : (r : ℕ) → r ≡ nodesOf n e (set ws at 0) z → r ≡ 0 → StartsZone n e z live live ws (set ws at 0)
+  pub starts-none : (r : ℕ) → r ≡ nodeCountOf n e (set ws at 0) z → r ≡ 0 → StartsZone n e z live live ws (set ws at 0)
   starts-none r x q =
-      let s : ltb 0 (nodesOf n e ws z) ≡ false = le-ltb 0 (nodesOf n e ws z) (omega (arith, x, q, size-same n e stored z)) in
+      let s : ltb 0 (nodeCountOf n e ws z) ≡ false = le-ltb 0 (nodeCountOf n e ws z) (omega (arith, x, q, size-same n e stored z)) in
       record {
         words = ap (λ (i : ℕ). set ws i 0) ea ∙ ap (λ (t : Bool). cond t (set (set ws (turnsAt n e + z) 0) (liveAt n e + live) z) (set ws (turnsAt n e + z) 0)) (sym s);
         count = ap (λ (t : Bool). cond t (live + 1) live) (sym s);
       }
 
-  pub starts-some : (r spot : ℕ) → r ≡ nodesOf n e (set ws at 0) z → (r ≡ 0 → ⊥) → spot ≡ liveAt n e + live → StartsZone n e z live (live + 1) ws (set (set ws at 0) spot z)
+  pub starts-some : (r spot : ℕ) → r ≡ nodeCountOf n e (set ws at 0) z → (r ≡ 0 → ⊥) → spot ≡ liveAt n e + live → StartsZone n e z live (live + 1) ws (set (set ws at 0) spot z)
   starts-some r spot x q el =
-      let s : ltb 0 (nodesOf n e ws z) ≡ true = lt-ltb 0 (nodesOf n e ws z) (omega (arith, x, q, size-same n e stored z)) in
+      let s : ltb 0 (nodeCountOf n e ws z) ≡ true = lt-ltb 0 (nodeCountOf n e ws z) (omega (arith, x, q, size-same n e stored z)) in
       record {
         words = ap₂ (λ (i k : ℕ). set (set ws i 0) k z) ea el ∙ ap (λ (t : Bool). cond t (set (set ws (turnsAt n e + z) 0) (liveAt n e + live) z) (set ws (turnsAt n e + z) 0)) (sym s);
         count = ap (λ (t : Bool). cond t (live + 1) live) (sym s);
@@ -130,7 +130,7 @@ module _ (n e : ℕ) (ws : List ℕ) where
   started-none = record { beside = beside-none n e ws; few = omega arith; none = λ j h. absurd (omega arith); live = refl }
 
   abbrev has : ℕ → Bool
-  has j = ltb 0 (nodesOf n e ws j)
+  has j = ltb 0 (nodeCountOf n e ws j)
 
   one-more : (z : ℕ) (t : Bool) → has z ≡ t → keep has (upFrom 0 (z + 1)) ≡ keep has (upFrom 0 z) ++ consIf t z []
   unfolding keep upFrom
@@ -147,7 +147,7 @@ module _ (n e : ℕ) (ws : List ℕ) where
     pub started-next : (r : ℕ) (ws″ : List ℕ) → StartsZone n e z live r ws′ ws″ → Started n e (z + 1) r ws ws″
     started-next r ws″ q = go (has z) refl
       where
-        same : ltb 0 (nodesOf n e ws′ z) ≡ has z
+        same : ltb 0 (nodeCountOf n e ws′ z) ≡ has z
         same = ap (ltb 0) (size-same n e (s .beside) z)
 
         go : (t : Bool) → has z ≡ t → Started n e (z + 1) r ws ws″

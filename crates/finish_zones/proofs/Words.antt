@@ -10,9 +10,9 @@ use Rattle.basics.specs.Floats.{0f}
 use Rattle.basics.specs.Lists.{All}
 use Rattle.basics.proofs.Loops.{All-getD}
 use Rattle.basics.proofs.Parts.{part-front, drop-later}
-use Rattle.scratch.specs.Layout.{reverseAt, turnsAt, liveAt, startsAt, nodesAt}
+use Rattle.scratch.specs.Layout.{reverseAt, turnsAt, liveAt, startsAt, zoneNodesAt}
 use Rattle.scratch.specs.View.{ownerIn, reverseIn}
-use Rattle.finish_zones.specs.Zones.{startOf, nodesOf, zoneNodes, zonesIn, turnsOf, nextIn, liveIn, Laid, ZoneOpen, Beside, TakenOut}
+use Rattle.finish_zones.specs.Zones.{startOf, nodeCountOf, zoneNodes, zonesIn, turnsOf, nextIn, liveIn, Laid, ZoneOpen, Beside, TakenOut}
 
 module _ (n e : ℕ) where
   pub beside-none : (ws : List ℕ) → Beside n e ws ws
@@ -47,13 +47,13 @@ module _ (n e : ℕ) where
     pub start-same : (z : ℕ) → startOf n e ws′ z ≡ startOf n e ws z
     start-same z = sym (getD-drop (startsAt n e) ws′ z 0) ∙ ap (λ (l : List ℕ). getD l z 0) (q .rest) ∙ getD-drop (startsAt n e) ws z 0
 
-    pub size-same : (z : ℕ) → nodesOf n e ws′ z ≡ nodesOf n e ws z
+    pub size-same : (z : ℕ) → nodeCountOf n e ws′ z ≡ nodeCountOf n e ws z
     size-same z = ap₂ (λ (x y : ℕ). x - y) (start-same (z + 1)) (start-same z)
 
     pub nodes-same : (z : ℕ) → zoneNodes n e ws′ z ≡ zoneNodes n e ws z
     nodes-same z =
-        ap₂ (λ (k m : ℕ). take k (drop (nodesAt n e + m) ws′)) (size-same z) (start-same z)
-        ∙ ap (take (nodesOf n e ws z)) (drop-later (startsAt n e) (nodesAt n e + startOf n e ws z) ws′ ws (omega arith) (q .rest))
+        ap₂ (λ (k m : ℕ). take k (drop (zoneNodesAt n e + m) ws′)) (size-same z) (start-same z)
+        ∙ ap (take (nodeCountOf n e ws z)) (drop-later (startsAt n e) (zoneNodesAt n e + startOf n e ws z) ws′ ws (omega arith) (q .rest))
 
     pub zones-same : (count : ℕ) → zonesIn n e count ws′ ≡ zonesIn n e count ws
     unfolding zonesIn
@@ -90,12 +90,12 @@ module _ (n e : ℕ) where
   -- ---- a zone's nodes
 
   module _ {ws : List ℕ} {z : ℕ} (l : Laid n e ws z) where
-    pub nodes-length : length (zoneNodes n e ws z) ≡ nodesOf n e ws z
-    nodes-length = length-take-le (nodesOf n e ws z) (drop (nodesAt n e + startOf n e ws z) ws)
-        (omega (arith, length-drop (nodesAt n e + startOf n e ws z) ws, l .within, l .rise))
+    pub nodes-length : length (zoneNodes n e ws z) ≡ nodeCountOf n e ws z
+    nodes-length = length-take-le (nodeCountOf n e ws z) (drop (zoneNodesAt n e + startOf n e ws z) ws)
+        (omega (arith, length-drop (zoneNodesAt n e + startOf n e ws z) ws, l .within, l .rise))
 
-    pub node-at : (i : ℕ) → i < nodesOf n e ws z → getD ws (nodesAt n e + startOf n e ws z + i) 0 ≡ getD (zoneNodes n e ws z) i 0
-    node-at i h = sym (getD-take (nodesOf n e ws z) (drop (nodesAt n e + startOf n e ws z) ws) i 0 h ∙ getD-drop (nodesAt n e + startOf n e ws z) ws i 0)
+    pub node-at : (i : ℕ) → i < nodeCountOf n e ws z → getD ws (zoneNodesAt n e + startOf n e ws z + i) 0 ≡ getD (zoneNodes n e ws z) i 0
+    node-at i h = sym (getD-take (nodeCountOf n e ws z) (drop (zoneNodesAt n e + startOf n e ws z) ws) i 0 h ∙ getD-drop (zoneNodesAt n e + startOf n e ws z) ws i 0)
 
 pub next-at : (n e count : ℕ) (ws : List ℕ) (z : ℕ) → z < count → getD (nextIn n e count ws) z 0 ≡ turnsOf n e ws z
 next-at n e count ws z h = getD-take count (drop (turnsAt n e) ws) z 0 h ∙ getD-drop (turnsAt n e) ws z 0
@@ -110,7 +110,7 @@ pub starts-read : (n e : ℕ) (ws : List ℕ) (z first : ℕ) → first ≡ star
 starts-read n e ws z first h = (ap (λ (i : ℕ). getD ws i 0) h, ap (λ (i : ℕ). getD ws i 0) (omega (arith, h)))
 
 -- the next node of an open zone is one of the words, and a row
-module _ (n e : ℕ) {ws : List ℕ} {z : ℕ} (o : ZoneOpen n e ws z) (first turn nodes : ℕ) (ef : first ≡ startsAt n e + z) (et : turn ≡ turnsAt n e + z) (en : nodes ≡ nodesAt n e) where
+module _ (n e : ℕ) {ws : List ℕ} {z : ℕ} (o : ZoneOpen n e ws z) (first turn nodes : ℕ) (ef : first ≡ startsAt n e + z) (et : turn ≡ turnsAt n e + z) (en : nodes ≡ zoneNodesAt n e) where
   from-is : getD ws first 0 ≡ startOf n e ws z
   from-is = ap (λ (i : ℕ). getD ws i 0) ef
 

@@ -7,7 +7,7 @@ use lib.ListN.{length, getD, set, take, drop}
 use Rattle.basics.specs.Loops.{keep, upFrom, if_then_else_}
 use Rattle.basics.specs.Floats.{0f}
 use Rattle.basics.specs.Lists.{All}
-use Rattle.scratch.specs.Layout.{turnsAt, liveAt, startsAt, nodesAt}
+use Rattle.scratch.specs.Layout.{turnsAt, liveAt, startsAt, zoneNodesAt}
 use Rattle.rules_finish.specs.Turns.{Zone}
 
 -- where the nodes of zone z start
@@ -15,12 +15,12 @@ abbrev pub startOf : ℕ → ℕ → List ℕ → ℕ → ℕ
 startOf n e ws z = getD ws (startsAt n e + z) 0
 
 -- how many it has
-abbrev pub nodesOf : ℕ → ℕ → List ℕ → ℕ → ℕ
-nodesOf n e ws z = startOf n e ws (z + 1) - startOf n e ws z
+abbrev pub nodeCountOf : ℕ → ℕ → List ℕ → ℕ → ℕ
+nodeCountOf n e ws z = startOf n e ws (z + 1) - startOf n e ws z
 
 -- its nodes
 abbrev pub zoneNodes : ℕ → ℕ → List ℕ → ℕ → List ℕ
-zoneNodes n e ws z = take (nodesOf n e ws z) (drop (nodesAt n e + startOf n e ws z) ws)
+zoneNodes n e ws z = take (nodeCountOf n e ws z) (drop (zoneNodesAt n e + startOf n e ws z) ws)
 
 -- the first `count` zones; their totals are not looked at
 unfoldable pub zonesIn : ℕ → ℕ → ℕ → List ℕ → List Zone
@@ -46,7 +46,7 @@ without p l = take p l ++ drop (p + 1) l
 pub record Laid (n e : ℕ) (ws : List ℕ) (z : ℕ) : Type 0 where
   pub below : z < n
   pub rise : startOf n e ws z ≤ startOf n e ws (z + 1)
-  pub within : nodesAt n e + startOf n e ws (z + 1) ≤ length ws
+  pub within : zoneNodesAt n e + startOf n e ws (z + 1) ≤ length ws
   pub rows : All (λ r. r < n) (zoneNodes n e ws z)
 
 -- every zone of the first `count` is as filling leaves it
@@ -57,7 +57,7 @@ pub record AllLaid (n e count : ℕ) (ws : List ℕ) : Type 0 where
 -- the zone z has a node that had no turn yet
 pub record ZoneOpen (n e : ℕ) (ws : List ℕ) (z : ℕ) : Type 0 where
   pub laid : Laid n e ws z
-  pub some : turnsOf n e ws z < nodesOf n e ws z
+  pub some : turnsOf n e ws z < nodeCountOf n e ws z
 
 -- the first `count` unfinished zones are open
 pub record Live (n e count : ℕ) (ws : List ℕ) : Type 0 where
@@ -80,20 +80,20 @@ pub record TakenOut (p count live : ℕ) (ws ws′ : List ℕ) : Type 0 where
 
 -- no node of zone z had its turn; a zone with nodes joins the unfinished ones
 pub record StartsZone (n e z live r : ℕ) (ws ws′ : List ℕ) : Type 0 where
-  pub words : ws′ ≡ (if ltb 0 (nodesOf n e ws z) then set (set ws (turnsAt n e + z) 0) (liveAt n e + live) z else set ws (turnsAt n e + z) 0)
-  pub count : r ≡ (if ltb 0 (nodesOf n e ws z) then live + 1 else live)
+  pub words : ws′ ≡ (if ltb 0 (nodeCountOf n e ws z) then set (set ws (turnsAt n e + z) 0) (liveAt n e + live) z else set ws (turnsAt n e + z) 0)
+  pub count : r ≡ (if ltb 0 (nodeCountOf n e ws z) then live + 1 else live)
 
 -- the same of the first z zones
 pub record Started (n e z count : ℕ) (ws ws′ : List ℕ) : Type 0 where
   pub beside : Beside n e ws ws′
   pub few : count ≤ z
   pub none : (j : ℕ) → j < z → turnsOf n e ws′ j ≡ 0
-  pub live : liveIn (liveAt n e) count ws′ ≡ keep (λ j. ltb 0 (nodesOf n e ws j)) (upFrom 0 z)
+  pub live : liveIn (liveAt n e) count ws′ ≡ keep (λ j. ltb 0 (nodeCountOf n e ws j)) (upFrom 0 z)
 
 -- the zone z, at the place p of `count` unfinished ones, stays where it has a node left, and is taken out else; `left` are unfinished then
-pub record Settles (n e z p count left : ℕ) (ws ws′ : List ℕ) : Type 0 where
+pub record SettlesZone (n e z p count left : ℕ) (ws ws′ : List ℕ) : Type 0 where
   pub beside : Beside n e ws ws′
   pub next : nextIn n e n ws′ ≡ nextIn n e n ws
   pub less : left ≤ count
   pub live : liveIn (liveAt n e) left ws′
-      ≡ (if ltb (turnsOf n e ws z) (nodesOf n e ws z) then liveIn (liveAt n e) count ws else without p (liveIn (liveAt n e) count ws))
+      ≡ (if ltb (turnsOf n e ws z) (nodeCountOf n e ws z) then liveIn (liveAt n e) count ws else without p (liveIn (liveAt n e) count ws))

@@ -3,13 +3,13 @@ ghost use mathlib.Core.Path.{_≡_};
 ghost use Prim.Native.Nat.{_+_, _≤_, _<_};
 ghost use lib.ListN.{length, getD, set};
 ghost use Rattle.scratch.specs.Layout.{Sizes, turnsAt, liveAt};
-ghost use Rattle.finish_zones.specs.Zones.{nodesOf, zoneNodes, turnsOf, Laid, AllLaid, ZoneOpen, Live, TakenOut, StartsZone, Started, Settles};
+ghost use Rattle.finish_zones.specs.Zones.{nodeCountOf, zoneNodes, turnsOf, Laid, AllLaid, ZoneOpen, Live, TakenOut, StartsZone, Started, SettlesZone};
 
 // The number of nodes of a zone.
 pub fn size_of(zone: usize, n: usize, e: usize, words: &[u32]) -> usize
     requires { ⌜ Sizes n e ⌝ }
     requires { ⌜ Laid n e (now words) zone ⌝ }
-    ensures { λ r. ⌜ r ≡ nodesOf n e (now (words .entry)) zone ⌝ }
+    ensures { λ r. ⌜ r ≡ nodeCountOf n e (now (words .entry)) zone ⌝ }
 {
     let first = scratch::starts_at(n, e) + zone;
     let from = words[first] as usize;
@@ -74,7 +74,7 @@ pub fn settle(zone: usize, p: usize, count: usize, n: usize, e: usize, words: &m
     requires { ⌜ Sizes n e ⌝ }
     requires { ⌜ Laid n e (now words) zone ⌝ }
     requires { ⌜ (p < count) × (count ≤ n) ⌝ }
-    ensures { λ r. ⌜ Settles n e zone p count r (now (words .entry)) (now (words .exit)) ⌝ }
+    ensures { λ r. ⌜ SettlesZone n e zone p count r (now (words .entry)) (now (words .exit)) ⌝ }
 {
     if turns_of(zone, n, e, words) < size_of(zone, n, e, words) {
         return count;

@@ -18,7 +18,7 @@ use Rattle.turfs.proofs.Tables.{amounts-of, tables-of}
 use Rattle.rules_mixture.specs.Mixture.{amountFits}
 use Rattle.rules_events.specs.declared.Event.{Event}
 use Rattle.rules_lent.specs.Lent.{Lent, Extra, wordsRoom, floatsRoom, firstFailed, refusal, after}
-use Rattle.lent_room.specs.Areas.{cleared, Roomy}
+use Rattle.lent_room.specs.Areas.{clearedFirst, Roomy}
 use Rattle.lent.specs.Given.{Given}
 
 -- ---- the number of a list of requirements
@@ -131,10 +131,10 @@ module _ (b : Board) (l : Lent) (room : ℕ) where
   scratch-of g = record { small = small-of b (g .accepted .tables .sizes .small); words = rw (words-alone b) (g .words); floats = rw (floats-alone b) (g .floats) }
 
   -- what it leaves is the scratch after a call that was done
-  pub words-after : (gas : List Float) (es : List Event) → cleared 0 (wordsRoom (bare b)) (l .words) ≡ after b l gas es .words
+  pub words-after : (gas : List Float) (es : List Event) → clearedFirst 0 (wordsRoom (bare b)) (l .words) ≡ after b l gas es .words
   unfolding after wordsRoom
   words-after gas es = refl
 
-  pub floats-after : (gas : List Float) (es : List Event) → cleared 0f (floatsRoom (bare b)) (l .floats) ≡ after b l gas es .floats
+  pub floats-after : (gas : List Float) (es : List Event) → clearedFirst 0f (floatsRoom (bare b)) (l .floats) ≡ after b l gas es .floats
   unfolding after floatsRoom
   floats-after gas es = refl

@@ -13,8 +13,8 @@ abbrev pub roomOf : Board → Room → ℕ
 roomOf b room = room .«per_link» * linkCount b + room .«per_turf» * turfCount b
 
 -- the first n cells hold z, the rest is as it was
-abbrev pub cleared : {A : Type 0} → A → ℕ → List A → List A
-cleared z n xs = replicate n z ++ drop n xs
+abbrev pub clearedFirst : {A : Type 0} → A → ℕ → List A → List A
+clearedFirst z n xs = replicate n z ++ drop n xs
 
 -- the scratch is long enough for a board within its limits
 pub record Roomy (b : Board) (ws : List ℕ) (fs : List Float) : Type 0 where

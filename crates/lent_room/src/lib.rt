@@ -11,7 +11,7 @@ ghost use Rattle.basics.specs.Loops.{allOf};
 ghost use Rattle.basics.specs.Floats.{0f};
 ghost use Rattle.turfs.specs.Tables.{boardOf, boardAt, Small};
 ghost use Rattle.rules_lent.specs.Lent.{wordsRoom, floatsRoom};
-ghost use Rattle.lent_room.specs.Areas.{roomOf, cleared, Roomy};
+ghost use Rattle.lent_room.specs.Areas.{roomOf, clearedFirst, Roomy};
 
 // The words of the scratch that a call may use.
 pub fn words_room(rows: &Rows, marks: &Marks) -> usize
@@ -61,8 +61,8 @@ pub fn areas_fit(
 // Clears the scratch that a call may have used, and leaves the rest.
 pub fn clear_scratch(rows: &Rows, marks: &Marks, words: &mut [u32], floats: &mut [f32])
     requires { ⌜ Roomy (boardAt rows marks 0) (now words) (now floats) ⌝ }
-    ensures { λ _. ⌜ now (words .exit) ≡ cleared 0 (wordsRoom (boardAt (rows .entry) (marks .entry) 0)) (now (words .entry)) ⌝ }
-    ensures { λ _. ⌜ now (floats .exit) ≡ cleared 0f (floatsRoom (boardAt (rows .entry) (marks .entry) 0)) (now (floats .entry)) ⌝ }
+    ensures { λ _. ⌜ now (words .exit) ≡ clearedFirst 0 (wordsRoom (boardAt (rows .entry) (marks .entry) 0)) (now (words .entry)) ⌝ }
+    ensures { λ _. ⌜ now (floats .exit) ≡ clearedFirst 0f (floatsRoom (boardAt (rows .entry) (marks .entry) 0)) (now (floats .entry)) ⌝ }
 {
     basics::clear(words, words_room(rows, marks));
     basics::clear_floats(floats, floats_room(rows));

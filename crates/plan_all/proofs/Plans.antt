@@ -16,7 +16,7 @@ use Rattle.basics.proofs.Lists.{upFrom-length, upFrom-below, map-up}
 use Rattle.basics.proofs.Regions.{cut-part, cut-clear, cut-rest}
 use Rattle.rules_board.specs.Board.{Board, turfCount, linkCount}
 use Rattle.rules_plan.specs.Plan.{Plan, planZone}
-use Rattle.scratch.specs.Layout.{planWords, planFloats, reverseAt, directionAt, fastAt, queueAt, foundAt, startsAt, nodesAt, liftedAt, molesAt}
+use Rattle.scratch.specs.Layout.{planWords, planFloats, reverseAt, directionAt, fastAt, queueAt, foundAt, startsAt, zoneNodesAt, liftedAt, molesAt}
 use Rattle.scratch.specs.View.{ownerIn, reverseIn}
 use Rattle.rules_finish.specs.Turns.{Zone, zoneAt}
 use Rattle.rules_equalize.specs.Equalize.{planAll}
@@ -87,7 +87,7 @@ blanked-at {n} w₁ w₂ f′ {i} {k} {q} h ei ek eq el c₁ c₂ c =
 
 -- ---- one zone
 
-pub zone-planned : {n e z s q m : ℕ} {w : List ℕ} {f : List Float} {a′ : Area} (b : Board) (gas : List Float) → s ≡ startsAt n e → z < n → ZoneReady n e z w f → q ≡ nodesAt n e → m ≡ molesAt n e + z
+pub zone-planned : {n e z s q m : ℕ} {w : List ℕ} {f : List Float} {a′ : Area} (b : Board) (gas : List Float) → s ≡ startsAt n e → z < n → ZoneReady n e z w f → q ≡ zoneNodesAt n e → m ≡ molesAt n e + z
     → Plans n e (λ o p. planZone b o z gas (nodesOf n e (planView n e (area w f)) (q + getD w (s + z) 0) (getD w (s + z + 1) 0 - getD w (s + z) 0)) (getD f m nan) p) (area w f) a′
     → Plans n e (λ o p. planZone b o z gas (zoneOf n e w f z .nodes) (zoneOf n e w f z .moles) p) (area w f) a′
 zone-planned {n} {e} {z} {w = w} {f} b gas es h t eq em d = record {

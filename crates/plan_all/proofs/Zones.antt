@@ -10,7 +10,7 @@ use Rattle.basics.specs.Regions.{region, base}
 use Rattle.basics.proofs.Regions.{cut-get, region-part, later-same}
 use Rattle.basics.proofs.Parts.{part-alike, take-in}
 use Rattle.index_set.specs.Line.{Below}
-use Rattle.scratch.specs.Layout.{wordSizes, planWords, floatSizes, planFloats, foundAt, startsAt, nodesAt, molesAt}
+use Rattle.scratch.specs.Layout.{wordSizes, planWords, floatSizes, planFloats, foundAt, startsAt, zoneNodesAt, molesAt}
 use Rattle.scratch.specs.View.{startsIn, nodesIn, molesIn}
 use Rattle.rules_finish.specs.Turns.{Zone}
 use Rattle.reverse_links.specs.Words.{Outside, But}
@@ -95,20 +95,20 @@ module _ (n e z : ℕ) (w : List ℕ) (f : List Float) (h : z < n) where
 
   -- the nodes as planning takes them
   pub nodes-are : nodesFrom n e w z ≤ nodesFrom n e w (z + 1) → nodesFrom n e w (z + 1) ≤ n + e
-      → nodesOf n e (planView n e (area w f)) (nodesAt n e + nodesFrom n e w z) (nodesFrom n e w (z + 1) - nodesFrom n e w z) ≡ zoneOf n e w f z .nodes
+      → nodesOf n e (planView n e (area w f)) (zoneNodesAt n e + nodesFrom n e w z) (nodesFrom n e w (z + 1) - nodesFrom n e w z) ≡ zoneOf n e w f z .nodes
   nodes-are up low =
       nodes-in (nodesFrom n e w z) (nodesFrom n e w (z + 1) - nodesFrom n e w z) (omega (arith, up, low))
     where
       nodes-in : (s c : ℕ) → s + c ≤ n + e
-          → take c (drop (nodesAt n e + s - foundAt n e) (planView n e (area w f) .restW)) ≡ take c (drop s (nodesIn n e w))
+          → take c (drop (zoneNodesAt n e + s - foundAt n e) (planView n e (area w f) .restW)) ≡ take c (drop s (nodesIn n e w))
       nodes-in s c l =
-          let k : foundAt n e + (nodesAt n e + s - foundAt n e) ≡ nodesAt n e + s = omega arith in
-          let at : base (wordSizes n e) 11 ≡ nodesAt n e = omega arith in
-          ap (λ (r : List ℕ). take c (drop (nodesAt n e + s - foundAt n e) r)) (rest-is n e (area w f))
-          ∙ ap (take c) (drop-drop (nodesAt n e + s - foundAt n e) (foundAt n e) w)
+          let k : foundAt n e + (zoneNodesAt n e + s - foundAt n e) ≡ zoneNodesAt n e + s = omega arith in
+          let at : base (wordSizes n e) 11 ≡ zoneNodesAt n e = omega arith in
+          ap (λ (r : List ℕ). take c (drop (zoneNodesAt n e + s - foundAt n e) r)) (rest-is n e (area w f))
+          ∙ ap (take c) (drop-drop (zoneNodesAt n e + s - foundAt n e) (foundAt n e) w)
           ∙ ap (λ (m : ℕ). take c (drop m w)) k
-          ∙ ap (take c) (sym (drop-drop s (nodesAt n e) w))
-          ∙ sym (take-in (drop (nodesAt n e) w) s c (n + e) l)
+          ∙ ap (take c) (sym (drop-drop s (zoneNodesAt n e) w))
+          ∙ sym (take-in (drop (zoneNodesAt n e) w) s c (n + e) l)
           ∙ ap (λ (m : ℕ). take c (drop s (take (n + e) (drop m w)))) (sym at)
           ∙ ap (λ (x : List ℕ). take c (drop s x)) (sym (region-part (wordSizes n e) w 11 (omega arith)))
 
@@ -126,11 +126,11 @@ module _ {n e z s : ℕ} {w : List ℕ} {f : List Float} (es : s ≡ startsAt n 
   pub from-to : (getD w (s + z) 0 < getD w (s + z + 1) 0) × ((getD w (s + z + 1) 0 ≤ n + e) × (getD w (s + z + 1) 0 ≤ getD w (s + z) 0 + n))
   from-to = (omega (arith, t .some, from-is, to-is), (omega (arith, t .within, to-is), omega (arith, t .few, from-is, to-is)))
 
-  module _ {q : ℕ} (eq : q ≡ nodesAt n e) where
+  module _ {q : ℕ} (eq : q ≡ zoneNodesAt n e) where
     pub nodes-handed : nodesOf n e (planView n e (area w f)) (q + getD w (s + z) 0) (getD w (s + z + 1) 0 - getD w (s + z) 0) ≡ zoneOf n e w f z .nodes
     nodes-handed =
         ap (λ (m : ℕ). nodesOf n e (planView n e (area w f)) (m + getD w (s + z) 0) (getD w (s + z + 1) 0 - getD w (s + z) 0)) eq
-        ∙ ap₂ (λ (x y : ℕ). nodesOf n e (planView n e (area w f)) (nodesAt n e + x) (y - x)) from-is to-is
+        ∙ ap₂ (λ (x y : ℕ). nodesOf n e (planView n e (area w f)) (zoneNodesAt n e + x) (y - x)) from-is to-is
         ∙ nodes-are n e z w f h (omega (arith, t .some)) (t .within)
 
     pub handed : PlanRoom n e w f → Nodes n e (q + getD w (s + z) 0) (getD w (s + z + 1) 0 - getD w (s + z) 0) (area w f)

@@ -63,12 +63,12 @@ abbrev pub startsAt : ℕ → ℕ → ℕ
 startsAt n e = e + e + n + n + n + n + n + n + n + n + n
 
 -- the nodes of all zones
-abbrev pub nodesAt : ℕ → ℕ → ℕ
-nodesAt n e = e + e + n + n + n + n + n + n + n + n + n + n + 1
+abbrev pub zoneNodesAt : ℕ → ℕ → ℕ
+zoneNodesAt n e = e + e + n + n + n + n + n + n + n + n + n + n + 1
 
 -- the zone that has each mixture
 abbrev pub marksAt : ℕ → ℕ → ℕ
-marksAt n e = nodesAt n e + n + e
+marksAt n e = zoneNodesAt n e + n + e
 
 -- ---- equalize: floats
 

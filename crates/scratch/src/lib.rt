@@ -1,7 +1,7 @@
 // The scratch that a call is lent: where each of its arrays stands, for n turfs and e links. The layout itself is in specs/.
 ghost use mathlib.Core.Path.{_≡_};
 ghost use Prim.Native.Nat.{_≤_};
-ghost use Rattle.scratch.specs.Layout.{Sizes, queueAt, placesAt, listAt, foundAt, turnsAt, liveAt, startsAt, nodesAt, marksAt, liftedAt, molesAt, reverseAt, directionAt, viaAt, deltaAt, amountAt, fastAt, spotsAt, orderAt, waysAt, targetsAt, sumsAt};
+ghost use Rattle.scratch.specs.Layout.{Sizes, queueAt, placesAt, listAt, foundAt, turnsAt, liveAt, startsAt, zoneNodesAt, marksAt, liftedAt, molesAt, reverseAt, directionAt, viaAt, deltaAt, amountAt, fastAt, spotsAt, orderAt, waysAt, targetsAt, sumsAt};
 
 // ---- equalize: words and floats by link, row or zone
 
@@ -64,7 +64,7 @@ pub fn starts_at(n: usize, e: usize) -> usize
 // The nodes of all zones.
 pub fn nodes_at(n: usize, e: usize) -> usize
     requires { ⌜ Sizes n e ⌝ }
-    ensures { λ r. ⌜ r ≡ nodesAt n e ⌝ }
+    ensures { λ r. ⌜ r ≡ zoneNodesAt n e ⌝ }
 {
     e + e + n + n + n + n + n + n + n + n + n + n + 1
 }

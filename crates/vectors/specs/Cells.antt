@@ -29,7 +29,7 @@ abbrev pub Follows : {A : Type 0} → List A → A → (ℕ → A) → Type 0
 Follows l d rule = (i : ℕ) → i < length l → getD l i d ≡ rule i
 
 -- what a case lends before its call; its numbers are there as bytes too
-pub record Filled (ns : List ℕ) (bs : List ℕ) (gs : List Float) (ws : List ℕ) (fs : List Float) (es : List ℕ) : Type 0 where
+pub record CaseFilled (ns : List ℕ) (bs : List ℕ) (gs : List Float) (ws : List ℕ) (fs : List Float) (es : List ℕ) : Type 0 where
   pub case : Case
   pub reads : Reads ns case
   pub bytes : Follows bs 0 (λ i. number ns i % 256)

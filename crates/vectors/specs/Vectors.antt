@@ -78,7 +78,7 @@ pub record MarksOf (ns : List ℕ) (bytes : List ℕ) (marks : Slices) : Type 0 
   pub immutable : table marks 3 ≡ section bytes (case .immutable)
 
 -- what equalize is asked
-pub record Asks (ns : List ℕ) (a : Asked) : Type 0 where
+pub record CaseAsks (ns : List ℕ) (a : Asked) : Type 0 where
   pub case : Case
   pub reads : Reads ns case
   pub gases : a .gases ≡ case .gases

@@ -10,9 +10,9 @@ use turfs::Rows;
 ghost use mathlib.Core.Path.{_≡_};
 ghost use Prim.Native.Nat.{_%_, _≤_, _<_};
 ghost use lib.Ieee.{nan};
-ghost use Rattle.vectors.specs.Vectors.{onward, number, section, VectorStands, Reads, Rooms, Asks, Walks, RowsOf, MarksOf, Expects};
+ghost use Rattle.vectors.specs.Vectors.{onward, number, section, VectorStands, Reads, Rooms, CaseAsks, Walks, RowsOf, MarksOf, Expects};
 ghost use Rattle.vectors.specs.Amounts.{nanPattern, amount, sameBits};
-ghost use Rattle.vectors.specs.Cells.{wordBefore, floatBefore, eventBefore, Follows, Filled, cellsAfter, eventAfter, tornVector};
+ghost use Rattle.vectors.specs.Cells.{wordBefore, floatBefore, eventBefore, Follows, CaseFilled, cellsAfter, eventAfter, tornVector};
 ghost use Rattle.vectors.specs.Cells.{sameAnswer, sameGas, sameEvents, sameWords, sameFloats, sameResults, met, noAnswer, CellsHeld};
 
 // A list's elements: the first one, and the place behind the last.
@@ -223,7 +223,7 @@ pub fn room_of(numbers: &[u32]) -> Room
 
 // What equalize is asked in a vector.
 pub fn asked_of(numbers: &[u32]) -> Asked
-    ensures { λ r. ⌜ Asks (now (numbers .entry)) r ⌝ }
+    ensures { λ r. ⌜ CaseAsks (now (numbers .entry)) r ⌝ }
 {
     let c = case_of(numbers);
     let hot = span_at(numbers, c.asked);
@@ -418,7 +418,7 @@ pub fn fill(
     floats: &mut [f32],
     events: &mut [u8],
 )
-    ensures { λ _. ⌜ Filled (now (numbers .entry)) (now (bytes .exit)) (now (gas .exit)) (now (words .exit)) (now (floats .exit)) (now (events .exit)) ⌝ }
+    ensures { λ _. ⌜ CaseFilled (now (numbers .entry)) (now (bytes .exit)) (now (gas .exit)) (now (words .exit)) (now (floats .exit)) (now (events .exit)) ⌝ }
 {
     let c = case_of(numbers);
     put_bytes(numbers, bytes);

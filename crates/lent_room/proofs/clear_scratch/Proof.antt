@@ -3,7 +3,7 @@ use Prim.Native.Nat.{ℕ}
 use mathlib.Core.Path.{_∙_, ap}
 use denote.Ref.{now}
 use Rattle.basics.specs.Floats.{0f}
-use Rattle.lent_room.specs.Areas.{cleared}
+use Rattle.lent_room.specs.Areas.{clearedFirst}
 use borrow.Author.Needs.{needs}
 use Rattle.rules_lent.specs.Lent.{floatsRoom}
 use Rattle.lent_room.proofs.clear_scratch.Statement.{statement}
@@ -39,8 +39,8 @@ unfolding floatsRoom
 returns c =
     let cleared-words = c .before .before .before .before .before .before .before in
     let entry = cleared-words .before .before .before .before .before in (
-      cleared-words .clear .ensures ∙ ap (λ (n : ℕ). cleared 0 n (now (entry .args .words))) (cleared-words .before .words-room .ensures),
-      c .before .before .clear-floats .ensures ∙ ap (λ (n : ℕ). cleared 0f n (now (entry .args .floats))) (c .before .before .before .floats-room .ensures),
+      cleared-words .clear .ensures ∙ ap (λ (n : ℕ). clearedFirst 0 n (now (entry .args .words))) (cleared-words .before .words-room .ensures),
+      c .before .before .clear-floats .ensures ∙ ap (λ (n : ℕ). clearedFirst 0f n (now (entry .args .floats))) (c .before .before .before .floats-room .ensures),
     )
 
 pub clear-scratch-spec : {M : Type 1} → statement M
