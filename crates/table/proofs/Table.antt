@@ -8,7 +8,7 @@ use Rattle.rules_board.specs.Board.{enabled, planetary, immutable, firelock, li
 use Rattle.rules_board.specs.Refuse.{pairwise, distinct, sizesFit, tablesFit, rowFits, linksFit}
 use Rattle.rules_board.specs.Draw.{startsFrom, allWays, draw, sharing, withGases}
 use Rattle.rules_mixture.specs.Mixture.{sum, scale, plus, ratio, remove, amounts, change, totalMix, total, moveAir, clearAir, amountFits}
-use Rattle.rules_events.specs.Events.{kindOf, fieldsOf, sound, wordsBytes, encode, encodeAll, sizeOf, decode, whole as wholeRecord, readAt, readNumbers}
+use Rattle.rules_events.specs.Events.{kindOf, fieldsOf, sound, wordsBytes, encode, encodeAll, sizeOf, decode, wholeAt, readAt, readNumbers}
 use Rattle.rules_events.specs.Lister.{digits, hex, line, badLine, listReading, listNext, listAll, listing}
 use Rattle.rules_lent.specs.Lent.{wordsRoom, floatsRoom, firstFailed, refusal, after}
 use Rattle.rules_lent.specs.Worked.{lend, left, unchanged}
@@ -35,7 +35,7 @@ unfolding rows documentRows misreadRows ruleRows refusalRows marks rooms writes 
     run times keep every allOf upFrom member first same finite finiteSignClear bits
     enabled planetary immutable firelock linksOf rowOf pairwise distinct sizesFit tablesFit rowFits linksFit startsFrom allWays draw sharing withGases
     sum scale plus ratio remove amounts change totalMix total moveAir clearAir amountFits
-    kindOf fieldsOf sound wordsBytes encode encodeAll sizeOf decode wholeRecord readAt readNumbers
+    kindOf fieldsOf sound wordsBytes encode encodeAll sizeOf decode wholeAt readAt readNumbers
     digits hex line badLine listReading listNext listAll listing
     wordsRoom floatsRoom firstFailed refusal after
     insert endFill reachLink expand pop popNext fill
