@@ -1,4 +1,4 @@
-// `equalize` as a whole call: refusals, filling, planning, finishing by turns, the answer. Its definition is `equalizeResult` of crate equalize.
+// `equalize` as a whole call: refusals, filling, planning, finishing by turns, the answer. Its definition is `equalizeResult` of crate rules_equalize.
 use fill_all::Filling;
 use lent_equalize::bit;
 use lent_room::Room;
