@@ -8,7 +8,7 @@ use lib.Seq.{sets}
 use lib.Ieee.{Float, nan}
 use Rattle.basics.specs.Loops.{run, upFrom}
 use Rattle.basics.specs.Regions.{cut}
-use Rattle.scratch.specs.Layout.{wordSizes, floatSizes, startsAt, marksAt, molesAt, Sizes}
+use Rattle.scratch.specs.Layout.{wordSizes, floatSizes, startsAt, molesAt, Sizes, floatsEnd, wordsEnd}
 use Rattle.scratch.specs.View.{ownerIn, queueIn, foundIn, startsIn}
 use Rattle.rules_board.specs.Board.{Board, turfCount, linkCount}
 use Rattle.turfs.specs.Tables.{source}
@@ -98,8 +98,8 @@ onFilled g v = record { filled = g (v .filled); around = v .around }
 -- the areas are long enough, the zones' nodes stand one after the other, and there are at most as many nodes as zones and owned links
 pub record Stored (n e : ℕ) (s : Filling) (w : List ℕ) (f : List Float) : Type 0 where
   pub sizes : Sizes n e
-  pub words : marksAt n e + n ≤ length w
-  pub floats : molesAt n e + n ≤ length f
+  pub words : wordsEnd n e ≤ length w
+  pub floats : floatsEnd n e ≤ length f
   pub zones : s .zones ≤ n
   pub first : getD (startsIn n e w) 0 0 ≡ 0
   pub last : getD (startsIn n e w) (s .zones) 0 ≡ s .nodes

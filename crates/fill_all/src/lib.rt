@@ -26,7 +26,7 @@ ghost use Rattle.rules_board.specs.Board.{turfCount, linkCount, end, linksOf};
 ghost use Rattle.turfs.specs.Tables.{boardAt, Accepted};
 ghost use Rattle.rules_mixture.specs.Mixture.{total};
 ghost use Rattle.rules_fill.specs.Fill.{isOver};
-ghost use Rattle.scratch.specs.Layout.{marksAt, Sizes};
+ghost use Rattle.scratch.specs.Layout.{Sizes, wordsEnd};
 ghost use Rattle.scratch.specs.View.{foundIn};
 ghost use Rattle.rules_equalize.specs.Equalize.{Ask, 10f, near, passedOver, hotId, fillAll};
 ghost use Rattle.fill_all.specs.Held.{asked, Stored, Fills, giveBack, GaveBack, Keeps, After, start, HotBegun, Cleared, FillsAll};
@@ -284,7 +284,7 @@ fn hot_id(
 // Nothing is found, owned or kept yet.
 fn begin(n: usize, e: usize, words: &mut [u32]) -> Filling
     requires { ⌜ Sizes n e ⌝ }
-    requires { ⌜ marksAt n e + n ≤ length (now words) ⌝ }
+    requires { ⌜ wordsEnd n e ≤ length (now words) ⌝ }
     ensures { λ r. ⌜ r ≡ start ⌝ }
     ensures { λ r. ⌜ Cleared n e (now (words .entry)) (now (words .exit)) ⌝ }
 {

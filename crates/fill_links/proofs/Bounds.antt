@@ -14,7 +14,7 @@ use Rattle.basics.specs.Loops.{snoc}
 use Rattle.basics.specs.Lists.{All, one, count}
 use Rattle.basics.proofs.Lists.{All-snoc, count-set, count-length}
 use Rattle.rules_fill.specs.Fill.{Reach, insert}
-use Rattle.fill_links.specs.Steps.{edgeTo, mark, push, askSpace, askPlanet, discover, reachMet}
+use Rattle.fill_links.specs.Steps.{edgeTo, markFound, push, askSpace, askPlanet, discover, reachMet}
 use Rattle.fill_links.specs.Held.{zeros, Bounds, Bounded}
 use Rattle.fill_links.specs.declared.Met.{Met}
 use Rattle.laws_fill.proofs.Owned.{insert-length}
@@ -59,7 +59,7 @@ module _ (m : Met) (k z id n e kept : ℕ) (r : Reach) {used : ℕ} {area : List
 
   pub bounds-met : getD (r .owner) k 0 ≡ 0 → {used′ : ℕ} {area′ : List ℕ} → used′ ≤ used + 16 * one (eqb (getD (r .found) (m .row) 0) 0) → length area′ ≡ length area
       → Bounded n e z kept (reachMet m k z id r) used′ area′
-  unfolding reachMet edgeTo mark push discover askSpace askPlanet
+  unfolding reachMet edgeTo markFound push discover askSpace askPlanet
   bounds-met free {used′} {area′} u la = go (eqb (getD (r .found) (m .row) 0) 0) refl u (r .ignored) (m .on)
     where
       a : ℕ
@@ -118,7 +118,7 @@ module _ (m : Met) (k z id n e kept : ℕ) (r : Reach) {used : ℕ} {area : List
 
 -- another link keeps its owner
 pub met-beside : (m : Met) (k z id : ℕ) (r : Reach) (j : ℕ) → j ≢ k → getD (reachMet m k z id r .owner) j 0 ≡ getD (r .owner) j 0
-unfolding reachMet edgeTo mark push discover askSpace askPlanet
+unfolding reachMet edgeTo markFound push discover askSpace askPlanet
 met-beside m k z id r j ne = go (eqb (getD (r .found) (m .row) 0) 0) (r .ignored) (m .on)
   where
     own : Bool → Reach → List ℕ

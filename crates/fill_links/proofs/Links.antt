@@ -20,7 +20,7 @@ use Rattle.rules_events.specs.declared.Event.{Event}
 use Rattle.rules_events.specs.declared.Event.the-variants.{DepressurizeWanted, PlanetWanted}
 use Rattle.events.proofs.Areas.{wrote-length}
 use Rattle.rules_fill.specs.Fill.{Reach, insert, reachLink}
-use Rattle.fill_links.specs.Steps.{metOver, metAt, edgeTo, mark, push, askSpace, askPlanet, discover, reachMet}
+use Rattle.fill_links.specs.Steps.{metOver, metAt, edgeTo, markFound, push, askSpace, askPlanet, discover, reachMet}
 use Rattle.fill_links.specs.Held.{ReachView, reachView, onReach, ReachFits, Bounded, FillDoes, Moves, Discovers, Reaches}
 use Rattle.fill_links.specs.Asked.{TablesFit, Walking, EdgeFits, PushFits, LinkFits}
 use Rattle.fill_links.specs.declared.Reached.{Reached}
@@ -60,11 +60,11 @@ does-owner n e kept f s s′ w w′ d k = ap (λ (v : ReachView). getD (v .reach
 
 -- ---- one link
 
-met-old : (m : Met) (k z id : ℕ) (r : Reach) → eqb (getD (r .found) (m .row) 0) 0 ≡ false → mark (m .row) (edgeTo m k z r) ≡ reachMet m k z id r
+met-old : (m : Met) (k z id : ℕ) (r : Reach) → eqb (getD (r .found) (m .row) 0) 0 ≡ false → markFound (m .row) (edgeTo m k z r) ≡ reachMet m k z id r
 unfolding reachMet
 met-old m k z id r t = simp t
 
-met-new : (m : Met) (k z id : ℕ) (r : Reach) → eqb (getD (r .found) (m .row) 0) 0 ≡ true → discover m id (mark (m .row) (edgeTo m k z r)) ≡ reachMet m k z id r
+met-new : (m : Met) (k z id : ℕ) (r : Reach) → eqb (getD (r .found) (m .row) 0) 0 ≡ true → discover m id (markFound (m .row) (edgeTo m k z r)) ≡ reachMet m k z id r
 unfolding reachMet
 met-new m k z id r t = simp t
 
@@ -100,7 +100,7 @@ module _ (m : Met) (k id : ℕ) {n e : ℕ} {slot : Slot} {s : Reached} {w area 
   }
 
   module _ {t : Reached} {w₁ : List ℕ} (d : Moves n e kept (edgeTo m k z) s t w w₁) (at : ℕ) (ea : at ≡ foundAt n e + m .row) where
-    both : Moves n e kept (λ r. mark (m .row) (edgeTo m k z r)) s t w (set w₁ at 1)
+    both : Moves n e kept (λ r. markFound (m .row) (edgeTo m k z r)) s t w (set w₁ at 1)
     both = moves-then d (marked-more (m .row) t kept n e w₁ (d .fit) hm at ea)
 
     was : (es : List Event) → getD w₁ at 0 ≡ getD (reachView n e kept s w es .reach .found) (m .row) 0
@@ -126,7 +126,7 @@ module _ (m : Met) (k id : ℕ) {n e : ℕ} {slot : Slot} {s : Reached} {w area 
       new es = sym (was es) ∙ zero-at
 
       same-queue : length (reachView n e kept t (set w₁ at 1) [] .reach .queue) ≡ length (reachView n e kept s w [] .reach .queue)
-      unfolding mark edgeTo
+      unfolding markFound edgeTo
       same-queue = ap (λ (v : ReachView). length (v .reach .queue)) (both .same [])
 
       pub discover-asks : PushFits n e slot m t (set w₁ at 1) × (t .used + 16 ≤ length area)
@@ -175,7 +175,7 @@ module _ (b : Board) (z r k : ℕ) where
 
   -- the definition's link is the code's
   link-met : (s : Reach) → reachMet (metAt b k) k z (idOf b r) s ≡ reachLink b z r k s
-  unfolding reachLink reachMet metAt edgeTo mark push askSpace askPlanet discover
+  unfolding reachLink reachMet metAt edgeTo markFound push askSpace askPlanet discover
   link-met s = go (eqb (getD (s .found) a 0) 0) (s .ignored)
     where
       on : Bool

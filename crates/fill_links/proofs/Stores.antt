@@ -19,7 +19,7 @@ use Rattle.scratch.specs.Layout.{wordSizes, queueAt, placesAt, foundAt, zoneNod
 use Rattle.scratch.specs.View.{ownerIn, queueIn, foundIn, nodesIn}
 use Rattle.rules_events.specs.declared.Event.{Event}
 use Rattle.rules_fill.specs.Fill.{Reach, insert}
-use Rattle.fill_links.specs.Steps.{edgeTo, mark, push}
+use Rattle.fill_links.specs.Steps.{edgeTo, markFound, push}
 use Rattle.fill_links.specs.Held.{ReachView, reachViewIn, reachView, onReach, ReachFits, Moves}
 use Rattle.fill_links.specs.declared.Reached.{Reached}
 use Rattle.fill_links.specs.declared.Met.{Met}
@@ -300,8 +300,8 @@ module _ (m : Met) (s : Reached) (kept n e : ℕ) (w : List ℕ) (h : ReachFits 
 -- ---- a mark
 
 module _ (a : ℕ) (s : Reached) (kept n e : ℕ) (w : List ℕ) (h : ReachFits n e kept s w) (ha : a < n) where
-  pub marked-more : (at : ℕ) → at ≡ foundAt n e + a → Moves n e kept (mark a) s s w (set w at 1)
-  unfolding reachView mark
+  pub marked-more : (at : ℕ) → at ≡ foundAt n e + a → Moves n e kept (markFound a) s s w (set w at 1)
+  unfolding reachView markFound
   marked-more at ea = record {
     fit = record {
       sizes = h .sizes;

@@ -5,6 +5,7 @@ use mathlib.Core.List.{List, []}
 use lib.ListN.{length, getD}
 use Rattle.rules_board.specs.Board.{Board, turfCount, linkCount, mixtureCount, mixOf, end}
 use Rattle.turfs.specs.Tables.{board, Parts}
+use Rattle.scratch.specs.Layout.{mostNodes}
 use Rattle.fill_links.specs.Held.{reachView, ReachFits, Bounded}
 use Rattle.fill_links.specs.declared.Reached.{Reached}
 use Rattle.fill_links.specs.declared.Slot.{Slot}
@@ -47,7 +48,7 @@ pub record EdgeFits (n e : ℕ) (slot : Slot) (m : Met) (k : ℕ) (s : Reached) 
   pub link : k < e
   pub row : m .row < n
   pub zone : slot .z < n
-  pub room : slot .kept + s .nodes < n + e
+  pub room : slot .kept + s .nodes < mostNodes n e
 
 -- there is room for the neighbour m in the queue
 pub record PushFits (n e : ℕ) (slot : Slot) (m : Met) (s : Reached) (w : List ℕ) : Type 0 where

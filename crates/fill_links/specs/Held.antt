@@ -8,7 +8,7 @@ use lib.ListN.{length, getD, take, drop}
 use Rattle.basics.specs.Regions.{cut}
 use Rattle.basics.specs.Lists.{All, count}
 use Rattle.index_set.specs.Line.{HoldsSet}
-use Rattle.scratch.specs.Layout.{wordSizes, placesAt, zoneNodesAt, marksAt, Sizes}
+use Rattle.scratch.specs.Layout.{wordSizes, placesAt, zoneNodesAt, Sizes, mostNodes, wordsEnd}
 use Rattle.rules_events.specs.Events.{encodeAll}
 use Rattle.events.specs.Area.{Wrote}
 use Rattle.rules_events.specs.declared.Event.{Event}
@@ -81,8 +81,8 @@ pub record FillDoes {S R : Type 0} (f : S → R) (v : List Event → S) (v′ : 
 -- the words are long enough, and a node's place leads to it
 pub record ReachFits (n e kept : ℕ) (s : Reached) (w : List ℕ) : Type 0 where
   pub sizes : Sizes n e
-  pub words : marksAt n e + n ≤ length w
-  pub nodes : kept + s .nodes ≤ n + e
+  pub words : wordsEnd n e ≤ length w
+  pub nodes : kept + s .nodes ≤ mostNodes n e
   pub queue : s .queued ≤ n
   pub line : HoldsSet n (s .nodes) (zoneNodesAt n e + kept) (placesAt n e) w
 

@@ -35,8 +35,8 @@ edgeTo m k z s = record {
 }
 
 -- `found_turfs.insert`
-unfoldable pub mark : ℕ → Reach → Reach
-mark a s = record { found = set (s .found) a 1; queue = s .queue; nodes = s .nodes; owner = s .owner; ignored = s .ignored; events = s .events }
+unfoldable pub markFound : ℕ → Reach → Reach
+markFound a s = record { found = set (s .found) a 1; queue = s .queue; nodes = s .nodes; owner = s .owner; ignored = s .ignored; events = s .events }
 
 -- `border_turfs.push_back` of an enabled neighbour
 unfoldable pub push : Met → Reach → Reach
@@ -80,5 +80,5 @@ discover m id s =
 -- `reachLink` of the turf with this id, over the link k to the neighbour m
 unfoldable pub reachMet : Met → ℕ → ℕ → ℕ → Reach → Reach
 reachMet m k z id s =
-    let t = mark (m .row) (edgeTo m k z s) in
+    let t = markFound (m .row) (edgeTo m k z s) in
     if eqb (getD (s .found) (m .row) 0) 0 then discover m id t else t

@@ -19,7 +19,7 @@ use Rattle.rules_board.specs.Board.{Board, turfCount, linkCount}
 use Rattle.turfs.specs.Tables.{Accepted}
 use Rattle.rules_events.specs.declared.Event.{Event}
 use Rattle.rules_fill.specs.Fill.{Reach, Fill, isOn, popNext, fill}
-use Rattle.fill_links.specs.Steps.{mark, push}
+use Rattle.fill_links.specs.Steps.{markFound, push}
 use Rattle.fill_links.specs.Held.{reachView, ReachFits, Bounds, Bounded, FillDoes, Moves, zeros}
 use Rattle.rules_fill.specs.declared.Going.{Going}
 use Rattle.rules_fill.specs.declared.Going.the-variants.{On, Broken, Over}
@@ -63,10 +63,10 @@ module _ (row used tests kept n e : ℕ) (w : List ℕ) (sz : Sizes n e) (hr : r
     start-room = (simp length-set (omega arith), (simp length-set (omega arith), (simp length-set (omega arith), omega arith)))
 
     pub started : (w′ : List ℕ) → w′ ≡ set (set w₂ (na + kept + 0) row) (pa + row) 0 → ZoneStarts n e kept used (λ found owner es. startFill row found owner es tests) first w w′
-    unfolding reachView mark push member
+    unfolding reachView markFound push member
     started w′ ew =
         let m : Met = record { row = row; on = true; space = false; planet = false } in
-        let d₁ : Moves n e kept (mark row) (none used) (none used) w w₁ = marked-more row (none used) kept n e w none-fit hr (fa + row) (omega arith) in
+        let d₁ : Moves n e kept (markFound row) (none used) (none used) w w₁ = marked-more row (none used) kept n e w none-fit hr (fa + row) (omega arith) in
         let d₂ : Moves n e kept (push m) (none used) (record { queued = 0 + 1; nodes = 0; ignored = false; used = used }) w₁ w₂ =
         push-more m (none used) kept n e w₁ (d₁ .fit) refl (omega arith) qa eq w₂ (ap (λ (i : ℕ). set w₁ i row) (sym (add-zero qa))) in
         let d₃ = join-more (d₂ .fit) row hr (omega arith) refl in

@@ -4,7 +4,7 @@ use mathlib.Core.Path.{_≡_}
 use mathlib.Core.List.{List, []}
 use mathlib.Core.Bool.{false}
 use lib.ListN.{length, getD}
-use Rattle.scratch.specs.Layout.{queueAt, marksAt, Sizes}
+use Rattle.scratch.specs.Layout.{queueAt, Sizes, mostNodes, wordsEnd}
 use Rattle.rules_board.specs.Board.{Board, turfCount, linkCount}
 use Rattle.turfs.specs.Tables.{source}
 use Rattle.rules_events.specs.declared.Event.{Event}
@@ -79,8 +79,8 @@ pub record Begins (n e z kept used : ℕ) (f : List ℕ → List ℕ → List Ev
 pub record StartFits (n e kept r : ℕ) (w : List ℕ) : Type 0 where
   pub sizes : Sizes n e
   pub row : r < n
-  pub room : kept < n + e
-  pub words : marksAt n e + n ≤ length w
+  pub room : kept < mostNodes n e
+  pub words : wordsEnd n e ≤ length w
 
 -- a turf to expand, at the row r, after a fill that has come to t
 pub record ExpandFits (b : Board) (slot : Slot) (r : ℕ) (t : Flood) (w area : List ℕ) : Type 0 where
@@ -101,7 +101,7 @@ pub record PopFits (b : Board) (slot : Slot) (allowance : ℕ) (t : Flood) (w ar
 pub record ZoneFits (b : Board) (z kept used r : ℕ) (w area : List ℕ) : Type 0 where
   pub row : r < turfCount b
   pub zone : z < turfCount b
-  pub words : marksAt (turfCount b) (linkCount b) + turfCount b ≤ length w
+  pub words : wordsEnd (turfCount b) (linkCount b) ≤ length w
   pub new : getD (reachView (turfCount b) (linkCount b) kept (none used) w [] .reach .found) r 0 ≡ 0
   pub unowned : (k : ℕ) → getD (reachView (turfCount b) (linkCount b) kept (none used) w [] .reach .found) (source (b .starts) k) 0 ≡ 0
       → getD (reachView (turfCount b) (linkCount b) kept (none used) w [] .reach .owner) k 0 ≡ 0

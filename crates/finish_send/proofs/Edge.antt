@@ -2,7 +2,7 @@
 use mathlib.Core.Path.{_≡_, refl, ap, ap₂, _∙_, sym, subst}
 use mathlib.Core.List.{List}
 use mathlib.Core.Bool.{Bool, true, false, not, cond}
-use Prim.Native.Nat.{ℕ, _+_, _-_, _≤_, _<_}
+use Prim.Native.Nat.{ℕ, _+_, _-_, _*_, _≤_, _<_}
 use native.Mathlib.Omega.{arith}
 use native.Mathlib.Decide.{ℕ-discrete}
 use lib.Dec.{T, eqb}
@@ -15,15 +15,14 @@ use Rattle.basics.specs.declared.Spot.{Spot}
 use Rattle.basics.specs.declared.Spot.the-variants.{At, Nowhere}
 use Rattle.basics.specs.Lists.{Found}
 use Rattle.rules_board.specs.Board.{Board, mixOf}
-use Rattle.rules_mixture.specs.Mixture.{moveAir}
+use Rattle.rules_mixture.specs.Mixture.{moveAir, total, totalMix, amounts, sum}
 use Rattle.rules_events.specs.Events.{kindOf, encode, sizeOf}
 use Rattle.rules_events.specs.declared.Event.the-variants.{Pressure}
 use Rattle.events.proofs.Sizes.{encode-size}
 use Rattle.plan_state.specs.Steps.{ownedBy, backLink}
 use Rattle.plan_state.proofs.Weights.{found-more}
 use Rattle.rules_finish.specs.Lifted.{above}
-use Rattle.finish_send.specs.Areas.{FinishAreas}
-use Rattle.finish_send.specs.Sending.{Next, saveAt, zeroAt, shared, Sends}
+use Rattle.finish_send.specs.Sending.{Next, liftAt, zeroAt, shared}
 
 -- the reverse of a link is one of the links
 pub back-below : (e k z : ℕ) (w : List ℕ) → k < e → getD w (e + k) 0 ≤ e → Found (λ j. j < e) (backLink (take e (drop e w)) (take e w) z k)
@@ -51,6 +50,11 @@ module _ (b : Board) (r a : ℕ) (x : Float) (gas : List Float) where
   pub share-moved : (gas′ : List Float) → (mixOf b r ≡ mixOf b a → ⊥) → gas′ ≡ moveAir b (mixOf b r) (mixOf b a) x gas → gas′ ≡ shared b r a x gas
   share-moved gas′ ne e = e ∙ sym (rw (ne-eqb (mixOf b r) (mixOf b a) ne))
 
+-- the total of a turf is that of its mixture, on any board of as many gases
+pub has-total : (b c : Board) (r : ℕ) (gas : List Float) (x : Float) → c .gases ≡ b .gases → x ≡ total b gas r → x ≡ totalMix c gas (mixOf b r)
+unfolding total totalMix amounts
+has-total b c r gas x e q = q ∙ ap (λ (g : ℕ). sum (take g (drop (mixOf b r * g) gas))) (sym e)
+
 -- an amount above 0 is no NaN
 pub has-bits : (x : Float) → above x ≡ true → T (not (isNan x))
 unfolding isNan lt ofBits
@@ -63,8 +67,12 @@ store-length : (t : Bool) (f : List Float) (i : ℕ) (x : Float) → length (con
 store-length true f i x = length-set f i x
 store-length false f i x = refl
 
-pub save-length : (words : List ℕ) (z up k : ℕ) (f : List Float) → length (saveAt words z up k f) ≡ length f
-save-length words z up k f = store-length (eqb (getD words k 0) (z + 1)) f (up + k) (getD f k nan)
+pub lift-length : (words : List ℕ) (z up k : ℕ) (f : List Float) → length (liftAt words z up k f) ≡ length f
+lift-length words z up k f = go (eqb (getD words k 0) (z + 1))
+  where
+    go : (t : Bool) → length (cond t (set (set f (up + k) (getD f k nan)) k 0f) f) ≡ length f
+    go true = length-set (set f (up + k) (getD f k nan)) k 0f ∙ length-set f (up + k) (getD f k nan)
+    go false = refl
 
 pub zero-length : (words : List ℕ) (z k : ℕ) (f : List Float) → length (zeroAt words z k f) ≡ length f
 zero-length words z k f = store-length (eqb (getD words k 0) (z + 1)) f k 0f
@@ -87,7 +95,3 @@ next-none p k to i l h h′ n = record { low = l; high = omega arith; none = λ 
 pub pressure-size : (z : ℕ) (x : Float) (i j : ℕ) → length (encode (Pressure z x i j)) ≡ 20
 unfolding sizeOf kindOf
 pressure-size z x i j = encode-size (Pressure z x i j)
-
--- the place of the lifted weights, by another name
-pub sends-at : {b : Board} {row k z i j : ℕ} {words : List ℕ} {a a′ : FinishAreas} → i ≡ j → Sends b row k z i words a a′ → Sends b row k z j words a a′
-sends-at {b = b} {row = row} {k = k} {z = z} {words = words} {a = a} {a′ = a′} e s = subst (λ (x : ℕ). Sends b row k z x words a a′) e s

@@ -27,7 +27,7 @@ use Rattle.rules_finish.specs.Lifted.{above, pending, Held, sendHeld, giversHel
 use Rattle.laws_finish.proofs.Weights.{alter-less}
 use Rattle.scratch.specs.View.{ownerIn, reverseIn}
 use Rattle.finish_send.specs.Areas.{FinishAreas, liftedFrom, weightOn, liftedOn, Shows, FinishFits, Kept}
-use Rattle.finish_send.specs.Sending.{Counted, isMarked, Next, SendFits, Sends, pairAs, toSend, Going, Progress, SentTo}
+use Rattle.finish_send.specs.Sending.{isMarked, Next, SendFits, Sends, pairAs, toSend, Going, Progress, SentTo}
 use Rattle.finish_send.proofs.Ranges.{run-parts, run-last, run-none, run-idle}
 use Rattle.finish_send.proofs.Shown.{owner-at, reverse-at, lifted-at, kept-none, kept-then, sent-kept, sent-lifted, sent-weight, sent-used, sent-shows}
 
@@ -150,27 +150,28 @@ module _ (b : Board) (words : List ℕ) (stop : Bool) (z r : ℕ) where
       -- a link that has something to send
       pub made-send : (k : ℕ) (a′ a″ : FinishAreas) → Made k a′ → FinishFits b words (a .gas) (a .floats) → r < turfCount b → InRow (b .starts) r k → k < to → P (a′ .floats) k ≡ true
           → stop && lt (total b (a′ .gas) r) (getD (a′ .floats) (liftedFrom b + k) nan) ≡ false
-          → Sends b r k z (liftedFrom b) words a′ a″
+          → Sends b r k z (getD (a′ .floats) (liftedFrom b + k) nan) words a′ a″
           → Made (k + 1) a″
       made-send k a′ a″ m ready row i l t enough s =
           let below : k < linkCount b = omega arith in
+          let x = getD (a′ .floats) (liftedFrom b + k) nan in
           let ready′ = ready-kept ready (m .kept) in
-          let lifted = sent-lifted b words z r k a′ a″ ready′ row i below (liftedFrom b) s in
+          let lifted = sent-lifted b words z r k a′ a″ ready′ row i below x s in
           record {
-            kept = kept-then (m .kept) (sent-kept b words z r k a′ a″ ready′ row i below (liftedFrom b) s);
+            kept = kept-then (m .kept) (sent-kept b words z r k a′ a″ ready′ row i below x s);
             low = omega (arith, m .low);
             high = omega arith;
             lifted = lifted ∙ m .lifted;
-            fewer = le-trans (subst (λ (w : List Float). pending w ≤ pending (weightOn b (a′ .floats))) (sym (sent-weight b words z r k a′ a″ ready′ row i below (liftedFrom b) s)) (alter-less (backLink (reverseIn (linkCount b) words) owner z k) (weightOn b (a′ .floats)))) (m .fewer);
-            room = omega (arith, m .room, sent-used b words z r k a′ a″ ready′ row i below (liftedFrom b) s, to-send-same b words z (k + 1) to e (a′ .floats) (a″ .floats) lifted, to-send-here b words z k to e (a′ .floats) l t);
+            fewer = le-trans (subst (λ (w : List Float). pending w ≤ pending (weightOn b (a′ .floats))) (sym (sent-weight b words z r k a′ a″ ready′ row i below x s)) (alter-less (backLink (reverseIn (linkCount b) words) owner z k) (weightOn b (a′ .floats)))) (m .fewer);
+            room = omega (arith, m .room, sent-used b words z r k a′ a″ ready′ row i below x s, to-send-same b words z (k + 1) to e (a′ .floats) (a″ .floats) lifted, to-send-here b words z k to e (a′ .floats) l t);
             shows = λ f h v.
                 let F = pairAs b owner z stop f r in
                 let g = run F (upFrom from (k - from)) h in
                 let w : Shows b a′ g = m .shows f h v in
-                subst (Shows b a″) (sym (run-last F from k h (m .low) ∙ pair-sends f a′ g k w below t enough)) (sent-shows b words z r k a′ a″ ready′ row i below (liftedFrom b) s g w);
+                subst (Shows b a″) (sym (run-last F from k h (m .low) ∙ pair-sends f a′ g k w below t enough)) (sent-shows b words z r k a′ a″ ready′ row i below x s g w);
           }
 
-pub sent-size : {b : Board} {r k z up : ℕ} {words : List ℕ} {a a′ : FinishAreas} → Sends b r k z up words a a′ → length (a′ .floats) ≡ length (a .floats)
+pub sent-size : {b : Board} {r k z : ℕ} {x : Float} {words : List ℕ} {a a′ : FinishAreas} → Sends b r k z x words a a′ → length (a′ .floats) ≡ length (a .floats)
 sent-size {b = b} {k = k} {z = z} {words = words} {a = a} s = ap length (s .weights) ∙ alter-size (backLink (reverseIn (linkCount b) words) (ownerIn (linkCount b) words) z k) (λ y. 0f) (a .floats)
 
 -- ---- the loop, whose lifted weights start at `up`
@@ -197,12 +198,11 @@ module _ (b : Board) (words : List ℕ) (stop : Bool) (z r up from to : ℕ) (a 
   pub edge-room : (k : ℕ) (f : List Float) → length f ≡ length (a .floats) → k ≤ to → (z < 4096) × ((k ≤ to) × ((to ≤ length words) × (up + to ≤ length f)))
   edge-room k f q l = let e = within in (g .zone, (l, (omega (arith, g .ready .words), omega (arith, u, g .ready .floats, q))))
 
-  pub short-room : (a′ : FinishAreas) → Kept b a a′ → Counted b r (a′ .gas)
-  short-room a′ q = record {
-    mixed = omega (arith, g .ready .board .mixes, g .row);
-    small = omega (arith, g .ready .board .mixes, g .ready .board .turfs .1);
-    held = holds-of (a′ .gas) (mixtureCount b) (b .gases) (mixOf b r) (q .gas ∙ g .ready .board .fits) (g .ready .board .mixed r);
-  }
+  pub total-room : (a′ : FinishAreas) → Kept b a a′ → (r < length (b .mixtures)) × HoldsGas (a′ .gas) (b .gases) (mixOf b r)
+  total-room a′ q = (
+    omega (arith, g .ready .board .mixes, g .row),
+    holds-of (a′ .gas) (mixtureCount b) (b .gases) (mixOf b r) (q .gas ∙ g .ready .board .fits) (g .ready .board .mixed r),
+  )
 
   found : (i k : ℕ) (a′ : FinishAreas) → Progress b words stop z r from to i a a′ → Next (isMarked words (a′ .floats) z up true) i to k → Here k a′
   found i k a′ m n = record {
@@ -214,7 +214,7 @@ module _ (b : Board) (words : List ℕ) (stop : Bool) (z r up from to : ℕ) (a 
   loop-start k n = found from k a (made-none b words stop z r from to a (g .order)) n
 
   pub send-fits : (k : ℕ) (a′ : FinishAreas) → Here k a′ → k < to
-      → SendFits b r k z (liftedFrom b) words a′
+      → SendFits b r k z (getD (a′ .floats) (up + k) nan) words a′
   send-fits k a′ m l =
       let p = m .made in
       let rd = ready-kept (g .ready) (p .kept) in
@@ -230,7 +230,6 @@ module _ (b : Board) (words : List ℕ) (stop : Bool) (z r up from to : ℕ) (a 
         back = subst (λ (x : ℕ). x ≤ linkCount b) (sym (reverse-at (linkCount b) k words (omega (arith, e))))
             (reverse-within b (turfCount b) (rd .linked) (ownerIn (linkCount b) words) z (reverseIn (linkCount b) words) (rd .reverse) r k (g .row) (in-row k (p .low) l));
         weights = omega (arith, rd .floats);
-        lifted = omega (arith, rd .floats, e);
         rows = (g .row, rd .board .ends k);
         moves = record {
           small = omega (arith, rd .board .mixes, rd .board .turfs .1);
@@ -239,28 +238,28 @@ module _ (b : Board) (words : List ℕ) (stop : Bool) (z r up from to : ℕ) (a 
           amounts = rd .board .fits;
         };
         room = omega (arith, p .room, n, g .room, p .kept .events);
-        positive = both (eqb (getD words k 0) (z + 1)) (above (getD (a′ .floats) (liftedFrom b + k) nan)) here .1;
+        positive = both (eqb (getD words k 0) (z + 1)) (above (getD (a′ .floats) (up + k) nan)) (m .here l) .1;
       }
 
-  pub loop-next : (k j : ℕ) (a′ a″ : FinishAreas) (short : Bool) → Here k a′ → k < to → short ≡ false
-      → short ≡ stop && lt (total b (a′ .gas) r) (getD (a′ .floats) (up + k) nan)
-      → Sends b r k z (liftedFrom b) words a′ a″
+  pub loop-next : (k j : ℕ) (a′ a″ : FinishAreas) (has : Float) (short : Bool) → Here k a′ → k < to → has ≡ total b (a′ .gas) r → short ≡ false
+      → short ≡ stop && lt has (getD (a′ .floats) (up + k) nan)
+      → Sends b r k z (getD (a′ .floats) (up + k) nan) words a′ a″
       → Next (isMarked words (a″ .floats) z up true) (k + 1) to j → Here j a″
-  loop-next k j a′ a″ short m l q is s n =
+  loop-next k j a′ a″ has short m l t q is s n =
       found (k + 1) j a″
       (made-send b words stop z r from to a within k a′ a″ (m .made) (g .ready) (g .row) (in-row k (m .made .low) l) l (subst (λ (x : ℕ). isMarked words (a′ .floats) z x true k ≡ true) u (m .here l))
-      (subst (λ (x : ℕ). stop && lt (total b (a′ .gas) r) (getD (a′ .floats) (x + k) nan) ≡ false) u (sym is ∙ q))
-      s) n
+      (subst (λ (x : ℕ). stop && lt (total b (a′ .gas) r) (getD (a′ .floats) (x + k) nan) ≡ false) u (ap (λ (y : Float). stop && lt y (getD (a′ .floats) (up + k) nan)) (sym t) ∙ sym is ∙ q))
+      (subst (λ (x : ℕ). Sends b r k z (getD (a′ .floats) (x + k) nan) words a′ a″) u s)) n
 
-  pub stopped : (k : ℕ) (a′ : FinishAreas) (short : Bool) → Here k a′ → k < to → short ≡ true
-      → short ≡ stop && lt (total b (a′ .gas) r) (getD (a′ .floats) (up + k) nan)
+  pub stopped : (k : ℕ) (a′ : FinishAreas) (has : Float) (short : Bool) → Here k a′ → k < to → has ≡ total b (a′ .gas) r → short ≡ true
+      → short ≡ stop && lt has (getD (a′ .floats) (up + k) nan)
       → SentTo b words stop z r from to k a a′
-  stopped k a′ short m l q is =
-      let s = both stop (lt (total b (a′ .gas) r) (getD (a′ .floats) (up + k) nan)) (sym is ∙ q) in
+  stopped k a′ has short m l t q is =
+      let s = both stop (lt has (getD (a′ .floats) (up + k) nan)) (sym is ∙ q) in
       record {
         made = m .made;
         whole = λ e. absurd (differ (sym (s .0) ∙ e));
-        short = λ h. (subst (λ (x : ℕ). isMarked words (a′ .floats) z x true k ≡ true) u (m .here l), subst (λ (x : ℕ). lt (total b (a′ .gas) r) (getD (a′ .floats) (x + k) nan) ≡ true) u (s .1));
+        short = λ h. (subst (λ (x : ℕ). isMarked words (a′ .floats) z x true k ≡ true) u (m .here l), subst (λ (x : ℕ). lt (total b (a′ .gas) r) (getD (a′ .floats) (x + k) nan) ≡ true) u (ap (λ (y : Float). lt y (getD (a′ .floats) (up + k) nan)) (sym t) ∙ s .1));
       }
 
   pub all-sent : (k : ℕ) (a′ : FinishAreas) → Here k a′ → to ≤ k → SentTo b words stop z r from to to a a′

@@ -118,11 +118,8 @@ shared-fits b r a x gas f h l = go (eqb (mixOf b r) (mixOf b a))
     go false = move-fits b (mixOf b r) (mixOf b a) x h l gas f ∙ sym f
 
 module _ (b : Board) (words : List ℕ) (z r k : ℕ) (a a′ : FinishAreas) (ready : FinishFits b words (a .gas) (a .floats)) (row : r < turfCount b) (i : InRow (b .starts) r k) (below : k < linkCount b)
-    (up : ℕ)
-    (s : Sends b r k z up words a a′) where
-  abbrev x : Float
-  x = getD (a .floats) (up + k) nan
-
+    (x : Float)
+    (s : Sends b r k z x words a a′) where
   abbrev back : Spot
   back = backLink (reverseIn (linkCount b) words) (ownerIn (linkCount b) words) z k
 

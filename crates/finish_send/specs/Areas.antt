@@ -8,7 +8,7 @@ use lib.Ieee.{Float}
 use Rattle.basics.specs.Regions.{region}
 use Rattle.rules_board.specs.Board.{Board, turfCount, linkCount}
 use Rattle.turfs.specs.Tables.{Accepted}
-use Rattle.scratch.specs.Layout.{floatSizes, reverseAt, liftedAt, molesAt}
+use Rattle.scratch.specs.Layout.{floatSizes, reverseAt, liftedAt, floatsEnd}
 use Rattle.scratch.specs.View.{reverseIn, weightIn, liftedIn, molesIn}
 use Rattle.events.specs.Area.{HoldsEvents}
 use Rattle.rules_events.specs.declared.Event.{Event}
@@ -66,7 +66,7 @@ pub record FinishFits (b : Board) (ws : List ℕ) (gas fs : List Float) : Type 0
   pub linked : Linked (turfCount b) (b .starts) (b .neighbours)
   pub reverse : Reverses b (turfCount b) (reverseIn (linkCount b) ws)
   pub words : reverseAt (linkCount b) (linkCount b) ≤ length ws
-  pub floats : molesAt (turfCount b) (linkCount b) + turfCount b ≤ length fs
+  pub floats : floatsEnd (turfCount b) (linkCount b) ≤ length fs
 
 -- what finishing leaves as it was
 pub record Kept (b : Board) (a a′ : FinishAreas) : Type 0 where

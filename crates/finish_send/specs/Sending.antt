@@ -47,17 +47,15 @@ saveAt words z up k f = if eqb (getD words k 0) (z + 1) then set f (up + k) (get
 abbrev pub zeroAt : List ℕ → ℕ → ℕ → List Float → List Float
 zeroAt words z k f = if eqb (getD words k 0) (z + 1) then set f k 0f else f
 
+-- both
+abbrev pub liftAt : List ℕ → ℕ → ℕ → ℕ → List Float → List Float
+liftAt words z up k f = if eqb (getD words k 0) (z + 1) then set (set f (up + k) (getD f k nan)) k 0f else f
+
 -- air moves where the mixtures differ
 abbrev pub shared : Board → ℕ → ℕ → Float → List Float → List Float
 shared b r a x gas = if eqb (mixOf b r) (mixOf b a) then gas else moveAir b (mixOf b r) (mixOf b a) x gas
 
 -- ---- one edge
-
--- what a turf's total may rely on
-pub record Counted (b : Board) (row : ℕ) (gas : List Float) : Type 0 where
-  pub mixed : row < length (b .mixtures)
-  pub small : length (b .mixtures) ≤ 4096
-  pub held : HoldsGas gas (b .gases) (mixOf b row)
 
 -- what moving air between two turfs may rely on
 pub record MoveFits (b : Board) (row to : ℕ) (gas : List Float) : Type 0 where
@@ -66,8 +64,8 @@ pub record MoveFits (b : Board) (row to : ℕ) (gas : List Float) : Type 0 where
   pub mixes : (mixOf b row < mixtureCount b) × (mixOf b to < mixtureCount b)
   pub amounts : length gas ≡ mixtureCount b * b .gases
 
--- what sending over the link k may rely on
-pub record SendFits (b : Board) (row k z up : ℕ) (words : List ℕ) (a : FinishAreas) : Type 0 where
+-- what sending x over the link k may rely on
+pub record SendFits (b : Board) (row k z : ℕ) (x : Float) (words : List ℕ) (a : FinishAreas) : Type 0 where
   pub zone : z < 4096
   pub turfs : turfCount b ≤ 4096
   pub links : linkCount b ≤ 24576
@@ -75,17 +73,16 @@ pub record SendFits (b : Board) (row k z up : ℕ) (words : List ℕ) (a : Finis
   pub area : reverseAt (linkCount b) (linkCount b) ≤ length words
   pub back : getD words (reverseAt k (linkCount b)) 0 ≤ linkCount b
   pub weights : linkCount b ≤ length (a .floats)
-  pub lifted : up + k < length (a .floats)
   pub rows : (row < turfCount b) × (end b k < turfCount b)
   pub moves : MoveFits b row (end b k) (a .gas)
   pub room : a .used + 20 ≤ length (a .events)
-  pub positive : above (getD (a .floats) (up + k) nan) ≡ true
+  pub positive : above x ≡ true
 
 -- the reverse weight, the air, the record
-pub record Sends (b : Board) (row k z up : ℕ) (words : List ℕ) (a a′ : FinishAreas) : Type 0 where
+pub record Sends (b : Board) (row k z : ℕ) (x : Float) (words : List ℕ) (a a′ : FinishAreas) : Type 0 where
   pub weights : a′ .floats ≡ alter (backLink (reverseIn (linkCount b) words) (ownerIn (linkCount b) words) z k) (λ y. 0f) (a .floats)
-  pub air : a′ .gas ≡ shared b row (end b k) (getD (a .floats) (up + k) nan) (a .gas)
-  pub event : Wrote (encode (Pressure z (getD (a .floats) (up + k) nan) (getD (b .ids) row 0) (getD (b .ids) (end b k) 0))) (a .used) (a′ .used) (a .events) (a′ .events)
+  pub air : a′ .gas ≡ shared b row (end b k) x (a .gas)
+  pub event : Wrote (encode (Pressure z x (getD (b .ids) row 0) (getD (b .ids) (end b k) 0))) (a .used) (a′ .used) (a .events) (a′ .events)
 
 -- ---- the edges of a turf
 

@@ -19,8 +19,8 @@ ghost use Rattle.basics.specs.Lists.{Found};
 ghost use Rattle.rules_mixture.specs.Mixture.{total};
 ghost use Rattle.rules_plan.specs.Edges.{alter};
 ghost use Rattle.turfs.specs.Tables.{boardAt};
-ghost use Rattle.finish_send.specs.Areas.{finishAreasAt, liftedFrom};
-ghost use Rattle.finish_send.specs.Sending.{onSide, isMarked, Next, saveAt, zeroAt, shared, Counted, MoveFits, SendFits, Sends, Going, SentOver};
+ghost use Rattle.finish_send.specs.Areas.{finishAreasAt};
+ghost use Rattle.finish_send.specs.Sending.{onSide, isMarked, Next, liftAt, zeroAt, shared, MoveFits, SendFits, Sends, Going, SentOver};
 
 // The turf in hand: its row, its zone, and the board's number of gases.
 pub struct Turf {
@@ -34,6 +34,13 @@ pub struct Span {
     pub from: usize,
     pub to: usize,
     pub stop: bool,
+}
+
+// What goes over a link: the link, the amount, and the total that the turf has.
+pub struct Load {
+    pub link: usize,
+    pub amount: f32,
+    pub has: f32,
 }
 
 // Where sending stopped, and the bytes written.
@@ -88,30 +95,31 @@ pub fn next_edge(
     to
 }
 
-// The weight of the link k copied, where the zone owns it.
-fn save_at(k: usize, zone: u32, up: usize, words: &[u32], floats: &mut [f32])
+// The weight of the link k copied and 0 left in it, where the zone owns it.
+fn lift_at(k: usize, zone: u32, up: usize, words: &[u32], floats: &mut [f32])
     requires { ⌜ zone < 4096 ⌝ }
     requires { ⌜ k < length (now words) ⌝ }
     requires { ⌜ up + k < length (now floats) ⌝ }
-    ensures { λ _. ⌜ now (floats .exit) ≡ saveAt (now (words .entry)) zone up k (now (floats .entry)) ⌝ }
+    ensures { λ _. ⌜ now (floats .exit) ≡ liftAt (now (words .entry)) zone up k (now (floats .entry)) ⌝ }
 {
     if words[k] != zone + 1 {
         return;
     }
     floats[up + k] = floats[k];
+    floats[k] = 0.0;
 }
 
-// The weights of the zone's edges from one link up to another copied.
-pub fn save(from: usize, to: usize, zone: u32, up: usize, words: &[u32], floats: &mut [f32])
+// Lifts the weights of the zone's edges from one link up to another.
+pub fn lift(from: usize, to: usize, zone: u32, up: usize, words: &[u32], floats: &mut [f32])
     requires { ⌜ zone < 4096 ⌝ }
     requires { ⌜ from ≤ to ⌝ }
     requires { ⌜ to ≤ length (now words) ⌝ }
     requires { ⌜ up + to ≤ length (now floats) ⌝ }
-    ensures { λ _. ⌜ now (floats .exit) ≡ run (saveAt (now (words .entry)) zone up) (upFrom from (to - from)) (now (floats .entry)) ⌝ }
+    ensures { λ _. ⌜ now (floats .exit) ≡ run (liftAt (now (words .entry)) zone up) (upFrom from (to - from)) (now (floats .entry)) ⌝ }
 {
     let mut k = from;
     while k < to {
-        save_at(k, zone, up, words, floats);
+        lift_at(k, zone, up, words, floats);
         k += 1;
     }
 }
@@ -154,10 +162,11 @@ fn clear_at(spot: Spot, floats: &mut [f32])
     }
 }
 
-// Air moves from the turf to the row `to` where the mixtures differ.
-fn move_between(turf: Turf, to: usize, amount: f32, rows: &Rows, marks: &Marks, gas: &mut [f32])
+// The load moves from the turf to the row `to` where the mixtures differ.
+fn move_between(turf: Turf, load: Load, to: usize, rows: &Rows, marks: &Marks, gas: &mut [f32])
     requires { ⌜ MoveFits (boardAt rows marks (turf .gases)) (turf .row) to (now gas) ⌝ }
-    ensures { λ _. ⌜ now (gas .exit) ≡ shared (boardAt (rows .entry) (marks .entry) (turf .gases)) (turf .row) to amount (now (gas .entry)) ⌝ }
+    requires { ⌜ load .has ≡ total (boardAt rows marks (turf .gases)) (now gas) (turf .row) ⌝ }
+    ensures { λ _. ⌜ now (gas .exit) ≡ shared (boardAt (rows .entry) (marks .entry) (turf .gases)) (turf .row) to (load .amount) (now (gas .entry)) ⌝ }
 {
     let mixtures = rows[MIXTURES];
     let row = turf.row;
@@ -166,13 +175,21 @@ fn move_between(turf: Turf, to: usize, amount: f32, rows: &Rows, marks: &Marks, 
     if giver == taker {
         return;
     }
-    mixture::move_air(marks[IMMUTABLE], turf.gases, gas, giver, taker, amount);
+    mixture::move_air(
+        marks[IMMUTABLE],
+        turf.gases,
+        gas,
+        giver,
+        taker,
+        load.has,
+        load.amount,
+    );
 }
 
-// The turf's edge k, whose planned amount was lifted: its reverse is cleared, the air moves, and the record is written.
+// The load goes over its link: the reverse is cleared, the air moves, and the record is written.
 fn send(
     turf: Turf,
-    k: usize,
+    load: Load,
     used: usize,
     rows: &Rows,
     marks: &Marks,
@@ -181,37 +198,32 @@ fn send(
     floats: &mut [f32],
     events: &mut [u8],
 ) -> usize
-    requires { let b = boardAt rows marks (turf .gases) in ⌜ SendFits b (turf .row) k (turf .zone) (liftedFrom b) (now words) (finishAreasAt gas floats events used) ⌝ }
-    ensures { λ r. let b = boardAt (rows .entry) (marks .entry) (turf .gases) in ⌜ Sends b (turf .row) k (turf .zone) (liftedFrom b) (now (words .entry)) (finishAreasAt (gas .entry) (floats .entry) (events .entry) used) (finishAreasAt (gas .exit) (floats .exit) (events .exit) r) ⌝ }
+    requires { let b = boardAt rows marks (turf .gases) in ⌜ SendFits b (turf .row) (load .link) (turf .zone) (load .amount) (now words) (finishAreasAt gas floats events used) ⌝ }
+    requires { ⌜ load .has ≡ total (boardAt rows marks (turf .gases)) (now gas) (turf .row) ⌝ }
+    ensures { λ r. let b = boardAt (rows .entry) (marks .entry) (turf .gases) in ⌜ Sends b (turf .row) (load .link) (turf .zone) (load .amount) (now (words .entry)) (finishAreasAt (gas .entry) (floats .entry) (events .entry) used) (finishAreasAt (gas .exit) (floats .exit) (events .exit) r) ⌝ }
 {
     let ids = rows[IDS];
     let neighbours = rows[NEIGHBOURS];
     let row = turf.row;
-    let e = neighbours.len();
-    let up = scratch::lifted_at(ids.len(), e);
-    let amount = floats[up + k];
+    let k = load.link;
     let to = neighbours[k] as usize;
-    let back = plan_state::back_link(k, turf.zone, e, words);
+    let back = plan_state::back_link(k, turf.zone, neighbours.len(), words);
     clear_at(back, floats);
-    move_between(turf, to, amount, rows, marks, gas);
+    move_between(turf, load, to, rows, marks, gas);
     let record = Event::Pressure {
         zone: turf.zone,
-        amount,
+        amount: load.amount,
         from: ids[row],
         to: ids[to],
     };
     events::append(events, used, record)
 }
 
-// Whether the turf's total is below the amount, where that is asked.
-fn is_short(stop: bool, turf: Turf, amount: f32, rows: &Rows, marks: &Marks, gas: &[f32]) -> bool
-    requires { ⌜ Counted (boardAt rows marks (turf .gases)) (turf .row) (now gas) ⌝ }
-    ensures { λ r. ⌜ r ≡ stop && lt (total (boardAt (rows .entry) (marks .entry) (turf .gases)) (now (gas .entry)) (turf .row)) amount ⌝ }
+// Whether the turf has less than the amount, where that is asked.
+fn is_short(stop: bool, load: Load) -> bool
+    ensures { λ r. ⌜ r ≡ stop && lt (load .has) (load .amount) ⌝ }
 {
-    if stop {
-        return mixture::total(rows[MIXTURES], turf.gases, gas, turf.row) < amount;
-    }
-    false
+    if stop { load.has < load.amount } else { false }
 }
 
 // Sends what was lifted above 0 over the turf's links, edge by edge; with `stop`, only until the turf's total is below the amount.
@@ -237,10 +249,15 @@ pub fn send_edges(
     let mut now = used;
     let mut k = next_edge(from, to, zone, up, true, words, floats);
     while k < to {
-        if is_short(stop, turf, floats[up + k], rows, marks, gas) {
+        let load = Load {
+            link: k,
+            amount: floats[up + k],
+            has: mixture::total(rows[MIXTURES], turf.gases, gas, turf.row),
+        };
+        if is_short(stop, load) {
             return Sent { at: k, used: now };
         }
-        now = send(turf, k, now, rows, marks, gas, words, floats, events);
+        now = send(turf, load, now, rows, marks, gas, words, floats, events);
         k = next_edge(k + 1, to, zone, up, true, words, floats);
     }
     Sent { at: to, used: now }

@@ -38,8 +38,7 @@ fn send_first(
         return Sent { at: to, used };
     }
     let up = scratch::lifted_at(rows[IDS].len(), rows[NEIGHBOURS].len());
-    finish_send::save(from, to, zone, up, words, floats);
-    finish_send::clear_weights(from, to, zone, words, floats);
+    finish_send::lift(from, to, zone, up, words, floats);
     let all = Span {
         from,
         to,

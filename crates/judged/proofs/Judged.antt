@@ -23,11 +23,11 @@ use Rattle.rules_planet.specs.Planet.{planetFrom, planetWalk, planetNumber, pla
 use Rattle.rules_out.specs.Out.{outTo, outLink, outRow, outNext, outward}
 use Rattle.rules_back.specs.Back.{backTo, back}
 use Rattle.rules_depressurize.specs.Depressurize.{wayBack, fromWalk, fromRow, depressurize, depressurizeNumber, depressurizeDone, depressurizeResult}
-use Rattle.judged.specs.Judge.{lends, meets, equalizes, depressurizes, walksPlanet}
-use Rattle.judged.specs.Rows.{rows}
+use Rattle.judged.specs.Judge.{lends, meetsDue, equalizesAs, depressurizesAs, walksPlanetAs}
+use Rattle.judged.specs.Rows.{judgedRows}
 
-pub judged : T (allOf rows)
-unfolding rows lends meets exact equalizes numbers depressurizes walksPlanet
+pub judged : T (allOf judgedRows)
+unfolding judgedRows lends meetsDue exact equalizesAs numbers depressurizesAs walksPlanetAs
     run times keep every allOf upFrom member first same finiteSignClear bits
     enabled planetary immutable firelock linksOf rowOf pairwise distinct sizesFit tablesFit rowFits linksFit
     sum scale plus ratio remove amounts change totalMix total moveAir clearAir amountFits

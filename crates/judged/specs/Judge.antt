@@ -38,8 +38,8 @@ pub record Due : Type 0 where
   pub floats : ℕ
 
 -- the answer's numbers and every lent cell are as they are due
-unfoldable pub meets : List ℕ → Lent → Lent → Due → Bool
-meets answer before l d = allOf (
+unfoldable pub meetsDue : List ℕ → Lent → Lent → Due → Bool
+meetsDue answer before l d = allOf (
     same answer (d .answer)
     ∷ same (bits (l .gas)) (bits (exact (d .gas)))
     ∷ same (l .area) (d .bytes ++ drop (length (d .bytes)) (before .area))
@@ -48,17 +48,17 @@ meets answer before l d = allOf (
     ∷ [])
 
 -- a call of each kind
-unfoldable pub equalizes : Board → Ask → List ℕ → List ℕ → Lengths → Due → Bool
-equalizes b q turns gas n d =
+unfoldable pub equalizesAs : Board → Ask → List ℕ → List ℕ → Lengths → Due → Bool
+equalizesAs b q turns gas n d =
     let o = equalizeResult b q turns (lends n gas) in
-    meets (numbers (o .answer)) (lends n gas) (o .lent) d
+    meetsDue (numbers (o .answer)) (lends n gas) (o .lent) d
 
-unfoldable pub depressurizes : Board → ℕ → ℕ → List ℕ → Lengths → Due → Bool
-depressurizes b limit id gas n d =
+unfoldable pub depressurizesAs : Board → ℕ → ℕ → List ℕ → Lengths → Due → Bool
+depressurizesAs b limit id gas n d =
     let o = depressurizeResult b limit id (lends n gas) in
-    meets (o .answer .number ∷ o .answer .outcome ∷ o .answer .bytes ∷ []) (lends n gas) (o .lent) d
+    meetsDue (o .answer .number ∷ o .answer .outcome ∷ o .answer .bytes ∷ []) (lends n gas) (o .lent) d
 
-unfoldable pub walksPlanet : Board → ℕ → ℕ → List ℕ → Lengths → Due → Bool
-walksPlanet b limit id gas n d =
+unfoldable pub walksPlanetAs : Board → ℕ → ℕ → List ℕ → Lengths → Due → Bool
+walksPlanetAs b limit id gas n d =
     let o = planetResult b limit id (lends n gas) in
-    meets (o .answer .number ∷ o .answer .bytes ∷ []) (lends n gas) (o .lent) d
+    meetsDue (o .answer .number ∷ o .answer .bytes ∷ []) (lends n gas) (o .lent) d

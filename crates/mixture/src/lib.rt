@@ -85,21 +85,23 @@ fn remove(immutable: &[u8], gases: usize, gas: &mut [f32], giver: usize, goes: f
     }
 }
 
-// Removes the amount from one mixture and merges what was removed into another one. The two parts of the list lie apart, so the merge may come first.
+// Removes the amount from one mixture, whose total is `total`, and merges what was removed into another one. The two parts of the list lie apart, so
+// the merge may come first.
 pub fn move_air(
     immutable: &[u8],
     gases: usize,
     gas: &mut [f32],
     giver: usize,
     taker: usize,
+    total: f32,
     amount: f32,
 )
     requires { ⌜ (giver < length (now immutable)) × (taker < length (now immutable)) ⌝ }
     requires { ⌜ HoldsGas (now gas) gases giver × HoldsGas (now gas) gases taker ⌝ }
     requires { ⌜ (giver ≡ taker → ⊥) ⌝ }
+    requires { ⌜ ((b : Board) → b .gases ≡ gases → total ≡ totalMix b (now gas) giver) ⌝ }
     ensures { λ _. ⌜ ((b : Board) → b .immutable ≡ now (immutable .entry) → b .gases ≡ gases → now (gas .exit) ≡ moveAir b giver taker amount (now (gas .entry))) ⌝ }
 {
-    let total = total_mix(gases, gas, giver);
     let goes = ratio(amount, total);
     merge(immutable, gases, gas, giver, taker, goes);
     remove(immutable, gases, gas, giver, goes);

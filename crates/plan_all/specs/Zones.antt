@@ -7,7 +7,7 @@ use lib.ListN.{length, getD, take, drop, replicate}
 use lib.Ieee.{Float}
 use Rattle.basics.specs.Floats.{0f}
 use Rattle.basics.specs.Loops.{run, upFrom}
-use Rattle.scratch.specs.Layout.{Sizes, foundAt, marksAt, liftedAt, molesAt}
+use Rattle.scratch.specs.Layout.{Sizes, foundAt, marksAt, liftedAt, floatsEnd, mostNodes}
 use Rattle.scratch.specs.View.{ownerIn, reverseIn, startsIn, nodesIn, molesIn}
 use Rattle.rules_board.specs.Board.{Board, turfCount, linkCount}
 use Rattle.index_set.specs.Line.{Below}
@@ -54,13 +54,13 @@ pub record Plannable (b : Board) (gas : List Float) : Type 0 where
 pub record PlanRoom (n e : ℕ) (w : List ℕ) (f : List Float) : Type 0 where
   pub sizes : Sizes n e
   pub words : marksAt n e ≤ length w
-  pub floats : molesAt n e + n ≤ length f
+  pub floats : floatsEnd n e ≤ length f
 
 -- zone z has nodes, at most n, which are rows
 pub record ZoneReady (n e z : ℕ) (w : List ℕ) (f : List Float) : Type 0 where
   pub some : nodesFrom n e w z < nodesFrom n e w (z + 1)
   pub few : nodesFrom n e w (z + 1) ≤ nodesFrom n e w z + n
-  pub within : nodesFrom n e w (z + 1) ≤ n + e
+  pub within : nodesFrom n e w (z + 1) ≤ mostNodes n e
   pub rows : Below n (zoneOf n e w f z .nodes)
 
 -- what filling leaves

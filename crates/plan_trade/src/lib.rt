@@ -1,9 +1,9 @@
 // One link of a search: a turf that is met, and the trade with the turf in hand. One body serves `give_to_takers` and `take_from_givers`; what differs is the tests.
 ghost use mathlib.Core.Path.{_≡_};
 ghost use mathlib.Core.Bool.{true, false, cond};
-ghost use Prim.Native.Nat.{_+_, _<_};
+ghost use Prim.Native.Nat.{_+_, _≤_, _<_};
 ghost use lib.Ieee.{nan};
-ghost use lib.ListN.{getD};
+ghost use lib.ListN.{length, getD};
 ghost use Rattle.scratch.specs.Layout.{deltaAt};
 ghost use Rattle.rules_plan.specs.Plan.{settled, wants, trade, meet};
 ghost use Rattle.plan_state.specs.Held.{areaAt, planView, PlanFits, Ends, PlanDoes};
@@ -86,6 +86,16 @@ pub fn trade(
     store(g, both.hand, n, e, words, floats);
 }
 
+// Whether the turf at `row` has what the side wants.
+fn wants_at(side: Side, row: usize, e: usize, floats: &[f32]) -> bool
+    requires { ⌜ row ≤ 4096 ⌝ }
+    requires { ⌜ e ≤ 24576 ⌝ }
+    requires { ⌜ deltaAt row e < length (now floats) ⌝ }
+    ensures { λ r. ⌜ r ≡ wants side (getD (now (floats .entry)) (deltaAt row e) nan) ⌝ }
+{
+    wants(side, floats[scratch::delta_at(row, e)])
+}
+
 // The turf at row a points at d - 1, and has moved nothing yet.
 pub fn point(a: usize, d: u32, n: usize, e: usize, words: &mut [u32], floats: &mut [f32])
     requires { ⌜ PlanFits n e (areaAt words floats) ⌝ }
@@ -115,7 +125,7 @@ pub fn meet(
     ensures { λ t. ⌜ t ≡ wants side (getD (planView n e (areaAt (words .entry) (floats .entry)) .plan .delta) a nan) ⌝ }
 {
     point(a, r + 1, n, e, words, floats);
-    let can = wants(side, floats[scratch::delta_at(a, e)]);
+    let can = wants_at(side, a, e, floats);
     if can {
         trade(side, g, a, n, e, words, floats);
     }
@@ -268,7 +278,7 @@ pub fn pass_link(
         };
     }
     let row = a as usize;
-    if wants(side, floats[scratch::delta_at(row, e)]) {
+    if wants_at(side, row, e, floats) {
         return Passed { count, wants: true };
     }
     insert(a, count, queue, places, words);

@@ -14,7 +14,7 @@ use Rattle.rules_events.specs.Events.{kindOf, fieldsOf, wordsBytes, encode, enc
 use Rattle.rules_events.specs.declared.Event.{Event}
 use Rattle.rules_events.specs.declared.Event.the-variants.{Firelock, Target, HighPressure, FloorRip}
 use Rattle.rules_lent.specs.Lent.{wordsRoom, floatsRoom, firstFailed, refusal, after}
-use Rattle.rules_lent.specs.Worked.{lend, left}
+use Rattle.rules_lent.specs.Worked.{lend, leaves}
 use Rattle.rules_walk.specs.Walk.{walkLink, spread, walkNext, walk}
 use Rattle.rules_walk.specs.Visit.{atSpace, visitSpace}
 use Rattle.rules_out.specs.Out.{outTo, outLink, outRow, outNext, outward}
@@ -28,7 +28,7 @@ depressurizes b limit id gas outcome bytes gas′ es =
     let o = depressurizeResult b limit id (lend b (depressurizeRoom b) (whole gas)) in
     allOf (
     same (o .answer .number ∷ o .answer .outcome ∷ o .answer .bytes ∷ []) (0 ∷ outcome ∷ bytes ∷ [])
-    ∷ left b (depressurizeRoom b) (whole gas′) es (o .lent)
+    ∷ leaves b (depressurizeRoom b) (whole gas′) es (o .lent)
     ∷ [])
 
 pub worked : T (allOf (
@@ -49,7 +49,7 @@ pub worked : T (allOf (
     ∷ depressurizes (lockedChain asIs space) 1 10 (32 ∷ 16 ∷ 4 ∷ []) 0 12 (32 ∷ 16 ∷ 4 ∷ []) (Firelock 10 20 ∷ [])
     ∷ depressurizes (lockedChain asIs space) 10 11 (32 ∷ 16 ∷ 4 ∷ []) 0 0 (32 ∷ 16 ∷ 4 ∷ []) []
     ∷ []))
-unfolding depressurizes lend left run times every allOf member first same upFrom finiteSignClear bits whole enabled planetary immutable firelock linksOf rowOf pairwise distinct sizesFit tablesFit rowFits linksFit startsFrom allWays draw
+unfolding depressurizes lend leaves run times every allOf member first same upFrom finiteSignClear bits whole enabled planetary immutable firelock linksOf rowOf pairwise distinct sizesFit tablesFit rowFits linksFit startsFrom allWays draw
     sum amounts change totalMix total clearAir amountFits kindOf fieldsOf wordsBytes encode encodeAll wordsRoom floatsRoom firstFailed refusal after walkLink spread walkNext walk
     atSpace visitSpace outTo outLink outRow outNext outward backTo back wayBack fromWalk fromRow depressurize depressurizeNumber depressurizeDone depressurizeResult
     add sub isum mul div neg round size span climb units odd ofInt ofBits ofFields toBits lt le eq ne

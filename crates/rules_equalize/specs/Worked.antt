@@ -15,7 +15,7 @@ use Rattle.rules_events.specs.Events.{kindOf, fieldsOf, wordsBytes, encode, enc
 use Rattle.rules_events.specs.declared.Event.{Event}
 use Rattle.rules_events.specs.declared.Event.the-variants.{DepressurizeWanted, Pressure}
 use Rattle.rules_lent.specs.Lent.{Lent, wordsRoom, floatsRoom, firstFailed, refusal, after}
-use Rattle.rules_lent.specs.Worked.{lend, left, unchanged, lessArea}
+use Rattle.rules_lent.specs.Worked.{lend, leaves, unchanged, lessArea}
 use Rattle.rules_fill.specs.Fill.{insert, endFill, reachLink, expand, pop, popNext, fill}
 use Rattle.rules_plan.specs.Edges.{edgesOf, edge, adjust}
 use Rattle.rules_plan.specs.Plan.{chosen, trade, meet, seekTo, fastMove, eligible, fastTurf, seekLink, seekRow, seekNext, drainTo, drain, serve, fastPass, shareOut, deltas, planZone}
@@ -57,7 +57,7 @@ numbers a = a .number ∷ a .cancelled ∷ a .processed ∷ a .tests ∷ a .zone
 unfoldable pub equalizes : Board → Ask → List ℕ → List Float → EqualizeAnswer → List Float → List Event → Bool
 equalizes b q turns gas a gas′ es =
     let o = equalizeResult b q turns (lend b (equalizeRoom b) gas) in
-    allOf (same (numbers (o .answer)) (numbers a) ∷ left b (equalizeRoom b) gas′ es (o .lent) ∷ [])
+    allOf (same (numbers (o .answer)) (numbers a) ∷ leaves b (equalizeRoom b) gas′ es (o .lent) ∷ [])
 
 -- board, request, turns, and what is lent; then the number, all else being zero and unchanged
 unfoldable pub refused : Board → Ask → List ℕ → Lent → ℕ → Bool
@@ -86,7 +86,7 @@ pub worked : T (allOf (
     ∷ refused boardA (ask (10 ∷ 10 ∷ [])) [] (lend boardA (equalizeRoom boardA) (whole (32 ∷ 16 ∷ []))) 6
     ∷ refused boardA (ask (10 ∷ [])) [] (lessArea 4 (lend boardA (equalizeRoom boardA) (whole (32 ∷ 16 ∷ [])))) 7
     ∷ []))
-unfolding equalizes refused numbers lend left unchanged run times keep every allOf upFrom member first same finiteSignClear bits whole exact
+unfolding equalizes refused numbers lend leaves unchanged run times keep every allOf upFrom member first same finiteSignClear bits whole exact
     enabled planetary immutable firelock linksOf rowOf pairwise distinct sizesFit tablesFit rowFits linksFit startsFrom allWays draw
     sum scale plus ratio remove amounts change totalMix total moveAir amountFits kindOf fieldsOf wordsBytes encode encodeAll
     wordsRoom floatsRoom firstFailed refusal after insert endFill reachLink expand pop popNext fill

@@ -30,8 +30,8 @@ lend b room gas = record {
 }
 
 -- every lent cell after a call that was done: the scratch's room zero, the rest as it was
-unfoldable pub left : Board → ℕ → List Float → List Event → Lent → Bool
-left b room gas es l = allOf (
+unfoldable pub leaves : Board → ℕ → List Float → List Event → Lent → Bool
+leaves b room gas es l = allOf (
     same (bits (l .gas)) (bits gas)
     ∷ same (l .area) (encodeAll es ++ (replicate (room - length (encodeAll es)) 170 ++ spare))
     ∷ same (l .words) (replicate (wordsRoom b) 0 ++ spare)
@@ -94,10 +94,10 @@ pub worked : T (allOf (
     ∷ eqb (refusal boardA (lessWords 4 (lentA (whole (1 ∷ 2 ∷ [])))) 24 noExtra) 7
     ∷ eqb (refusal boardA (lessFloats 4 (lentA (whole (1 ∷ 2 ∷ [])))) 24 noExtra) 7
     -- what is left
-    ∷ left boardA 24 (whole (3 ∷ 4 ∷ [])) (HighPressure 10 ∷ []) (after boardA (lentA (whole (1 ∷ 2 ∷ []))) (whole (3 ∷ 4 ∷ [])) (HighPressure 10 ∷ []))
+    ∷ leaves boardA 24 (whole (3 ∷ 4 ∷ [])) (HighPressure 10 ∷ []) (after boardA (lentA (whole (1 ∷ 2 ∷ []))) (whole (3 ∷ 4 ∷ [])) (HighPressure 10 ∷ []))
     ∷ not (unchanged (lentA (whole (1 ∷ 2 ∷ []))) (after boardA (lentA (whole (1 ∷ 2 ∷ []))) (whole (1 ∷ 2 ∷ [])) []))
     ∷ []))
-unfolding lend left unchanged every allOf upFrom member same finiteSignClear bits whole exact pairwise distinct sizesFit tablesFit rowFits linksFit
+unfolding lend leaves unchanged every allOf upFrom member same finiteSignClear bits whole exact pairwise distinct sizesFit tablesFit rowFits linksFit
     startsFrom allWays draw withGases amountFits kindOf fieldsOf wordsBytes encode encodeAll wordsRoom floatsRoom firstFailed refusal after
     add sub isum mul div neg round size span climb units odd ofInt ofBits ofFields toBits lt le eq ne
 worked = tt

@@ -15,8 +15,8 @@ use Rattle.rules_plan.specs.Edges.{edgesOf, edge, adjust}
 use Rattle.rules_plan.specs.Plan.{Plan, chosen, trade, meet, seekTo, fastMove, eligible, fastTurf, seekLink, seekRow, seekNext, drainTo, drain, serve, fastPass, shareOut, deltas, planZone}
 
 -- the plan before the first zone
-unfoldable pub blank : Board → Plan
-blank b = record {
+unfoldable pub unplanned : Board → Plan
+unplanned b = record {
   weight = replicate (linkCount b) 0f;
   delta = replicate (turfCount b) 0f;
   amount = replicate (turfCount b) 0f;
@@ -27,7 +27,7 @@ blank b = record {
 -- the zone that has all links, its nodes in order, and its total: the weights and the fast marks
 unfoldable pub plans : Board → List ℕ → List ℕ → ℕ → List Float → List ℕ → Bool
 plans b gas nodes moles weights fast =
-    let p = planZone b (replicate (linkCount b) 1) 0 (whole gas) nodes (ofCount moles) (blank b) in
+    let p = planZone b (replicate (linkCount b) 1) 0 (whole gas) nodes (ofCount moles) (unplanned b) in
     allOf (same (bits (p .weight)) (bits weights) ∷ same (p .fast) fast ∷ [])
 
 -- a weight: so much goes along the edge, or comes
@@ -52,7 +52,7 @@ pub worked : T (allOf (
     ∷ plans six (20 ∷ 0 ∷ 20 ∷ 0 ∷ 20 ∷ 0 ∷ []) (upFrom 0 6) 60 (up 10 ∷ down 10 ∷ 0f ∷ 0f ∷ up 10 ∷ down 10 ∷ 0f ∷ 0f ∷ up 10 ∷ down 10 ∷ []) (replicate 6 1)
     ∷ plans six (30 ∷ 30 ∷ 0 ∷ 0 ∷ 0 ∷ 0 ∷ []) (upFrom 0 6) 60 (up 20 ∷ down 20 ∷ up 40 ∷ down 40 ∷ up 30 ∷ down 30 ∷ up 20 ∷ down 20 ∷ up 10 ∷ down 10 ∷ []) (replicate 6 0)
     ∷ []))
-unfolding plans blank run times keep allOf member first same upFrom bits whole linksOf startsFrom allWays draw sum amounts totalMix total
+unfolding plans unplanned run times keep allOf member first same upFrom bits whole linksOf startsFrom allWays draw sum amounts totalMix total
     edgesOf edge adjust chosen trade meet seekTo fastMove eligible fastTurf seekLink seekRow seekNext drainTo drain serve fastPass shareOut deltas planZone
     leadingZeros trailingZeros add sub isum mul div neg round size span climb units odd ofInt ofBits ofFields toBits lt le eq ne
 worked = tt

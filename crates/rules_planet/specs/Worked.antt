@@ -14,7 +14,7 @@ use Rattle.rules_events.specs.Events.{kindOf, fieldsOf, wordsBytes, encode, enc
 use Rattle.rules_events.specs.declared.Event.{Event}
 use Rattle.rules_events.specs.declared.Event.the-variants.{Firelock}
 use Rattle.rules_lent.specs.Lent.{wordsRoom, floatsRoom, firstFailed, refusal, after}
-use Rattle.rules_lent.specs.Worked.{lend, left, unchanged, lessArea}
+use Rattle.rules_lent.specs.Worked.{lend, leaves, unchanged, lessArea}
 use Rattle.rules_walk.specs.Walk.{walkLink, spread, walkNext, walk}
 use Rattle.rules_walk.specs.Visit.{visitPlanet}
 use Rattle.rules_planet.specs.Planet.{planetFrom, planetWalk, planetRoom, planetNumber, planetDone, planetResult}
@@ -23,7 +23,7 @@ use Rattle.rules_planet.specs.Planet.{planetFrom, planetWalk, planetRoom
 unfoldable pub walksPlanet : Board → ℕ → ℕ → List ℕ → ℕ → List Event → Bool
 walksPlanet b limit id gas bytes es =
     let o = planetResult b limit id (lend b (planetRoom b) (whole gas)) in
-    allOf (same (o .answer .number ∷ o .answer .bytes ∷ []) (0 ∷ bytes ∷ []) ∷ left b (planetRoom b) (whole gas) es (o .lent) ∷ [])
+    allOf (same (o .answer .number ∷ o .answer .bytes ∷ []) (0 ∷ bytes ∷ []) ∷ leaves b (planetRoom b) (whole gas) es (o .lent) ∷ [])
 
 -- a call whose area is one byte short: the number, and every lent cell as it was
 unfoldable pub refusesPlanet : Board → List ℕ → ℕ → Bool
@@ -51,7 +51,7 @@ pub worked : T (allOf (
     -- a refusal answers its number
     ∷ refusesPlanet (fork asIs) (1 ∷ 2 ∷ 3 ∷ 4 ∷ []) 7
     ∷ []))
-unfolding walksPlanet refusesPlanet lend left unchanged run times every allOf member first same upFrom finiteSignClear bits whole enabled planetary immutable firelock linksOf rowOf pairwise distinct sizesFit tablesFit rowFits linksFit startsFrom allWays draw amountFits
+unfolding walksPlanet refusesPlanet lend leaves unchanged run times every allOf member first same upFrom finiteSignClear bits whole enabled planetary immutable firelock linksOf rowOf pairwise distinct sizesFit tablesFit rowFits linksFit startsFrom allWays draw amountFits
     kindOf fieldsOf wordsBytes encode encodeAll wordsRoom floatsRoom firstFailed refusal after walkLink spread walkNext walk visitPlanet planetFrom planetWalk planetNumber planetDone planetResult
     add sub isum mul div neg round size span climb units odd ofInt ofBits ofFields toBits lt le eq ne
 worked = tt

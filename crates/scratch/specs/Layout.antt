@@ -66,9 +66,17 @@ startsAt n e = e + e + n + n + n + n + n + n + n + n + n
 abbrev pub zoneNodesAt : ℕ → ℕ → ℕ
 zoneNodesAt n e = e + e + n + n + n + n + n + n + n + n + n + n + 1
 
+-- the most that there are of them
+abbrev pub mostNodes : ℕ → ℕ → ℕ
+mostNodes n e = n + e
+
 -- the zone that has each mixture
 abbrev pub marksAt : ℕ → ℕ → ℕ
 marksAt n e = zoneNodesAt n e + n + e
+
+-- the end of the words, where there are as many mixtures as turfs
+abbrev pub wordsEnd : ℕ → ℕ → ℕ
+wordsEnd n e = marksAt n e + n
 
 -- ---- equalize: floats
 
@@ -94,6 +102,10 @@ liftedAt n e = e + n + n
 -- the zones' totals
 abbrev pub molesAt : ℕ → ℕ → ℕ
 molesAt n e = e + n + n + e
+
+-- the end of the floats
+abbrev pub floatsEnd : ℕ → ℕ → ℕ
+floatsEnd n e = molesAt n e + n
 
 -- ---- the walks: words
 

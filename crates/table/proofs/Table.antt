@@ -11,7 +11,7 @@ use Rattle.rules_mixture.specs.Mixture.{sum, scale, plus, ratio, remove, amount
 use Rattle.rules_events.specs.Events.{kindOf, fieldsOf, sound, wordsBytes, encode, encodeAll, sizeOf, decode, wholeAt, readAt, readNumbers}
 use Rattle.rules_events.specs.Lister.{digits, hex, line, badLine, listReading, listNext, listAll, listing}
 use Rattle.rules_lent.specs.Lent.{wordsRoom, floatsRoom, firstFailed, refusal, after}
-use Rattle.rules_lent.specs.Worked.{lend, left, unchanged}
+use Rattle.rules_lent.specs.Worked.{lend, leaves, unchanged}
 use Rattle.rules_fill.specs.Fill.{insert, endFill, reachLink, expand, pop, popNext, fill}
 use Rattle.rules_plan.specs.Edges.{edgesOf, edge, adjust}
 use Rattle.rules_plan.specs.Plan.{chosen, trade, meet, seekTo, fastMove, eligible, fastTurf, seekLink, seekRow, seekNext, drainTo, drain, serve, fastPass, shareOut, deltas, planZone}
@@ -31,7 +31,7 @@ use Rattle.rules_depressurize.specs.Worked.{depressurizes}
 use Rattle.table.specs.Rows.{marks, rooms, writes, documentRows, misreadRows, ruleRows, refusalRows, rows}
 
 pub table : T (allOf rows)
-unfolding rows documentRows misreadRows ruleRows refusalRows marks rooms writes whole exact lend left unchanged equalizes refused numbers depressurizes walksPlanet
+unfolding rows documentRows misreadRows ruleRows refusalRows marks rooms writes whole exact lend leaves unchanged equalizes refused numbers depressurizes walksPlanet
     run times keep every allOf upFrom member first same finite finiteSignClear bits
     enabled planetary immutable firelock linksOf rowOf pairwise distinct sizesFit tablesFit rowFits linksFit startsFrom allWays draw sharing withGases
     sum scale plus ratio remove amounts change totalMix total moveAir clearAir amountFits

@@ -199,8 +199,8 @@ ruleRows =
     ∷ []
 
 -- what A is lent
-abbrev pub lentA : Lent
-lentA = lend boardA (equalizeRoom boardA) (whole (32 ∷ 16 ∷ []))
+abbrev pub givenA : Lent
+givenA = lend boardA (equalizeRoom boardA) (whole (32 ∷ 16 ∷ []))
 
 -- A with other tables
 abbrev pub tablesA : List ℕ → List ℕ → List ℕ → List ℕ → ℕ → Board
@@ -223,19 +223,19 @@ lentAmounts gas = lend boardA (equalizeRoom boardA) gas
 -- the refusals, each before the next one, and rooms
 unfoldable pub refusalRows : List Bool
 refusalRows =
-    refused (tablesA (10 ∷ 20 ∷ []) (2 ∷ 2 ∷ []) (0 ∷ 1 ∷ 2 ∷ []) (1 ∷ 0 ∷ []) 0) (ask (10 ∷ [])) [] lentA 1
-    ∷ refused (tablesA (20 ∷ 10 ∷ []) (2 ∷ []) (0 ∷ 1 ∷ 2 ∷ []) (1 ∷ 0 ∷ []) 1) (ask (10 ∷ [])) [] lentA 2
-    ∷ refused (tablesA (20 ∷ 20 ∷ []) (2 ∷ 2 ∷ []) (0 ∷ 1 ∷ 2 ∷ []) (0 ∷ 0 ∷ []) 1) (ask (10 ∷ [])) [] lentA 3
-    ∷ refused (tablesA (10 ∷ 20 ∷ []) (2 ∷ 2 ∷ []) (0 ∷ 1 ∷ 2 ∷ []) (0 ∷ 0 ∷ []) 1) (ask (10 ∷ [])) [] lentA 4
+    refused (tablesA (10 ∷ 20 ∷ []) (2 ∷ 2 ∷ []) (0 ∷ 1 ∷ 2 ∷ []) (1 ∷ 0 ∷ []) 0) (ask (10 ∷ [])) [] givenA 1
+    ∷ refused (tablesA (20 ∷ 10 ∷ []) (2 ∷ []) (0 ∷ 1 ∷ 2 ∷ []) (1 ∷ 0 ∷ []) 1) (ask (10 ∷ [])) [] givenA 2
+    ∷ refused (tablesA (20 ∷ 20 ∷ []) (2 ∷ 2 ∷ []) (0 ∷ 1 ∷ 2 ∷ []) (0 ∷ 0 ∷ []) 1) (ask (10 ∷ [])) [] givenA 3
+    ∷ refused (tablesA (10 ∷ 20 ∷ []) (2 ∷ 2 ∷ []) (0 ∷ 1 ∷ 2 ∷ []) (0 ∷ 0 ∷ []) 1) (ask (10 ∷ [])) [] givenA 4
     ∷ refused (tablesA (10 ∷ 20 ∷ []) (2 ∷ 2 ∷ []) (0 ∷ 2 ∷ 2 ∷ []) (1 ∷ 1 ∷ []) 1) (ask (10 ∷ [])) [] (lentAmounts (exact (0x7fc0_0000 ∷ 0 ∷ []))) 4
     ∷ refused boardA (ask (10 ∷ 10 ∷ [])) [] (lentAmounts (exact (0x7f80_0000 ∷ 0 ∷ []))) 5
     ∷ refused boardA (ask (10 ∷ [])) [] (lentAmounts (exact (0x5380_0001 ∷ 0 ∷ []))) 5
     ∷ refused boardA (ask (10 ∷ [])) [] (lentAmounts (exact (0x8000_0000 ∷ 0 ∷ []))) 5
-    ∷ refused boardA (threshold 0xbf00_0000 (ask (10 ∷ []))) [] lentA 5
-    ∷ refused boardA (ask (10 ∷ 10 ∷ [])) [] (lessArea 4 lentA) 6
-    ∷ refused boardA (ask (10 ∷ [])) [] (lessArea 4 lentA) 7
-    ∷ refused boardA (ask (10 ∷ [])) [] (lessWords 4 lentA) 7
-    ∷ refused boardA (ask (10 ∷ [])) [] (lessFloats 4 lentA) 7
+    ∷ refused boardA (threshold 0xbf00_0000 (ask (10 ∷ []))) [] givenA 5
+    ∷ refused boardA (ask (10 ∷ 10 ∷ [])) [] (lessArea 4 givenA) 6
+    ∷ refused boardA (ask (10 ∷ [])) [] (lessArea 4 givenA) 7
+    ∷ refused boardA (ask (10 ∷ [])) [] (lessWords 4 givenA) 7
+    ∷ refused boardA (ask (10 ∷ [])) [] (lessFloats 4 givenA) 7
     ∷ rooms boardA (60 ∷ 12 ∷ 72 ∷ 168 ∷ 24 ∷ [])
     ∷ []
 

@@ -47,10 +47,10 @@ fn row(case: &Case, outcome: &Outcome) -> String {
                 ask.limit,
                 ask.allowance
             );
-            (format!("{record} {}", words(&ask.turns)), "equalizes")
+            (format!("{record} {}", words(&ask.turns)), "equalizesAs")
         }
-        Call::Depressurize(walk) => (format!("{} {}", walk.limit, walk.id), "depressurizes"),
-        Call::PlanetWalk(walk) => (format!("{} {}", walk.limit, walk.id), "walksPlanet"),
+        Call::Depressurize(walk) => (format!("{} {}", walk.limit, walk.id), "depressurizesAs"),
+        Call::PlanetWalk(walk) => (format!("{} {}", walk.limit, walk.id), "walksPlanetAs"),
     };
     let done = outcome.answer[0] == 0;
     let (room, written) = (case.room(), outcome.answer[outcome.answer.len() - 1] as usize);
@@ -85,11 +85,11 @@ pub fn rows(each: u64, seed: u64) -> String {
 use mathlib.Core.List.{{List, [], _∷_}}
 use mathlib.Core.Bool.{{Bool}}
 use Rattle.basics.specs.Floats.{{ofWord}}
-use Rattle.judged.specs.Judge.{{equalizes, depressurizes, walksPlanet}}
+use Rattle.judged.specs.Judge.{{equalizesAs, depressurizesAs, walksPlanetAs}}
 
 -- each call answers and leaves what the Rust does
-unfoldable pub rows : List Bool
-rows =
+unfoldable pub judgedRows : List Bool
+judgedRows =
     {}
     ∷ []
 ",

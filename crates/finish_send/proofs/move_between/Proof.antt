@@ -3,7 +3,7 @@ use mathlib.Core.Path.{refl}
 use native.Mathlib.Omega.{arith}
 use denote.Ref.{now}
 use Rattle.turfs.specs.Tables.{boardAt}
-use Rattle.finish_send.proofs.Edge.{share-same, share-moved}
+use Rattle.finish_send.proofs.Edge.{has-total, share-same, share-moved}
 use borrow.Author.Needs.{needs}
 use Rattle.finish_send.proofs.move_between.Statement.{statement}
 use Rattle.finish_send.proofs.move_between.Tie as tie
@@ -44,7 +44,8 @@ element-copy-out-move-air c = search needs
 move-air-requires : tie.Need-move-air-requires
 move-air-requires c κs =
     let entry = c .before .before .before .before .before .before .before in
-    (entry .pre .mixes, ((holds-of (now (entry .args .gas)) _ _ _ (entry .pre .amounts) (entry .pre .mixes .0), holds-of (now (entry .args .gas)) _ _ _ (entry .pre .amounts) (entry .pre .mixes .1)), c .before .before .if1 .left))
+    let pre = entry .pre .0 in
+    (pre .mixes, ((holds-of (now (entry .args .gas)) _ _ _ (pre .amounts) (pre .mixes .0), holds-of (now (entry .args .gas)) _ _ _ (pre .amounts) (pre .mixes .1)), (c .before .before .if1 .left, λ other e. has-total (boardAt (entry .args .rows) (entry .args .marks) (entry .args .turf .gases)) other (entry .args .turf .row) _ _ e (entry .pre .1))))
 
 same-length : tie.Need-same-length
 same-length c = search needs

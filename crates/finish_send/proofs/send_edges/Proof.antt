@@ -6,12 +6,13 @@ use native.Mathlib.Omega.{arith}
 use borrow.Author.Needs.{needs}
 use Rattle.turfs.specs.Tables.{boardOf}
 use Rattle.finish_send.specs.Areas.{finishAreas}
-use Rattle.finish_send.proofs.Passing.{At, few-links, sent-size, edge-room, short-room, loop-start, send-fits, loop-next, stopped, all-sent}
+use Rattle.finish_send.proofs.Passing.{At, few-links, sent-size, edge-room, total-room, loop-start, send-fits, loop-next, stopped, all-sent}
 use Rattle.finish_send.proofs.send_edges.Statement.{statement}
 use Rattle.finish_send.proofs.send_edges.Tie as tie
 use Rattle.finish_send.proofs.send_edges.Reads as reads
 use Rattle.finish_send.proofs.send_edges.Lts as lts
 use Rattle.finish_send.proofs.is_short.Reads as is-short-reads
+use Rattle.mixture.proofs.total.Reads as total-reads
 use Rattle.finish_send.proofs.next_edge.Reads as next-edge-reads
 use Rattle.finish_send.proofs.send.Reads as send-reads
 use Rattle.scratch.proofs.lifted_at.Reads as lifted-at-reads
@@ -41,74 +42,90 @@ next-edge-requires c κs =
 loop-holds : tie.Need-loop-holds Inv-loop μ-loop
 loop-holds c = loop-start _ _ _ _ _ _ _ _ _ (c .before .before .lifted-at .ensures) (c .before .before .before .before .before .before .before .pre) _ (c .next-edge .ensures)
 
-add-is-short : tie.Need-add-is-short Inv-loop μ-loop
-add-is-short c =
+add-t27 : tie.Need-add-t27 Inv-loop μ-loop
+add-t27 c =
     let entry = c .before .before .before .before .before .before .before .before .before in
-    let e = edge-room _ _ (entry .args .links .stop) _ _ _ _ _ _ (c .before .before .before .before .lifted-at .ensures) (entry .pre) (c .before .loop .k) (c .before .loop .floats) (c .before .loop .inv .made .kept .floats) (c .before .loop .inv .made .high) in omega (arith, e .1 .1 .1, c .loop-test .taken)
+    let lifted-at = c .before .before .before .before .lifted-at in
+    let e = edge-room _ _ (entry .args .links .stop) _ _ _ _ _ _ (lifted-at .ensures) (entry .pre) (c .before .loop .k) (c .before .loop .floats) (c .before .loop .inv .made .kept .floats) (c .before .loop .inv .made .high) in
+    omega (arith, e .1 .1 .1, c .loop-test .taken)
 
-mul-is-short : tie.Need-mul-is-short Inv-loop μ-loop
-mul-is-short c =
+mul-t28 : tie.Need-mul-t28 Inv-loop μ-loop
+mul-t28 c =
     let entry = c .before .before .before .before .before .before .before .before .before in
-    let e = edge-room _ _ (entry .args .links .stop) _ _ _ _ _ _ (c .before .before .before .before .lifted-at .ensures) (entry .pre) (c .before .loop .k) (c .before .loop .floats) (c .before .loop .inv .made .kept .floats) (c .before .loop .inv .made .high) in omega (arith, e .1 .1 .1, c .loop-test .taken)
+    let lifted-at = c .before .before .before .before .lifted-at in
+    let e = edge-room _ _ (entry .args .links .stop) _ _ _ _ _ _ (lifted-at .ensures) (entry .pre) (c .before .loop .k) (c .before .loop .floats) (c .before .loop .inv .made .kept .floats) (c .before .loop .inv .made .high) in
+    omega (arith, e .1 .1 .1, c .loop-test .taken)
 
-slice-read-is-short : tie.Need-slice-read-is-short Inv-loop μ-loop
-slice-read-is-short c =
-    let entry = c .before .before .before .before .before .before .before .before .before .before in
-    let loop = c .before .before .loop in
-    let e = edge-room _ _ (entry .args .links .stop) _ _ _ _ _ _ (c .before .before .before .before .before .lifted-at .ensures) (entry .pre) (loop .k) (loop .floats) (loop .inv .made .kept .floats) (loop .inv .made .high) in omega (arith, e .1 .1 .1, c .before .loop-test .taken)
+slice-read-t30 : tie.Need-slice-read-t30 Inv-loop μ-loop
+slice-read-t30 c =
+    let l = c .before in
+    let entry = l .before .before .before .before .before .before .before .before .before in
+    let lifted-at = l .before .before .before .before .lifted-at in
+    let e = edge-room _ _ (entry .args .links .stop) _ _ _ _ _ _ (lifted-at .ensures) (entry .pre) (l .before .loop .k) (l .before .loop .floats) (l .before .loop .inv .made .kept .floats) (l .before .loop .inv .made .high) in
+    omega (arith, e .1 .1 .1, l .loop-test .taken)
+
+element-copy-out-total : tie.Need-element-copy-out-total Inv-loop μ-loop
+element-copy-out-total c = search needs
+
+total-requires : tie.Need-total-requires Inv-loop μ-loop
+total-requires c κs =
+    let l = c .before .before .before in
+    let entry = l .before .before .before .before .before .before .before .before .before in
+    let lifted-at = l .before .before .before .before .lifted-at in
+    total-room _ _ (entry .args .links .stop) _ _ _ _ _ _ (lifted-at .ensures) (entry .pre) _ (l .before .loop .inv .made .kept)
 
 is-short-requires : tie.Need-is-short-requires Inv-loop μ-loop
-is-short-requires c κs =
-    let entry = c .before .before .before .before .before .before .before .before .before .before .before in
-    short-room _ _ (entry .args .links .stop) _ _ _ _ _ _ (c .before .before .before .before .before .before .lifted-at .ensures) (entry .pre) _ (c .before .before .before .loop .inv .made .kept)
+is-short-requires c κs = search needs
 
 same-length : tie.Need-same-length Inv-loop μ-loop
-same-length c = c .before .before .before .before .before .loop .inv .made .kept .gas
+same-length c = c .before .before .before .before .before .before .before .loop .inv .made .kept .gas
 
 same-length-2 : tie.Need-same-length-2 Inv-loop μ-loop
-same-length-2 c = c .before .before .before .before .before .loop .inv .made .kept .floats
+same-length-2 c = c .before .before .before .before .before .before .before .loop .inv .made .kept .floats
 
 same-length-3 : tie.Need-same-length-3 Inv-loop μ-loop
-same-length-3 c = c .before .before .before .before .before .loop .inv .made .kept .events
+same-length-3 c = c .before .before .before .before .before .before .before .loop .inv .made .kept .events
 
 returns : tie.Need-returns Inv-loop μ-loop
-returns c = stopped _ _ _ _ _ _ _ _ _ (c .before .before .before .before .before .before .before .before .lifted-at .ensures) (c .before .before .before .before .before .before .before .before .before .before .before .before .before .pre) _ _ _ (c .before .before .before .before .before .loop .inv) (c .before .before .before .before .loop-test .taken) (c .if1 .taken) (c .before .is-short .ensures)
+returns c =
+    let l = c .before .before .before .before .before .before in
+    let entry = l .before .before .before .before .before .before .before .before .before in
+    let lifted-at = l .before .before .before .before .lifted-at in
+    stopped _ _ _ _ _ _ _ _ _ (lifted-at .ensures) (entry .pre) _ _ _ _ (l .before .loop .inv) (l .loop-test .taken) (c .before .before .total .ensures _ refl refl) (c .if1 .taken) (c .before .is-short .ensures)
 
 send-requires : tie.Need-send-requires Inv-loop μ-loop
 send-requires c κs =
-    let entry = c .before .before .before .before .before .before .before .before .before .before .before .before .before .before .before .before in
-    let lifted-at = c .before .before .before .before .before .before .before .before .before .before .before .lifted-at in
-    let loop = c .before .before .before .before .before .before .before .before .loop in
-    let loop-test = c .before .before .before .before .before .before .before .loop-test in
-    send-fits _ _ _ _ _ _ _ _ _ (lifted-at .ensures) (entry .pre) _ _ (loop .inv) (loop-test .taken)
+    let l = c .before .before .before .before .before .before .before .before .before in
+    let entry = l .before .before .before .before .before .before .before .before .before in
+    let lifted-at = l .before .before .before .before .lifted-at in
+    (send-fits _ _ _ _ _ _ _ _ _ (lifted-at .ensures) (entry .pre) _ _ (l .before .loop .inv) (l .loop-test .taken), c .before .before .before .before .before .total .ensures _ refl refl)
 
 add-next-edge : tie.Need-add-next-edge Inv-loop μ-loop
 add-next-edge c =
-    let entry = c .before .before .before .before .before .before .before .before .before .before .before .before .before .before .before .before .before .before .before .before .before .before .before in
-    omega (arith, c .before .before .before .before .before .before .before .before .before .before .before .before .before .before .loop-test .taken, few-links _ _ (entry .args .links .stop) _ _ _ _ _ _ (c .before .before .before .before .before .before .before .before .before .before .before .before .before .before .before .before .before .before .lifted-at .ensures) (entry .pre))
+    let l = c .before .before .before .before .before .before .before .before .before .before .before .before .before .before .before .before in
+    let entry = l .before .before .before .before .before .before .before .before .before in
+    let lifted-at = l .before .before .before .before .lifted-at in
+    omega (arith, l .loop-test .taken, few-links _ _ (entry .args .links .stop) _ _ _ _ _ _ (lifted-at .ensures) (entry .pre))
 
 next-edge-requires-2 : tie.Need-next-edge-requires-2 Inv-loop μ-loop
 next-edge-requires-2 c κs =
-    let entry = c .before .before .before .before .before .before .before .before .before .before .before .before .before .before .before .before .before .before .before .before .before .before .before .before in
-    let lifted-at = c .before .before .before .before .before .before .before .before .before .before .before .before .before .before .before .before .before .before .before .lifted-at in
-    let loop = c .before .before .before .before .before .before .before .before .before .before .before .before .before .before .before .before .loop in
-    let loop-test = c .before .before .before .before .before .before .before .before .before .before .before .before .before .before .before .loop-test in
+    let l = c .before .before .before .before .before .before .before .before .before .before .before .before .before .before .before .before .before in
+    let entry = l .before .before .before .before .before .before .before .before .before in
+    let lifted-at = l .before .before .before .before .lifted-at in
+    let loop = l .before .loop in
     let send = c .before .before .before .before .before .before .before .send in
-    edge-room _ _ (entry .args .links .stop) _ _ _ _ _ _ (lifted-at .ensures) (entry .pre) (loop .k + 1) (send .last .1 .1 .1 .1 .1 .1 .1 .0) (sent-size (send .ensures) ∙ loop .inv .made .kept .floats) (omega (arith, loop-test .taken))
+    edge-room _ _ (entry .args .links .stop) _ _ _ _ _ _ (lifted-at .ensures) (entry .pre) (loop .k + 1) (send .last .1 .1 .1 .1 .1 .1 .1 .0) (sent-size (send .ensures) ∙ loop .inv .made .kept .floats) (omega (arith, l .loop-test .taken))
 
 loop-less : tie.Need-loop-less Inv-loop μ-loop
-loop-less c = omega (arith, c .next-edge2 .ensures .low, c .before .before .before .before .before .before .before .before .before .before .before .before .before .before .before .before .loop-test .taken)
+loop-less c = omega (arith, c .next-edge2 .ensures .low, c .before .before .before .before .before .before .before .before .before .before .before .before .before .before .before .before .before .before .loop-test .taken)
 
 loop-again : tie.Need-loop-again Inv-loop μ-loop
 loop-again c =
-    let entry = c .before .before .before .before .before .before .before .before .before .before .before .before .before .before .before .before .before .before .before .before .before .before .before .before .before in
-    let lifted-at = c .before .before .before .before .before .before .before .before .before .before .before .before .before .before .before .before .before .before .before .before .lifted-at in
-    let loop = c .before .before .before .before .before .before .before .before .before .before .before .before .before .before .before .before .before .loop in
-    let loop-test = c .before .before .before .before .before .before .before .before .before .before .before .before .before .before .before .before .loop-test in
-    let is-short = c .before .before .before .before .before .before .before .before .before .before .before .before .before .is-short in
-    let if1 = c .before .before .before .before .before .before .before .before .before .before .before .before .if1 in
-    let send = c .before .before .before .before .before .before .before .before .send in
-    loop-next _ _ _ _ _ _ _ _ _ (lifted-at .ensures) (entry .pre) _ _ _ _ _ (loop .inv) (loop-test .taken) (if1 .left) (is-short .ensures) (send .ensures) (c .next-edge2 .ensures)
+    let l = c .before .before .before .before .before .before .before .before .before .before .before .before .before .before .before .before .before .before in
+    let entry = l .before .before .before .before .before .before .before .before .before in
+    let lifted-at = l .before .before .before .before .lifted-at in
+    let asked = c .before .before .before .before .before .before .before .before .before .before .before .before .before .before in
+    loop-next _ _ _ _ _ _ _ _ _ (lifted-at .ensures) (entry .pre) _ _ _ _ _ _ (l .before .loop .inv) (l .loop-test .taken) (asked .total .ensures _ refl refl) (c .before .before .before .before .before .before .before .before .before .before .before .before .if1 .left) (c .before .before .before .before .before .before .before .before .before .before .before .before .before .is-short .ensures) (c .before .before .before .before .before .before .before .before .send .ensures) (c .next-edge2 .ensures)
 
 same-length-4 : tie.Need-same-length-4 Inv-loop μ-loop
 same-length-4 c = c .before .loop .inv .made .kept .gas
@@ -133,9 +150,11 @@ send-edges-spec =
     lifted-at-requires
     next-edge-requires
     loop-holds
-    add-is-short
-    mul-is-short
-    slice-read-is-short
+    add-t27
+    mul-t28
+    slice-read-t30
+    element-copy-out-total
+    total-requires
     is-short-requires
     same-length
     same-length-2

@@ -2,7 +2,7 @@
 use mathlib.Core.Path.{refl}
 use native.Mathlib.Omega.{arith}
 use denote.Ref.{now}
-use Rattle.finish_turf.proofs.Turf.{links-room, clear-room, saved-size, quiet-sent, lifted-going, first-sent}
+use Rattle.finish_turf.proofs.Turf.{links-room, clear-room, quiet-sent, lifted-going, first-sent}
 use borrow.Author.Needs.{needs}
 use Rattle.finish_turf.proofs.send_first.Statement.{statement}
 use Rattle.finish_turf.proofs.send_first.Tie as tie
@@ -10,7 +10,7 @@ use Rattle.finish_turf.proofs.send_first.Reads as reads
 use Rattle.finish_turf.proofs.send_first.Lts as lts
 use Rattle.finish_send.proofs.clear_weights.Reads as clear-weights-reads
 use Rattle.finish_send.proofs.next_edge.Reads as next-edge-reads
-use Rattle.finish_send.proofs.save.Reads as save-reads
+use Rattle.finish_send.proofs.lift.Reads as lift-reads
 use Rattle.finish_send.proofs.send_edges.Reads as send-edges-reads
 use Rattle.scratch.proofs.lifted_at.Reads as lifted-at-reads
 use Rattle.turfs.proofs.links_of.Reads as links-of-reads
@@ -61,79 +61,36 @@ element-copy-out-lifted-at-2 c = search needs
 lifted-at-requires : tie.Need-lifted-at-requires
 lifted-at-requires c κs = search needs
 
-save-requires : tie.Need-save-requires
-save-requires c κs =
+lift-requires : tie.Need-lift-requires
+lift-requires c κs =
     let entry = c .before .before .before .before .before .before .before .before .before .before .before in
     let links-of = c .before .before .before .before .before .links-of in
-    let lifted-at = c .before .lifted-at in
-    links-room _ _ _ _ _ (entry .pre) _ _ _ (lifted-at .ensures) (links-of .ensures .0) (links-of .ensures .1) (now (entry .args .floats)) refl
-
-clear-weights-requires-2 : tie.Need-clear-weights-requires-2
-clear-weights-requires-2 c κs =
-    let entry = c .before .before .before .before .before .before .before .before .before .before .before .before .before .before .before in
-    let links-of = c .before .before .before .before .before .before .before .before .before .links-of in
-    let lifted-at = c .before .before .before .before .before .lifted-at in
-    let save = c .before .before .before .save in
-    clear-room _ _ _ _ _ (entry .pre) _ _ _ (lifted-at .ensures) (links-of .ensures .0) (links-of .ensures .1) (save .last .1 .1 .1 .1 .1 .0) (saved-size _ _ _ _ _ (entry .pre) _ _ _ (lifted-at .ensures) (links-of .ensures .0) (links-of .ensures .1) _ (save .ensures))
+    links-room _ _ _ _ _ (entry .pre) _ _ _ (c .before .lifted-at .ensures) (links-of .ensures .0) (links-of .ensures .1) (now (entry .args .floats)) refl
 
 send-edges-requires : tie.Need-send-edges-requires
 send-edges-requires c κs =
-    let entry = c .before .before .before .before .before .before .before .before .before .before .before .before .before .before .before .before .before .before .before .before .before in
-    let links-of = c .before .before .before .before .before .before .before .before .before .before .before .before .before .before .before .links-of in
-    let next-edge = c .before .before .before .before .before .before .before .before .before .before .before .before .before .next-edge in
-    let if1 = c .before .before .before .before .before .before .before .before .before .before .before .before .if1 in
-    let lifted-at = c .before .before .before .before .before .before .before .before .before .before .before .lifted-at in
-    let save = c .before .before .before .before .before .before .before .before .before .save in
-    let clear-weights2 = c .before .before .before .before .before .clear-weights2 in
-    lifted-going _ _ _ _ _ (entry .pre) _ _ _ (lifted-at .ensures) (links-of .ensures .0) (links-of .ensures .1) _ (next-edge .ensures) (if1 .left) _ _ (save .ensures) (clear-weights2 .ensures)
-
-same-length-2 : tie.Need-same-length-2
-same-length-2 c =
-    let entry = c .before .before .before .before .before .before .before .before .before .before .before .before .before .before .before .before .before .before .before .before .before .before .before .before .before .before .before .before in
-    let links-of = c .before .before .before .before .before .before .before .before .before .before .before .before .before .before .before .before .before .before .before .before .before .before .links-of in
-    let next-edge = c .before .before .before .before .before .before .before .before .before .before .before .before .before .before .before .before .before .before .before .before .next-edge in
-    let if1 = c .before .before .before .before .before .before .before .before .before .before .before .before .before .before .before .before .before .before .before .if1 in
-    let lifted-at = c .before .before .before .before .before .before .before .before .before .before .before .before .before .before .before .before .before .before .lifted-at in
-    let save = c .before .before .before .before .before .before .before .before .before .before .before .before .before .before .before .before .save in
-    let clear-weights2 = c .before .before .before .before .before .before .before .before .before .before .before .before .clear-weights2 in
-    let send-edges = c .before .before .before .before .before .before .send-edges in
-    first-sent _ _ _ _ _ (entry .pre) _ _ _ (lifted-at .ensures) (links-of .ensures .0) (links-of .ensures .1) _ (next-edge .ensures) (if1 .left) _ _ (save .ensures) (clear-weights2 .ensures) _ _ (send-edges .ensures) .kept .gas
-
-same-length-3 : tie.Need-same-length-3
-same-length-3 c =
-    let entry = c .before .before .before .before .before .before .before .before .before .before .before .before .before .before .before .before .before .before .before .before .before .before .before .before .before .before .before .before in
-    let links-of = c .before .before .before .before .before .before .before .before .before .before .before .before .before .before .before .before .before .before .before .before .before .before .links-of in
-    let next-edge = c .before .before .before .before .before .before .before .before .before .before .before .before .before .before .before .before .before .before .before .before .next-edge in
-    let if1 = c .before .before .before .before .before .before .before .before .before .before .before .before .before .before .before .before .before .before .before .if1 in
-    let lifted-at = c .before .before .before .before .before .before .before .before .before .before .before .before .before .before .before .before .before .before .lifted-at in
-    let save = c .before .before .before .before .before .before .before .before .before .before .before .before .before .before .before .before .save in
-    let clear-weights2 = c .before .before .before .before .before .before .before .before .before .before .before .before .clear-weights2 in
-    let send-edges = c .before .before .before .before .before .before .send-edges in
-    first-sent _ _ _ _ _ (entry .pre) _ _ _ (lifted-at .ensures) (links-of .ensures .0) (links-of .ensures .1) _ (next-edge .ensures) (if1 .left) _ _ (save .ensures) (clear-weights2 .ensures) _ _ (send-edges .ensures) .kept .floats
-
-same-length-4 : tie.Need-same-length-4
-same-length-4 c =
-    let entry = c .before .before .before .before .before .before .before .before .before .before .before .before .before .before .before .before .before .before .before .before .before .before .before .before .before .before .before .before in
-    let links-of = c .before .before .before .before .before .before .before .before .before .before .before .before .before .before .before .before .before .before .before .before .before .before .links-of in
-    let next-edge = c .before .before .before .before .before .before .before .before .before .before .before .before .before .before .before .before .before .before .before .before .next-edge in
-    let if1 = c .before .before .before .before .before .before .before .before .before .before .before .before .before .before .before .before .before .before .before .if1 in
-    let lifted-at = c .before .before .before .before .before .before .before .before .before .before .before .before .before .before .before .before .before .before .lifted-at in
-    let save = c .before .before .before .before .before .before .before .before .before .before .before .before .before .before .before .before .save in
-    let clear-weights2 = c .before .before .before .before .before .before .before .before .before .before .before .before .clear-weights2 in
-    let send-edges = c .before .before .before .before .before .before .send-edges in
-    first-sent _ _ _ _ _ (entry .pre) _ _ _ (lifted-at .ensures) (links-of .ensures .0) (links-of .ensures .1) _ (next-edge .ensures) (if1 .left) _ _ (save .ensures) (clear-weights2 .ensures) _ _ (send-edges .ensures) .kept .events
+    let l = c .before .before .before .before .before in
+    let at = l .before .before in
+    let links-of = at .before .before .before .before .links-of in
+    let entry = at .before .before .before .before .before .before .before .before .before .before in
+    lifted-going _ _ _ _ _ (entry .pre) _ _ _ (at .lifted-at .ensures) (links-of .ensures .0) (links-of .ensures .1) _ (at .before .before .next-edge .ensures) (at .before .if1 .left) _ (l .lift .ensures)
 
 returns-2 : tie.Need-returns-2
 returns-2 c =
-    let entry = c .before .before .before .before .before .before .before .before .before .before .before .before .before .before .before .before .before .before .before .before .before .before .before .before .before .before .before .before in
-    let links-of = c .before .before .before .before .before .before .before .before .before .before .before .before .before .before .before .before .before .before .before .before .before .before .links-of in
-    let next-edge = c .before .before .before .before .before .before .before .before .before .before .before .before .before .before .before .before .before .before .before .before .next-edge in
-    let if1 = c .before .before .before .before .before .before .before .before .before .before .before .before .before .before .before .before .before .before .before .if1 in
-    let lifted-at = c .before .before .before .before .before .before .before .before .before .before .before .before .before .before .before .before .before .before .lifted-at in
-    let save = c .before .before .before .before .before .before .before .before .before .before .before .before .before .before .before .before .save in
-    let clear-weights2 = c .before .before .before .before .before .before .before .before .before .before .before .before .clear-weights2 in
-    let send-edges = c .before .before .before .before .before .before .send-edges in
-    first-sent _ _ _ _ _ (entry .pre) _ _ _ (lifted-at .ensures) (links-of .ensures .0) (links-of .ensures .1) _ (next-edge .ensures) (if1 .left) _ _ (save .ensures) (clear-weights2 .ensures) _ _ (send-edges .ensures)
+    let l = c .before .before .before .before .before .before .before .before .before .before .before .before in
+    let at = l .before .before in
+    let links-of = at .before .before .before .before .links-of in
+    let entry = at .before .before .before .before .before .before .before .before .before .before in
+    first-sent _ _ _ _ _ (entry .pre) _ _ _ (at .lifted-at .ensures) (links-of .ensures .0) (links-of .ensures .1) _ (at .before .before .next-edge .ensures) (at .before .if1 .left) _ (l .lift .ensures) _ _ (c .before .before .before .before .before .before .send-edges .ensures)
+
+same-length-2 : tie.Need-same-length-2
+same-length-2 c = returns-2 c .kept .gas
+
+same-length-3 : tie.Need-same-length-3
+same-length-3 c = returns-2 c .kept .floats
+
+same-length-4 : tie.Need-same-length-4
+same-length-4 c = returns-2 c .kept .events
 
 pub send-first-spec : {M : Type 1} → statement M
 send-first-spec =
@@ -148,8 +105,7 @@ send-first-spec =
     element-copy-out-lifted-at
     element-copy-out-lifted-at-2
     lifted-at-requires
-    save-requires
-    clear-weights-requires-2
+    lift-requires
     send-edges-requires
     same-length-2
     same-length-3

@@ -7,9 +7,6 @@ use borrow.Author.Needs.{needs}
 use Rattle.mixture.proofs.move_air.Statement.{statement}
 use Rattle.mixture.proofs.move_air.Tie as tie
 
-total-mix-requires : tie.Need-total-mix-requires
-total-mix-requires c κs = search needs
-
 ratio-requires : tie.Need-ratio-requires
 ratio-requires c κs = search needs
 
@@ -26,11 +23,12 @@ returns : tie.Need-returns
 returns c =
     λ b i e.
     let share = c .before .before .before .before .before .before .before .before .ratio in
-    let a = c .before .before .before .before .before .before .before .before .before .before .before .before .before .args in
-    let p = c .before .before .before .before .before .before .before .before .before .before .before .before .before .pre in
-    moved b (a .giver) (a .taker) (p .1 .1) (now (a .gas)) (a .gases) e (p .1 .0 .0) (p .1 .0 .1) (a .amount) (share .result)
-    (share .ensures ∙ ap (ratio (a .amount)) (c .before .before .before .before .before .before .before .before .before .total-mix .ensures b e))
+    let entry = c .before .before .before .before .before .before .before .before .before .before .before in
+    let a = entry .args in
+    let p = entry .pre in
+    moved b (a .giver) (a .taker) (p .1 .1 .0) (now (a .gas)) (a .gases) e (p .1 .0 .0) (p .1 .0 .1) (a .amount) (share .result)
+    (share .ensures ∙ ap (ratio (a .amount)) (p .1 .1 .1 b e))
     _ _ (c .before .before .before .before .before .before .merge .ensures b i e) (c .before .before .remove .ensures b i e)
 
 pub move-air-spec : {M : Type 1} → statement M
-move-air-spec = tie.close (tie.spec total-mix-requires ratio-requires merge-requires remove-requires same-length returns)
+move-air-spec = tie.close (tie.spec ratio-requires merge-requires remove-requires same-length returns)

@@ -1,13 +1,13 @@
 -- A turf that doesn't want leaves all as it is, so its trade may be left out. Assumes nothing.
 use native.Mathlib.Omega.{arith}
-use mathlib.Core.Path.{_∙_, sym}
+use mathlib.Core.Path.{refl, _∙_, sym}
 use Rattle.plan_trade.proofs.Trades.{wanted, met-some, met-none}
 use borrow.Author.Needs.{needs}
 use Rattle.plan_trade.proofs.meet.Statement.{statement}
 use Rattle.plan_trade.proofs.meet.Tie as tie
 use Rattle.plan_trade.proofs.point.Reads as point-reads
 use Rattle.plan_trade.proofs.trade.Reads as trade-reads
-use Rattle.plan_tests.proofs.wants.Reads as wants-reads
+use Rattle.plan_trade.proofs.wants_at.Reads as wants-at-reads
 
 add-point : tie.Need-add-point
 add-point c = search needs
@@ -15,17 +15,10 @@ add-point c = search needs
 point-requires : tie.Need-point-requires
 point-requires c κs = search needs
 
-delta-at-requires : tie.Need-delta-at-requires
-delta-at-requires c κs = (omega (arith, c .before .before .before .before .before .before .before .before .before .pre .0 .turfs, c .before .before .before .before .before .before .before .before .before .pre .1 .1 .0), c .before .before .before .before .before .before .before .before .before .pre .0 .links)
-
-mul-wants : tie.Need-mul-wants
-mul-wants c = omega (arith, c .delta-at .ensures, c .before .before .before .before .before .before .before .before .before .before .pre .0 .turfs, c .before .before .before .before .before .before .before .before .before .before .pre .0 .links, c .before .before .before .before .before .before .before .before .before .before .pre .1 .1 .0)
-
-slice-read-wants : tie.Need-slice-read-wants
-slice-read-wants c = omega (arith, c .before .delta-at .ensures, c .before .before .before .before .before .before .point .ensures .fit .floats, c .before .before .before .before .before .before .before .before .before .before .before .pre .1 .1 .0)
-
-wants-requires : tie.Need-wants-requires
-wants-requires c κs = search needs
+wants-at-requires : tie.Need-wants-at-requires
+wants-at-requires c κs =
+    let pre = c .before .before .before .before .before .before .before .before .before .before .pre in
+    (omega (arith, pre .0 .turfs, pre .1 .1 .0), (pre .0 .links, omega (arith, c .before .before .before .before .before .point .ensures .fit .floats, pre .1 .1 .0)))
 
 trade-requires : tie.Need-trade-requires
 trade-requires c κs = search needs
@@ -37,10 +30,10 @@ same-length-2 : tie.Need-same-length-2
 same-length-2 c = search needs
 
 returns : tie.Need-returns
-returns c = let entry = c .before .before .before .before .before .before .before .before .before .before .before .before .before .before .before .before .before .before .before .before in
-    let point = c .before .before .before .before .before .before .before .before .before .before .before .before .before .before .before .point in (
+returns c = let entry = c .before .before .before .before .before .before .before .before .before .before .before .before .before .before .before .before .before .before .before in
+    let point = c .before .before .before .before .before .before .before .before .before .before .before .before .before .before .point in (
       met-some _ _ _ _ _ _ (entry .pre .1 .1 .0) (point .ensures) (c .before .before .before .before .trade .ensures),
-      wanted _ _ (entry .args .g) (entry .args .r) _ (entry .args .side) (entry .pre .1 .1 .0) (point .ensures) _ (c .before .before .before .before .before .before .before .before .before .before .delta-at .ensures) (c .before .before .before .before .before .before .before .before .wants .ensures),
+      wanted _ _ (entry .args .g) (entry .args .r) _ (entry .args .side) (entry .pre .1 .1 .0) (point .ensures) _ refl (c .before .before .before .before .before .before .before .before .wants-at .ensures),
     )
 
 same-length-3 : tie.Need-same-length-3
@@ -50,10 +43,10 @@ same-length-4 : tie.Need-same-length-4
 same-length-4 c = search needs
 
 returns-2 : tie.Need-returns-2
-returns-2 c = let entry = c .before .before .before .before .before .before .before .before .before .before .before .before .before in
-    let point = c .before .before .before .before .before .before .before .before .point in (
-      met-none _ _ _ _ _ _ (entry .pre .1 .1 .0) (point .ensures) _ (c .before .before .before .delta-at .ensures) (sym (c .before .wants .ensures) ∙ c .if1 .left),
-      wanted _ _ (entry .args .g) (entry .args .r) _ (entry .args .side) (entry .pre .1 .1 .0) (point .ensures) _ (c .before .before .before .delta-at .ensures) (c .before .wants .ensures),
+returns-2 c = let entry = c .before .before .before .before .before .before .before .before .before .before .before .before in
+    let point = c .before .before .before .before .before .before .before .point in (
+      met-none _ _ _ _ _ _ (entry .pre .1 .1 .0) (point .ensures) _ refl (sym (c .before .wants-at .ensures) ∙ c .if1 .left),
+      wanted _ _ (entry .args .g) (entry .args .r) _ (entry .args .side) (entry .pre .1 .1 .0) (point .ensures) _ refl (c .before .wants-at .ensures),
     )
 
 pub meet-spec : {M : Type 1} → statement M
@@ -62,10 +55,7 @@ meet-spec =
     (tie.spec
     add-point
     point-requires
-    delta-at-requires
-    mul-wants
-    slice-read-wants
-    wants-requires
+    wants-at-requires
     trade-requires
     same-length
     same-length-2

@@ -76,40 +76,32 @@ cast-row c =
     let entry = c .before .before .before .before .before .before .before .before .before .before .before in
     omega (arith, entry .pre .1 .ends (entry .args .k) (omega (arith, entry .pre .1 .within)), entry .pre .0 .seeking .fit .turfs)
 
-delta-at-requires : tie.Need-delta-at-requires
-delta-at-requires c κs =
-    let entry = c .before .before .before .before .before .before .before .before .before .before .before in
-    (omega (arith, entry .pre .1 .ends (entry .args .k) (omega (arith, entry .pre .1 .within)), entry .pre .0 .seeking .fit .turfs), entry .pre .0 .seeking .fit .links)
-
-mul-wants : tie.Need-mul-wants
-mul-wants c =
+wants-at-requires : tie.Need-wants-at-requires
+wants-at-requires c κs =
     let entry = c .before .before .before .before .before .before .before .before .before .before .before .before in
-    omega (arith, c .delta-at .ensures, entry .pre .1 .ends (entry .args .k) (omega (arith, entry .pre .1 .within)), entry .pre .0 .seeking .fit .links, entry .pre .0 .seeking .fit .turfs)
-
-slice-read-wants : tie.Need-slice-read-wants
-slice-read-wants c =
-    let entry = c .before .before .before .before .before .before .before .before .before .before .before .before .before in
-    omega (arith, c .before .delta-at .ensures, entry .pre .1 .ends (entry .args .k) (omega (arith, entry .pre .1 .within)), entry .pre .0 .seeking .fit .floats)
-
-wants-requires : tie.Need-wants-requires
-wants-requires c κs = search needs
+    let fit = entry .pre .0 .seeking .fit in
+    let ha = entry .pre .1 .ends (entry .args .k) (omega (arith, entry .pre .1 .within)) in
+    (omega (arith, ha, fit .turfs), (fit .links, omega (arith, ha, fit .floats)))
 
 same-length-2 : tie.Need-same-length-2
 same-length-2 c = search needs
+
+same-length-3 : tie.Need-same-length-3
+same-length-3 c = search needs
 
 returns-3 : tie.Need-returns-3
 returns-3 c = (λ _. refl, λ q. absurd (true≢false q))
 
 insert-requires : tie.Need-insert-requires
 insert-requires c κs =
-    let entry = c .before .before .before .before .before .before .before .before .before .before .before .before .before .before .before .before in
-    let queue-at = c .before .before .before .before .before .before .before .before .before .before .queue-at in
-    let places-at = c .before .before .before .before .before .before .before .before .before .places-at in
+    let entry = c .before .before .before .before .before .before .before .before .before .before .before .before .before .before .before in
+    let queue-at = c .before .before .before .before .before .before .before .before .before .queue-at in
+    let places-at = c .before .before .before .before .before .before .before .before .places-at in
     let hk : entry .args .k < entry .args .hand .e = omega (arith, entry .pre .1 .within) in
     let ha = entry .pre .1 .ends (entry .args .k) hk in
     let l = link-room (entry .args .hand .side) _ (entry .args .r) (entry .args .k) _ (entry .args .hand .z) _ _ _ _ _ (entry .pre .0 .seeking) hk ha ha _ _ (queue-at .ensures)
-    (places-at .ensures) (c .before .before .before .before .before .before .before .before .before .before .before .if1 .left) (sym (c .before .before .before .before .before .if2 .left)
-    ∙ c .before .before .before .before .before .before .contains .ensures) in (
+    (places-at .ensures) (c .before .before .before .before .before .before .before .before .before .before .if1 .left) (sym (c .before .before .before .before .if2 .left)
+    ∙ c .before .before .before .before .before .contains .ensures) in (
       omega (arith, l, queue-at .ensures, entry .pre .0 .seeking .fit .words),
       (
         omega (arith, l, places-at .ensures, entry .pre .0 .seeking .fit .words, ha),
@@ -123,68 +115,69 @@ insert-requires c κs =
 
 cast-words : tie.Need-cast-words
 cast-words c =
-    let entry = c .before .before .before .before .before .before .before .before .before .before .before .before .before .before .before .before .before .before .before in
+    let entry = c .before .before .before .before .before .before .before .before .before .before .before .before .before .before .before .before .before .before in
     omega (arith, entry .pre .1 .within, entry .pre .0 .seeking .fit .links)
 
 via-at-requires : tie.Need-via-at-requires
 via-at-requires c κs =
-    let entry = c .before .before .before .before .before .before .before .before .before .before .before .before .before .before .before .before .before .before .before in
+    let entry = c .before .before .before .before .before .before .before .before .before .before .before .before .before .before .before .before .before .before in
     (omega (arith, entry .pre .1 .ends (entry .args .k) (omega (arith, entry .pre .1 .within)), entry .pre .0 .seeking .fit .turfs), entry .pre .0 .seeking .fit .links)
 
 mul-words : tie.Need-mul-words
 mul-words c =
-    let entry = c .before .before .before .before .before .before .before .before .before .before .before .before .before .before .before .before .before .before .before .before in
+    let entry = c .before .before .before .before .before .before .before .before .before .before .before .before .before .before .before .before .before .before .before in
     omega (arith, c .via-at .ensures, entry .pre .1 .ends (entry .args .k) (omega (arith, entry .pre .1 .within)), entry .pre .0 .seeking .fit .links, entry .pre .0 .seeking .fit .turfs)
 
 slice-write-words : tie.Need-slice-write-words
 slice-write-words c =
-    let entry = c .before .before .before .before .before .before .before .before .before .before .before .before .before .before .before .before .before .before .before .before in
+    let entry = c .before .before .before .before .before .before .before .before .before .before .before .before .before .before .before .before .before .before .before in
     omega (arith, c .via-at .ensures, entry .pre .1 .ends (entry .args .k) (omega (arith, entry .pre .1 .within)), entry .pre .0 .seeking .fit .words, c .before .before .before .insert .kept .1 .1 .1 .1 .0)
 
 add-point : tie.Need-add-point
 add-point c =
-    let entry = c .before .before .before .before .before .before .before .before .before .before .before .before .before .before .before .before .before .before .before .before in
+    let entry = c .before .before .before .before .before .before .before .before .before .before .before .before .before .before .before .before .before .before .before in
     omega (arith, entry .pre .1 .row, entry .pre .0 .seeking .fit .turfs)
 
 point-requires : tie.Need-point-requires
-point-requires c κs = let entry = c .before .before .before .before .before .before .before .before .before .before .before .before .before .before .before .before .before .before .before .before .before .before in
+point-requires c κs = let entry = c .before .before .before .before .before .before .before .before .before .before .before .before .before .before .before .before .before .before .before .before .before in
     let hk : entry .args .k < entry .args .hand .e = omega (arith, entry .pre .1 .within) in
     let ha = entry .pre .1 .ends (entry .args .k) hk in (
-      push-fit (entry .args .hand .side) _ (entry .args .r) (entry .args .k) _ (entry .args .hand .z) _ _ _ _ _ (entry .pre .0 .seeking) hk ha ha _ _ (c .before .before .before .before .before .before .before .before .before .before .before .before .before .before .before .before .queue-at .ensures)
-          (c .before .before .before .before .before .before .before .before .before .before .before .before .before .before .before .places-at .ensures) (c .before .before .before .before .before .before .before .before .before .before .before .before .before .before .before .before .before .if1 .left)
-          (sym (c .before .before .before .before .before .before .before .before .before .before .before .if2 .left) ∙ c .before .before .before .before .before .before .before .before .before .before .before .before .contains .ensures) _ (c .before .before .before .before .before .insert .ensures) _ (c .before .before .via-at .ensures),
+      push-fit (entry .args .hand .side) _ (entry .args .r) (entry .args .k) _ (entry .args .hand .z) _ _ _ _ _ (entry .pre .0 .seeking) hk ha ha _ _ (c .before .before .before .before .before .before .before .before .before .before .before .before .before .before .before .queue-at .ensures)
+          (c .before .before .before .before .before .before .before .before .before .before .before .before .before .before .places-at .ensures) (c .before .before .before .before .before .before .before .before .before .before .before .before .before .before .before .before .if1 .left)
+          (sym (c .before .before .before .before .before .before .before .before .before .before .if2 .left) ∙ c .before .before .before .before .before .before .before .before .before .before .before .contains .ensures) _ (c .before .before .before .before .before .insert .ensures) _ (c .before .before .via-at .ensures),
       ha,
     )
 
-add-t26 : tie.Need-add-t26
-add-t26 c = let entry = c .before .before .before .before .before .before .before .before .before .before .before .before .before .before .before .before .before .before .before .before .before .before .before .before .before .before .before in
+add-t31 : tie.Need-add-t31
+add-t31 c =
+    let entry = c .before .before .before .before .before .before .before .before .before .before .before .before .before .before .before .before .before .before .before .before .before .before .before .before .before .before in
     let hk : entry .args .k < entry .args .hand .e = omega (arith, entry .pre .1 .within) in
     let ha = entry .pre .1 .ends (entry .args .k) hk in
     let l = link-room (entry .args .hand .side) _ (entry .args .r) (entry .args .k) _ (entry .args .hand .z) _ _ _ _ _ (entry .pre .0 .seeking) hk ha ha _ _
-    (c .before .before .before .before .before .before .before .before .before .before .before .before .before .before .before .before .before .before .before .before .before .queue-at .ensures)
-    (c .before .before .before .before .before .before .before .before .before .before .before .before .before .before .before .before .before .before .before .before .places-at .ensures)
-    (c .before .before .before .before .before .before .before .before .before .before .before .before .before .before .before .before .before .before .before .before .before .before .if1 .left)
-    (sym (c .before .before .before .before .before .before .before .before .before .before .before .before .before .before .before .before .if2 .left) ∙ c .before .before .before .before .before .before .before .before .before .before .before .before .before .before .before .before .before .contains .ensures) in
+    (c .before .before .before .before .before .before .before .before .before .before .before .before .before .before .before .before .before .before .before .before .queue-at .ensures)
+    (c .before .before .before .before .before .before .before .before .before .before .before .before .before .before .before .before .before .before .before .places-at .ensures)
+    (c .before .before .before .before .before .before .before .before .before .before .before .before .before .before .before .before .before .before .before .before .before .if1 .left)
+    (sym (c .before .before .before .before .before .before .before .before .before .before .before .before .before .before .before .if2 .left) ∙ c .before .before .before .before .before .before .before .before .before .before .before .before .before .before .before .before .contains .ensures) in
     omega (arith, l, entry .pre .0 .seeking .fit .turfs)
 
-same-length-3 : tie.Need-same-length-3
-same-length-3 c = c .before .before .before .before .point .kept .1 .1 .1 .1 .0 ∙ simp length-set (c .before .before .before .before .before .before .before .before .before .before .insert .kept .1 .1 .1 .1 .0)
-
 same-length-4 : tie.Need-same-length-4
-same-length-4 c = search needs
+same-length-4 c = c .before .before .before .before .point .kept .1 .1 .1 .1 .0 ∙ simp length-set (c .before .before .before .before .before .before .before .before .before .before .insert .kept .1 .1 .1 .1 .0)
+
+same-length-5 : tie.Need-same-length-5
+same-length-5 c = search needs
 
 returns-4 : tie.Need-returns-4
-returns-4 c = let entry = c .before .before .before .before .before .before .before .before .before .before .before .before .before .before .before .before .before .before .before .before .before .before .before .before .before .before .before in
+returns-4 c = let entry = c .before .before .before .before .before .before .before .before .before .before .before .before .before .before .before .before .before .before .before .before .before .before .before .before .before .before in
     let hk : entry .args .k < entry .args .hand .e = omega (arith, entry .pre .1 .within) in
     let ha = entry .pre .1 .ends (entry .args .k) hk in (
       λ q. absurd (true≢false (sym q)),
       λ _. pass-new (entry .args .hand .side) (entry .args .r) (entry .args .k) (entry .args .hand .z) _ _ _ (entry .args .neighbours .now) _ _ (entry .pre .0 .seeking) hk ha _ _
-          (c .before .before .before .before .before .before .before .before .before .before .before .before .before .before .before .before .before .before .before .before .before .queue-at .ensures)
-          (c .before .before .before .before .before .before .before .before .before .before .before .before .before .before .before .before .before .before .before .before .places-at .ensures)
-          (c .before .before .before .before .before .before .before .before .before .before .before .before .before .before .before .before .before .before .before .before .before .before .if1 .left)
-          (sym (c .before .before .before .before .before .before .before .before .before .before .before .before .before .before .before .before .if2 .left) ∙ c .before .before .before .before .before .before .before .before .before .before .before .before .before .before .before .before .before .contains .ensures) _
-          (c .before .before .before .before .before .before .before .before .before .before .before .before .before .before .before .delta-at .ensures)
-          (sym (c .before .before .before .before .before .before .before .before .before .before .before .before .before .wants .ensures) ∙ c .before .before .before .before .before .before .before .before .before .before .before .before .if3 .left) _
+          (c .before .before .before .before .before .before .before .before .before .before .before .before .before .before .before .before .before .before .before .before .queue-at .ensures)
+          (c .before .before .before .before .before .before .before .before .before .before .before .before .before .before .before .before .before .before .before .places-at .ensures)
+          (c .before .before .before .before .before .before .before .before .before .before .before .before .before .before .before .before .before .before .before .before .before .if1 .left)
+          (sym (c .before .before .before .before .before .before .before .before .before .before .before .before .before .before .before .if2 .left) ∙ c .before .before .before .before .before .before .before .before .before .before .before .before .before .before .before .before .contains .ensures) _
+          refl
+          (sym (c .before .before .before .before .before .before .before .before .before .before .before .before .before .wants-at .ensures) ∙ c .before .before .before .before .before .before .before .before .before .before .before .before .if3 .left) _
           (c .before .before .before .before .before .before .before .before .before .before .insert .ensures) _ (c .before .before .before .before .before .before .before .via-at .ensures) _ _ (c .before .before .before .before .point .ensures),
     )
 
@@ -204,11 +197,9 @@ pass-link-spec =
     same-length
     returns-2
     cast-row
-    delta-at-requires
-    mul-wants
-    slice-read-wants
-    wants-requires
+    wants-at-requires
     same-length-2
+    same-length-3
     returns-3
     insert-requires
     cast-words
@@ -217,7 +208,7 @@ pass-link-spec =
     slice-write-words
     add-point
     point-requires
-    add-t26
-    same-length-3
+    add-t31
     same-length-4
+    same-length-5
     returns-4)
