@@ -44,7 +44,7 @@ use Rattle.walk_back.proofs.Signs.{fits-every}
 use Rattle.rules_depressurize.specs.Depressurize.{Depressurized, wayBack, fromWalk, fromRow, depressurize, depressurizeNumber, depressurizeDone, depressurizeResult}
 use Rattle.call_depressurize.specs.Ended.{WalkHeld, Ended, Depressed}
 use Rattle.call_depressurize.specs.declared.Outcome.{Outcome}
-use Rattle.call_depressurize.proofs.Room.{space-walk, depressurize-room}
+use Rattle.laws_depressurize.proofs.Room.{space-walk, depressurize-room}
 
 -- the areas that a call is lent
 abbrev areasOf : Lent → BackAreas

@@ -31,7 +31,7 @@ use Rattle.walk_first.proofs.Does.{none-wrote}
 use Rattle.walk_first.proofs.Whole.{ground-of, bare-ground, gasless}
 use Rattle.rules_planet.specs.Planet.{planetFrom, planetWalk, planetRoom, planetNumber, planetDone, planetResult}
 use Rattle.call_planet_walk.specs.Ready.{Ready}
-use Rattle.call_planet_walk.proofs.Room.{planet-room}
+use Rattle.laws_planet.proofs.Room.{planet-room}
 
 -- ---- the events
 

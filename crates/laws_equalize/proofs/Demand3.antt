@@ -1,49 +1,28 @@
 -- Demand 3: where a call is cancelled or answers apart, two lists of turns come to the same gas, counts and requests and, zone by zone, to the same pressure
 -- records in the same order. A cancelled run has no turns; apart zones share no changeable mixture, so each is finished as if alone. Assumes nothing.
-use mathlib.Core.Path.{_≡_, refl, sym, ap, ap₂, _∙_}
+use mathlib.Core.Path.{_≡_, refl, sym}
 use mathlib.Core.Logic.{_⊎_, inl, inr}
-use mathlib.Core.List.{List, _++_}
+use mathlib.Core.List.{List}
 use mathlib.Core.Bool.{Bool, true, false, cond}
 use Prim.Native.Nat.{ℕ, _+_}
 use native.Mathlib.Nat.{suc-ne-zero}
 use lib.Dec.{T, ltb}
-use lib.ListN.{length, take, drop}
+use lib.ListN.{length}
 use lib.Ieee.{Float}
 use Rattle.rules_board.specs.Board.{Board, mixOf, end}
 use Rattle.turfs.specs.Tables.{Accepted}
-use Rattle.rules_events.specs.Events.{encodeAll}
-use Rattle.rules_events.specs.declared.Event.{Event}
-use Rattle.events.proofs.Compared.{records, requests, requests-same}
+use Rattle.rules_events.specs.Compared.{records, requests}
+use Rattle.events.proofs.Compared.{requests-same}
 use Rattle.events.proofs.Bytes.{same-size}
-use Rattle.events.proofs.ReadAll.{Readable, readAll, read-area}
-use Rattle.rules_lent.specs.Lent.{Lent, Result, after}
+use Rattle.rules_lent.specs.Lent.{Lent, after}
 use Rattle.lent.proofs.Passed.{passed}
-use Rattle.basics.specs.Lists.{All}
 use Rattle.basics.proofs.Lists.{member-map}
 use Rattle.rules_finish.specs.Turns.{nodesAt, nodeCount}
 use Rattle.rules_equalize.specs.Equalize.{Ask, Filled, Equalized, hasMix, apart, bit, fillAll, cancel, planned, played, equalize}
 use Rattle.rules_equalize.specs.Result.{equalizeRoom, equalizeNumber, equalizeDone, equalizeResult}
-use Rattle.rules_equalize.specs.declared.EqualizeAnswer.{EqualizeAnswer}
+use Rattle.rules_equalize.specs.Same.{SameRun, ApartOrCancelled, SameCall}
 use Rattle.laws_equalize.proofs.Apart.{WellFormed, turns-agree}
 use Rattle.laws_equalize.proofs.Ends.{fill-ends}
-
--- ---- what is compared
-
--- every count of an answer
-pub record SameCounts (e f : Equalized) : Type 0 where
-  pub cancelled : e .cancelled ≡ f .cancelled
-  pub processed : e .processed ≡ f .processed
-  pub tests : e .tests ≡ f .tests
-  pub zones : e .zones ≡ f .zones
-  pub apart : e .apart ≡ f .apart
-  pub bytes : length (encodeAll (e .events)) ≡ length (encodeAll (f .events))
-
--- two runs of the definition
-pub record SameRun (e f : Equalized) : Type 0 where
-  pub gas : e .gas ≡ f .gas
-  pub counts : SameCounts e f
-  pub requests : requests (e .events) ≡ requests (f .events)
-  pub records : (z : ℕ) → records z (e .events) ≡ records z (f .events)
 
 same : (e : Equalized) → SameRun e e
 same e = record {
@@ -52,10 +31,6 @@ same e = record {
   requests = refl;
   records = λ z. refl;
 }
-
--- the run is cancelled, or answers apart
-abbrev pub ApartOrCancelled : Equalized → Type 0
-ApartOrCancelled e = (e .cancelled ≡ 1) ⊎ (e .apart ≡ 1)
 
 -- ---- the definition
 
@@ -109,18 +84,6 @@ module _ (b : Board) (gas : List Float) (a : Accepted b (length gas)) (q : Ask) 
 
 -- ---- the whole call
 
--- two calls lent the same areas l, which wrote the events es and fs
-pub record SameCall (l : Lent) (x y : Result EqualizeAnswer) (es fs : List Event) : Type 0 where
-  pub counts : x .answer ≡ y .answer
-  pub gas : x .lent .gas ≡ y .lent .gas
-  pub words : x .lent .words ≡ y .lent .words
-  pub floats : x .lent .floats ≡ y .lent .floats
-  -- each area: the bytes of its events, as many as the answer says, and the rest as it was lent
-  pub bytes : (x .answer .bytes ≡ length (encodeAll es)) × (y .answer .bytes ≡ length (encodeAll fs))
-  pub areas : (x .lent .area ≡ encodeAll es ++ drop (x .answer .bytes) (l .area)) × (y .lent .area ≡ encodeAll fs ++ drop (y .answer .bytes) (l .area))
-  pub requests : requests es ≡ requests fs
-  pub records : (z : ℕ) → records z es ≡ records z fs
-
 module _ (b : Board) (q : Ask) (turns turns′ : List ℕ) (l : Lent) where
   -- a call that was done answers what the definition's run does
   done : (ts : List ℕ) → equalizeNumber b q ts l ≡ 0 → equalizeResult b q ts l ≡ equalizeDone b q ts l (equalize b (l .gas) q ts)
@@ -159,24 +122,3 @@ module _ (b : Board) (q : Ask) (turns turns′ : List ℕ) (l : Lent) where
         requests = r .requests;
         records = r .records;
       })
-
--- ---- read off the bytes
-
--- the events that a reader finds in what a call wrote
-abbrev pub readEvents : Result EqualizeAnswer → List Event
-readEvents x = readAll (take (x .answer .bytes) (x .lent .area))
-
--- what demand 3 compares, read off two areas
-pub record SameRead (x y : Result EqualizeAnswer) : Type 0 where
-  pub requests : requests (readEvents x) ≡ requests (readEvents y)
-  pub records : (z : ℕ) → records z (readEvents x) ≡ records z (readEvents y)
-
-read-off : (x : Result EqualizeAnswer) (es : List Event) (t : List ℕ) → x .answer .bytes ≡ length (encodeAll es) → x .lent .area ≡ encodeAll es ++ t → All Readable es → readEvents x ≡ es
-read-off x es t n a h = ap₂ (λ (m : ℕ) (s : List ℕ). readAll (take m s)) n a ∙ read-area es t h
-
--- Where every event can be read back, demand 3 holds of what a reader finds.
-pub same-read : (l : Lent) (x y : Result EqualizeAnswer) (es fs : List Event) → All Readable es → All Readable fs → SameCall l x y es fs → SameRead x y
-same-read l x y es fs he hf c =
-    let p : readEvents x ≡ es = read-off x es _ (c .bytes .0) (c .areas .0) he in
-    let q : readEvents y ≡ fs = read-off y fs _ (c .bytes .1) (c .areas .1) hf in
-    record { requests = ap requests p ∙ c .requests ∙ sym (ap requests q); records = λ z. ap (records z) p ∙ c .records z ∙ sym (ap (records z) q) }

@@ -16,7 +16,7 @@ use Rattle.basics.proofs.Lists.{All-snoc, replicate-at}
 use Rattle.rules_board.specs.Board.{Board, turfCount, linkCount}
 use Rattle.turfs.specs.Tables.{Accepted, source}
 use Rattle.turfs.proofs.Line.{Line}
-use Rattle.events.proofs.Compared.{isRequest}
+use Rattle.rules_events.specs.Compared.{isRequest}
 use Rattle.rules_fill.specs.Fill.{Fill, fill}
 use Rattle.laws_fill.proofs.Counts.{marked, marked-length, mark-new, was-new, Counted, fill-counts}
 use Rattle.laws_fill.proofs.Joins.{Rows, fill-rows}

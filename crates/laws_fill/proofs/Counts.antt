@@ -18,7 +18,7 @@ use Rattle.basics.proofs.Lists.{All-append, count-set, count-length}
 use Rattle.rules_board.specs.Board.{Board, turfCount, idOf, end, enabled, planetary, immutable, firelock}
 use Rattle.rules_events.specs.declared.Event.{Event}
 use Rattle.rules_events.specs.declared.Event.the-variants.{DepressurizeWanted, PlanetWanted}
-use Rattle.events.proofs.Compared.{isRequest}
+use Rattle.rules_events.specs.Compared.{isRequest}
 use Rattle.rules_fill.specs.Fill.{Reach, Fill, insert, reachLink, fill}
 use Rattle.laws_fill.proofs.Steps.{Keeps, fill-keeps}
 

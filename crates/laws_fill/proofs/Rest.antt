@@ -16,7 +16,7 @@ use Rattle.basics.proofs.Loops.{All-any, run-keeps, times-keeps, times-rests}
 use Rattle.basics.proofs.Tests.{and-false}
 use Rattle.rules_board.specs.Board.{Board, turfCount, end, enabled, planetary, linksOf}
 use Rattle.rules_events.specs.declared.Event.{Event}
-use Rattle.events.proofs.Compared.{isRequest}
+use Rattle.rules_events.specs.Compared.{isRequest}
 use Rattle.rules_fill.specs.Fill.{Reach, Fill, isOn, isOver, reachLink, expand, endFill, pop, popNext, fill}
 use Rattle.rules_fill.specs.declared.Going.{Going}
 use Rattle.rules_fill.specs.declared.Going.the-variants.{On, Broken, Over}

@@ -18,7 +18,8 @@ use Rattle.basics.proofs.Loops.{All-map, All-imp, All-any, keep-all, map-like, 
 use Rattle.rules_board.specs.Board.{Board, mixtureCount, idOf, mixOf, immutableMix, end, linksOf}
 use Rattle.rules_mixture.specs.Mixture.{amounts, total, totalMix, sum, moveAir}
 use Rattle.mixture.proofs.Parts.{Fits, move-fits, move-apart, move-like}
-use Rattle.events.proofs.Compared.{records, others, other-record, same-record, no-other}
+use Rattle.rules_events.specs.Compared.{records}
+use Rattle.events.proofs.Compared.{others, other-record, same-record, no-other}
 use Rattle.rules_plan.specs.Edges.{edgesOf, edge, alter}
 use Rattle.laws_plan.proofs.Sizes.{alter-size}
 use Rattle.rules_finish.specs.Finish.{Done, Pair, zeroLifted, positive, negative, pairs, finishGivers, send, finishPair, finish}

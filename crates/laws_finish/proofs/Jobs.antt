@@ -18,7 +18,8 @@ use Rattle.basics.proofs.Loops.{run-keeps}
 use Rattle.rules_board.specs.Board.{Board, linkCount, mixtureCount, mixOf, immutableMix, end}
 use Rattle.rules_mixture.specs.Mixture.{amounts, part}
 use Rattle.mixture.proofs.Parts.{Fits}
-use Rattle.events.proofs.Compared.{records, others}
+use Rattle.rules_events.specs.Compared.{records}
+use Rattle.events.proofs.Compared.{others}
 use Rattle.rules_finish.specs.Finish.{Done, finish}
 use Rattle.rules_finish.specs.Turns.{Job, work}
 use Rattle.laws_finish.proofs.Alone.{Beside, Alike, finish-beside, finish-alike}

@@ -1,3 +1,4 @@
 pub mod Equalize
 pub mod Result
+pub mod Same
 pub mod Worked

@@ -19,8 +19,8 @@ pub record Walk : Type 0 where
   pub events : List Event
 
 -- `cur_queue_idx += 1`
-abbrev pub count : Walk → Walk
-count s = record { queue = s .queue; walked = s .walked + 1; space = s .space; planet = s .planet; ended = s .ended; events = s .events }
+abbrev pub advance : Walk → Walk
+advance s = record { queue = s .queue; walked = s .walked + 1; space = s .space; planet = s .planet; ended = s .ended; events = s .events }
 
 -- whether a planetary turf was met, and whether the walk ends here
 abbrev pub mark : Bool → Bool → Walk → Walk
@@ -47,7 +47,7 @@ module _ (b : Board) where
 
   -- `while cur_queue_idx < turfs.len()`: one turf, which `visit` visits
   unfoldable pub walkNext : (ℕ → Walk → Walk) → Walk → Walk
-  walkNext visit s = if not (s .ended) && ltb (s .walked) (length (s .queue)) then visit (getD (s .queue) (s .walked) 0) (count s) else s
+  walkNext visit s = if not (s .ended) && ltb (s .walked) (length (s .queue)) then visit (getD (s .queue) (s .walked) 0) (advance s) else s
 
   -- The walk from the turf r: no turf joins the queue twice, so as many steps as there are turfs are enough.
   unfoldable pub walk : (ℕ → Walk → Walk) → ℕ → Walk

@@ -1,4 +1,3 @@
-pub mod Walks
 pub mod Does
 pub mod Links
 pub mod LinksOf

@@ -1,16 +1,15 @@
 -- What a visit does: it marks, puts a turf on the space list, or spreads; and what it counts. Assumes nothing.
-use Prim.Native.Nat.{ℕ, _+_, _*_, _≤_, _<_}
+use Prim.Native.Nat.{ℕ, _+_, _≤_, _<_}
 use native.Mathlib.Omega.{arith}
 use native.Mathlib.Numerals.{add-one}
 use mathlib.Core.Path.{_≡_, refl, ap, _∙_, sym, subst}
 use mathlib.Core.List.{List, [], _∷_, append-nil}
-use mathlib.Core.Bool.{Bool, true, false, not, _||_, cond}
+use mathlib.Core.Bool.{Bool, true, false, not, _||_}
 use lib.ListN.{length, getD, take, set, length-set}
 use lib.Seq.{take-suc-set}
 use borrow.Author.Tests.{eq-eqb, ne-eqb}
 use Rattle.basics.specs.Loops.{snoc}
 use Rattle.basics.specs.Regions.{cut, region}
-use Rattle.basics.proofs.Loops.{cond-both}
 use Rattle.basics.proofs.Regions.{cut-set, cut-length}
 use Rattle.rules_board.specs.Board.{Board, turfCount, idOf, planetary, immutable}
 use Rattle.rules_events.specs.Events.{encode, kindOf, sizeOf}
@@ -21,16 +20,14 @@ use Rattle.events.proofs.Areas.{wrote-length}
 use Rattle.events.proofs.Sizes.{encode-size}
 use Rattle.index_set.specs.Line.{Line}
 use Rattle.scratch.specs.Layout.{walkSizes, orderAt}
-use Rattle.rules_walk.specs.Walk.{Walk, mark, spread}
-use Rattle.rules_walk.specs.Visit.{visitPlanet, atSpace, visitSpace, visit}
+use Rattle.rules_walk.specs.Walk.{mark, spread}
+use Rattle.rules_walk.specs.Visit.{visitPlanet, atSpace, visitSpace}
 use Rattle.walk_first.specs.Does.{WalkDoes}
 use Rattle.walk_first.specs.Reached.{WalkState, walkAt, walkIn, walkOf, WalkFits, walking, Visits}
-use Rattle.rules_walk.specs.declared.Kind.{Kind}
-use Rattle.rules_walk.specs.declared.Kind.the-variants.{Planet, Space}
+use Rattle.rules_walk.specs.declared.Kind.the-variants.{Space}
 use Rattle.walk_first.specs.declared.Reach.{Reach}
 use Rattle.walk_first.proofs.Does.{does-as, does-then, none-wrote, one-wrote}
 use Rattle.walk_first.proofs.Links.{written-room}
-use Rattle.walk_first.proofs.Walks.{spread-walked}
 
 -- a target's record
 pub target-size : (i j : ℕ) → length (encode (Target i j)) ≡ 12
@@ -134,21 +131,3 @@ module _ (b : Board) (limit row : ℕ) where
 
       pub space-on : false ≡ immutable b row → {a : WalkState} → WalkDoes (walking n) (spread b limit row) (walkAt s w e) a → WalkDoes (walking n) (visitSpace b limit row) (walkAt s w e) a
       space-on i d = does-as (walking n) d (λ es. unfold visitSpace in rw (← p, ← i))
-
-  -- ---- a visit counts no place on
-
-  planet-walked : (s : Walk) → visitPlanet b limit row s .walked ≡ s .walked
-  unfolding visitPlanet
-  planet-walked s =
-      let met = s .planet || planetary b row in
-      cond-both (λ t. t .walked ≡ s .walked) (immutable b row) (mark met true s) (spread b limit row (mark met (not met) s)) refl (spread-walked b limit row (mark met (not met) s))
-
-  space-walked : (s : Walk) → visitSpace b limit row s .walked ≡ s .walked
-  unfolding visitSpace atSpace
-  space-walked s =
-      cond-both (λ t. t .walked ≡ s .walked) (planetary b row) (mark true true s) (cond (immutable b row) (atSpace b row s) (spread b limit row s)) refl
-      (cond-both (λ t. t .walked ≡ s .walked) (immutable b row) (atSpace b row s) (spread b limit row s) refl (spread-walked b limit row s))
-
-  pub visit-walked : (kind : Kind) (s : Walk) → visit b kind limit row s .walked ≡ s .walked
-  visit-walked Planet s = planet-walked s
-  visit-walked Space s = space-walked s

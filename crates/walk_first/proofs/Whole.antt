@@ -21,7 +21,7 @@ use Rattle.lent.proofs.Numbers.{bare}
 use Rattle.index_set.specs.Line.{Below, Apart}
 use Rattle.index_set.proofs.Queue.{Below-at}
 use Rattle.scratch.specs.Layout.{walkSizes}
-use Rattle.rules_walk.specs.Walk.{Walk, count, walkLink, spread, walkNext, walk}
+use Rattle.rules_walk.specs.Walk.{Walk, advance, walkLink, spread, walkNext, walk}
 use Rattle.rules_walk.specs.Visit.{visitPlanet, atSpace, visitSpace, visit}
 use Rattle.walk_first.specs.Does.{WalkDoes}
 use Rattle.walk_first.specs.Reached.{WalkState, walkAt, walkOf, WalkRest, WalkFits, walking, Ground, WalkStands, perTurf, Visits, Queued, visitNext, WalkStarts, Walked}
@@ -30,8 +30,8 @@ use Rattle.rules_walk.specs.declared.Kind.the-variants.{Planet, Space}
 use Rattle.walk_first.specs.declared.Reach.{Reach}
 use Rattle.walk_first.proofs.Does.{does-then}
 use Rattle.walk_first.proofs.Links.{joins, stored, join-open}
-use Rattle.walk_first.proofs.Walks.{startWalk, going, still, visited}
-use Rattle.walk_first.proofs.Visits.{visit-walked}
+use Rattle.laws_walk.proofs.Walks.{startWalk, going, still, visited}
+use Rattle.laws_walk.proofs.Places.{visit-walked}
 
 abbrev pub counted : Reach → Reach
 counted s = record { count = s .count; walked = s .walked + 1; spaces = s .spaces; planet = s .planet; ended = s .ended; used = s .used }
@@ -97,7 +97,7 @@ module _ (b : Board) (kind : Kind) (limit n : ℕ) where
   -- a turn counts one on
   pub turn-counts : (a a′ : WalkState) → WalkDoes (walking n) (visitNext b kind limit) a a′ → a′ .reach .walked ≡ a .reach .walked + 1
   unfolding walkOf
-  turn-counts a a′ d = ap (λ (v : Walk). v .walked) (d .same []) ∙ visit-walked b limit _ kind (count (walkOf n a []))
+  turn-counts a a′ d = ap (λ (v : Walk). v .walked) (d .same []) ∙ visit-walked b limit _ kind (advance (walkOf n a []))
 
   module _ (s : Reach) (w e : List ℕ) (h : WalkFits n (walkAt s w e)) (on : Bool) (o : on ≡ (not (s .ended) && ltb (s .walked) (s .count))) (es : List Event) where
     pub steps-next : on ≡ true → (walked : ℕ) → walked ≡ s .walked + 1

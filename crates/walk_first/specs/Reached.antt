@@ -11,7 +11,7 @@ use Rattle.events.specs.Area.{Wrote}
 use Rattle.rules_events.specs.declared.Event.{Event}
 use Rattle.index_set.specs.Line.{Line}
 use Rattle.scratch.specs.Layout.{walkSizes, walkRoom}
-use Rattle.rules_walk.specs.Walk.{Walk, count, walk}
+use Rattle.rules_walk.specs.Walk.{Walk, advance, walk}
 use Rattle.rules_walk.specs.Visit.{visit}
 use Rattle.walk_first.specs.Does.{Walker}
 use Rattle.rules_walk.specs.declared.Kind.{Kind}
@@ -108,7 +108,7 @@ pub record Queued (kind : Kind) (b : Board) (a : WalkState) : Type 0 where
 
 -- `walkNext` where there is a turf to visit
 abbrev pub visitNext : Board → Kind → ℕ → Walk → Walk
-visitNext b kind limit s = visit b kind limit (getD (s .queue) (s .walked) 0) (count s)
+visitNext b kind limit s = visit b kind limit (getD (s .queue) (s .walked) 0) (advance s)
 
 -- a walk from r can start: the areas are w and e
 pub record WalkStarts (kind : Kind) (b : Board) (r : ℕ) (w e : List ℕ) : Type 0 where

@@ -1,42 +1,27 @@
 -- One turf of the order, and the order to its end: each turn passes one, and the order holds no more turfs than there are. Assumes nothing.
-use Prim.Native.Nat.{ℕ, suc, _+_, _-_, _*_, _≤_, _<_}
+use Prim.Native.Nat.{ℕ, suc, _+_, _-_, _≤_, _<_}
 use native.Mathlib.Omega.{arith}
 use native.Mathlib.Nat.{sub-zero}
 use mathlib.Core.Path.{_≡_, refl, ap, _∙_, sym}
 use mathlib.Core.List.{List, [], _++_, append-nil}
-use mathlib.Core.Bool.{_||_, cond}
-use lib.Dec.{leb}
 use lib.ListN.{length, getD, take}
 use lib.Seq.{length-take-le, getD-take}
 use borrow.Author.Tests.{lt-ltb, le-ltb, le-leb, lt-leb}
-use Rattle.basics.specs.Loops.{run, times, member}
+use Rattle.basics.specs.Loops.{run, times}
 use Rattle.basics.specs.Regions.{region}
-use Rattle.basics.proofs.Loops.{All-any, run-keeps, cond-both, times-still}
+use Rattle.basics.proofs.Loops.{times-still}
 use Rattle.basics.proofs.Regions.{cut-get}
-use Rattle.rules_board.specs.Board.{Board, end, immutable, linksOf}
+use Rattle.rules_board.specs.Board.{Board, linksOf}
 use Rattle.rules_events.specs.declared.Event.{Event}
 use Rattle.index_set.proofs.Queue.{Below-at}
 use Rattle.scratch.specs.Layout.{outSizes, orderAt}
 use Rattle.walk_first.specs.Does.{WalkDoes}
 use Rattle.walk_first.proofs.Does.{none-wrote}
-use Rattle.rules_out.specs.Out.{Out, outTo, outLink, outRow, outNext}
+use Rattle.laws_walk.proofs.Places.{row-place}
+use Rattle.rules_out.specs.Out.{Out, outLink, outRow, outNext}
 use Rattle.walk_out.specs.Outed.{OutState, outAt, outOf, OutFits, outing, passNext}
 use Rattle.walk_out.specs.declared.Front.{Front}
 use Rattle.walk_out.proofs.Joins.{written-room}
-
--- ---- what a turf counts
-
-abbrev here : Out → Out
-here s = record { order = s .order; place = s .place + 1; direction = s .direction; target = s .target; events = s .events }
-
-module _ (b : Board) where
-  pub link-place : (r k : ℕ) (s : Out) → outLink b r k s .place ≡ s .place
-  unfolding outLink outTo
-  link-place r k s = cond-both (λ t. t .place ≡ s .place) (immutable b (end b k) || member (end b k) (s .order)) s _ refl refl
-
-  pub row-place : (limit r : ℕ) (s : Out) → outRow b limit r s .place ≡ s .place + 1
-  unfolding outRow
-  row-place limit r s = run-keeps (λ k. Unit {0}) (λ t. t .place ≡ s .place + 1) (outLink b r) (λ k t u i. link-place r k t ∙ i) _ (here s) (All-any _ (λ k. tt) (cond (leb (s .place + 1) limit) (linksOf b r) [])) refl
 
 -- ---- the next turf
 

@@ -17,11 +17,11 @@ use Rattle.rules_events.specs.Events.{encodeAll}
 use Rattle.events.proofs.Sizes.{size}
 use Rattle.rules_lent.specs.Lent.{Lent, noExtra}
 use Rattle.lent.proofs.Passed.{passed}
-use Rattle.rules_walk.specs.Walk.{Walk, count, mark, spread, walk}
+use Rattle.rules_walk.specs.Walk.{Walk, advance, mark, spread, walk}
 use Rattle.rules_walk.specs.Visit.{visitPlanet}
 use Rattle.rules_walk.specs.declared.Kind.the-variants.{Planet}
-use Rattle.walk_first.proofs.Walks.{going, spreads, walk-keeps, walk-rests}
-use Rattle.walk_first.proofs.Visits.{visit-walked as visit-place}
+use Rattle.laws_walk.proofs.Walks.{going, spreads, walk-keeps, walk-rests}
+use Rattle.laws_walk.proofs.Places.{visit-walked as visit-place}
 use Rattle.rules_planet.specs.Planet.{planetFrom, planetWalk, planetRoom, planetNumber}
 use Rattle.rules_planet.specs.Worked as worked  -- checked before the laws
 
@@ -41,7 +41,7 @@ module _ (b : Board) {n : ℕ} (h : Accepted b n) (limit : ℕ) where
       (record { line = p .line; bytes = omega (arith, p .bytes, q .bytes) })
 
   pub planet-walked : (r : ℕ) → r < turfCount b → Walked (walk b (visitPlanet b limit) r)
-  planet-walked r i = walk-keeps b (visitPlanet b limit) Walked (λ s l q. visit-walked (getD (s .queue) (s .walked) 0) (count s) (record { line = q .line; bytes = q .bytes })) r
+  planet-walked r i = walk-keeps b (visitPlanet b limit) Walked (λ s l q. visit-walked (getD (s .queue) (s .walked) 0) (advance s) (record { line = q .line; bytes = q .bytes })) r
       (unfold encodeAll in record { line = record { apart = (tt, tt); rows = (i, tt) }; bytes = omega arith })
 
   -- as many steps as there are turfs are enough

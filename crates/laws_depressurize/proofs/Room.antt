@@ -35,9 +35,8 @@ use Rattle.rules_walk.specs.Walk as walks
 use Rattle.rules_walk.specs.Walk.{Walk, mark, spread, walk}
 use Rattle.rules_walk.specs.Visit.{atSpace, visitSpace}
 use Rattle.rules_walk.specs.declared.Kind.the-variants.{Space}
-use Rattle.walk_first.proofs.Walks.{going, spreads, walk-keeps, walk-rests}
-use Rattle.walk_first.proofs.Visits.{visit-walked as visit-place}
-use Rattle.walk_out.proofs.Rows.{row-place}
+use Rattle.laws_walk.proofs.Walks.{going, spreads, walk-keeps, walk-rests}
+use Rattle.laws_walk.proofs.Places.{visit-walked as visit-place, row-place}
 use Rattle.rules_out.specs.Out.{Out, outTo, outLink, outRow, outNext, outward}
 use Rattle.rules_back.specs.Back.{Back, backTo, back}
 use Rattle.rules_depressurize.specs.Depressurize.{Depressurized, wayBack, fromWalk, fromRow, depressurize, depressurizeRoom, depressurizeNumber}
@@ -101,9 +100,9 @@ module _ (b : Board) {n : ℕ} (h : Accepted b n) (limit : ℕ) where
   space-walk r i = walk-keeps b (visitSpace b limit) Walked step r
       (unfold encodeAll in record { line = record { apart = (tt, tt); rows = (i, tt) }; space = record { apart = tt; rows = tt }; behind = tt; bytes = omega arith })
     where
-      step : (s : Walk) → s .walked < length (s .queue) → Walked s → Walked (visitSpace b limit (getD (s .queue) (s .walked) 0) (walks.count s))
-      step s l q = visit-walked (s .walked) (walks.count s) refl l
-          (record { line = q .line; space = q .space; behind = All-imp (Visited s) (Visited (walks.count s)) (s .space) (λ x v. (v .0, (omega (arith, v .1 .0), v .1 .1))) (q .behind); bytes = q .bytes })
+      step : (s : Walk) → s .walked < length (s .queue) → Walked s → Walked (visitSpace b limit (getD (s .queue) (s .walked) 0) (walks.advance s))
+      step s l q = visit-walked (s .walked) (walks.advance s) refl l
+          (record { line = q .line; space = q .space; behind = All-imp (Visited s) (Visited (walks.advance s)) (s .space) (λ x v. (v .0, (omega (arith, v .1 .0), v .1 .1))) (q .behind); bytes = q .bytes })
           (q .behind)
 
   -- as many steps as there are turfs are enough

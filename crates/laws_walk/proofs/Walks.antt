@@ -19,7 +19,7 @@ use Rattle.rules_events.specs.Events.{kindOf, sizeOf}
 use Rattle.rules_events.specs.declared.Event.{Event}
 use Rattle.rules_events.specs.declared.Event.the-variants.{Firelock}
 use Rattle.events.proofs.Sizes.{size, size-snoc}
-use Rattle.rules_walk.specs.Walk.{Walk, count, walkLink, spread, walkNext, walk}
+use Rattle.rules_walk.specs.Walk.{Walk, advance, walkLink, spread, walkNext, walk}
 use Rattle.rules_walk.specs.Worked as worked  -- checked before the laws
 
 -- where a walk from r starts
@@ -99,12 +99,12 @@ module _ (b : Board) (visit : ℕ → Walk → Walk) where
   unfolding walkNext
   still s e = rw e
 
-  pub visited : (s : Walk) → going s ≡ true → walkNext b visit s ≡ visit (getD (s .queue) (s .walked) 0) (count s)
+  pub visited : (s : Walk) → going s ≡ true → walkNext b visit s ≡ visit (getD (s .queue) (s .walked) 0) (advance s)
   unfolding walkNext
   visited s e = rw e
 
   -- an invariant of the visits
-  pub walk-keeps : (P : Walk → Type 0) → ((s : Walk) → s .walked < length (s .queue) → P s → P (visit (getD (s .queue) (s .walked) 0) (count s))) → (r : ℕ) → P (startWalk r) → P (walk b visit r)
+  pub walk-keeps : (P : Walk → Type 0) → ((s : Walk) → s .walked < length (s .queue) → P s → P (visit (getD (s .queue) (s .walked) 0) (advance s))) → (r : ℕ) → P (startWalk r) → P (walk b visit r)
   unfolding walk
   walk-keeps P h r q = times-keeps P (walkNext b visit) next (turfCount b) (startWalk r) q
     where
@@ -119,7 +119,7 @@ module _ (b : Board) (visit : ℕ → Walk → Walk) where
   pub walk-rests : ((r : ℕ) (s : Walk) → visit r s .walked ≡ s .walked) → (r : ℕ) → length (walk b visit r .queue) ≤ turfCount b → going (walk b visit r) ≡ false
   unfolding walk
   walk-rests kept r l =
-      go (times-rests (walkNext b visit) going (λ s. s .walked) still (λ s e. ap (λ (t : Walk). t .walked) (visited s e) ∙ kept (getD (s .queue) (s .walked) 0) (count s)) (turfCount b) (startWalk r))
+      go (times-rests (walkNext b visit) going (λ s. s .walked) still (λ s e. ap (λ (t : Walk). t .walked) (visited s e) ∙ kept (getD (s .queue) (s .walked) 0) (advance s)) (turfCount b) (startWalk r))
     where
       w : Walk
       w = times (walkNext b visit) (turfCount b) (startWalk r)

@@ -1,0 +1,129 @@
+-- Every record that a depressurization writes on an accepted board is read back, and the gas that it leaves is finite. Assumes nothing.
+use mathlib.Core.Path.{_≡_, sym, subst}
+use mathlib.Core.Bool.{Bool, true, false, _||_, cond}
+use mathlib.Core.List.{List, [], reverse}
+use Prim.Native.Nat.{ℕ, _+_, _≤_, _<_, zero-le}
+use native.Mathlib.Omega.{arith}
+use lib.Dec.{T, eqb, leb, ltb, ltb→lt}
+use lib.ListN.{getD-replicate, length, getD, set, replicate, length-replicate, length-reverse}
+use lib.Ieee.{Float, nan}
+use Rattle.basics.specs.Loops.{run, every, member}
+use Rattle.basics.specs.Floats.{0f}
+use Rattle.basics.specs.declared.Spot.{Spot}
+use Rattle.basics.specs.declared.Spot.the-variants.{At, Nowhere}
+use Rattle.basics.specs.Lists.{All, Found}
+use Rattle.basics.proofs.Loops.{All-any, All-imp, All-getD, run-keeps, times-keeps, cond-both}
+use Rattle.basics.proofs.Lists.{All-append, All-snoc, replicate-at}
+use Rattle.rules_board.specs.Board.{Board, turfCount, idOf, end, immutable, linksOf, rowOf}
+use Rattle.turfs.specs.Tables.{Accepted}
+use Rattle.turfs.proofs.Accepted.{row-below}
+use Rattle.turfs.proofs.Line.{Line, line-short}
+use Rattle.rules_mixture.specs.Mixture.{amountFits}
+use Rattle.rules_events.specs.Readings.{Readable}
+use Rattle.rules_events.specs.declared.Event.{Event}
+use Rattle.rules_events.specs.declared.Event.the-variants.{Target}
+use Rattle.rules_walk.specs.Walk.{Walk, walk}
+use Rattle.rules_walk.specs.Visit.{visitSpace}
+use Rattle.rules_out.specs.Out.{Out, outTo, outLink, outRow, outNext, outward}
+use Rattle.rules_back.specs.Back.{back}
+use Rattle.rules_depressurize.specs.Depressurize.{Depressurized, wayBack, fromWalk, fromRow, depressurize}
+use Rattle.laws_depressurize.proofs.Room.{space-walk, outward-outed}
+use Rattle.laws_finite.proofs.Laws.{Within, within-zero, under-finite}
+use Rattle.laws_finite.proofs.Shares.{all-replicate}
+use Rattle.laws_finite.proofs.Totals.{accepted-within}
+use Rattle.laws_finite.proofs.EachKind.{Word, Fin, target-readable}
+use Rattle.laws_finite.proofs.Walked.{walk-told}
+use Rattle.laws_finite.proofs.Backs.{all-passed}
+use Rattle.laws_finite.proofs.Lists.{reverse-all, reverse-apart, set-most}
+
+-- what a depressurization leaves: its records are read back, and its gas is within its bound
+record Fine (e : Depressurized) : Type 0 where
+  events : All Readable (e .events)
+  gas : All (Within 40 1) (e .gas)
+
+module _ (b : Board) {n : ℕ} (h : Accepted b n) (ids : (r : ℕ) → Word (idOf b r)) (limit : ℕ) where
+  -- ---- out from space
+
+  -- what the order outward keeps: directions and targets within their bounds, its records read back
+  record Aimed (s : Out) : Type 0 where
+    near : (x : ℕ) → getD (s .direction) x 0 ≤ turfCount b
+    rows : All (λ x. x < turfCount b) (s .order)
+    low : (x : ℕ) → getD (s .target) x 0 ≤ 4294967295
+    told : All Readable (s .events)
+
+  link-aimed : (r : ℕ) → r < turfCount b → (k : ℕ) (s : Out) → Aimed s → Aimed (outLink b r k s)
+  unfolding outLink outTo
+  link-aimed r i k s q = cond-both Aimed (immutable b (end b k) || member (end b k) (s .order)) s (outTo b r (end b k) s) q (record {
+    near = set-most (s .direction) (end b k) (r + 1) (turfCount b) (omega arith) (q .near);
+    rows = All-snoc (λ x. x < turfCount b) (s .order) (end b k) (q .rows) (h .ends k);
+    low = set-most (s .target) (end b k) (getD (s .target) r 0) 4294967295 (q .low r) (q .low);
+    told = All-snoc Readable (s .events) (Target (idOf b (end b k)) (getD (s .target) r 0)) (q .told) (target-readable (idOf b (end b k)) (getD (s .target) r 0) (ids (end b k)) (let i = q .low r in omega arith));
+  })
+
+  row-aimed : (r : ℕ) → r < turfCount b → (s : Out) → Aimed s → Aimed (outRow b limit r s)
+  unfolding outRow
+  row-aimed r i s q = run-keeps (λ k. Unit {0}) Aimed (outLink b r) (λ k t u j. link-aimed r i k t j) _ _ (All-any _ (λ k. tt) (cond (leb (s .place + 1) limit) (linksOf b r) []))
+      (record { near = q .near; rows = q .rows; low = q .low; told = q .told })
+
+  next-aimed : (s : Out) → Aimed s → Aimed (outNext b limit s)
+  unfolding outNext
+  next-aimed s q = go (ltb (s .place) (length (s .order))) (ltb→lt (s .place) (length (s .order)))
+    where
+      go : (t : Bool) → (T t → s .place < length (s .order)) → Aimed (cond t (outRow b limit (getD (s .order) (s .place) 0) s) s)
+      go true l = row-aimed (getD (s .order) (s .place) 0) (All-getD (λ x. x < turfCount b) (s .order) (s .place) 0 (q .rows) (l tt)) s q
+      go false l = q
+
+  outward-aimed : (space : List ℕ) (es : List Event) → All (λ x. x < turfCount b) space → All Readable es → Aimed (outward b limit space es)
+  unfolding outward
+  outward-aimed space es rows told = times-keeps Aimed (outNext b limit) next-aimed (turfCount b) _ (record {
+    near = λ x. subst (λ z. z ≤ turfCount b) (sym (replicate-at {A = ℕ} (turfCount b) x 0)) zero-le;
+    rows = rows;
+    low = run-keeps (λ r. Unit {0}) (λ t. (x : ℕ) → getD t x 0 ≤ 4294967295) (λ r t. set t r (idOf b r)) (λ r t u i. set-most t r (idOf b r) 4294967295 (let l = ids r in omega arith) i) space (replicate (turfCount b) 0)
+        (All-any _ (λ r. tt) space) (λ x. subst (λ z. z ≤ 4294967295) (sym (replicate-at {A = ℕ} (turfCount b) x 0)) zero-le);
+    told = told;
+  })
+
+  -- ---- the whole
+
+  module _ (gas : List Float) (amounts : All (Within 40 1) gas) where
+    back-fine : (o : Out) → Aimed o → Line b (o .order) → Fine (wayBack b gas o)
+    unfolding wayBack
+    back-fine o a l =
+        let t = run (back b (o .direction)) (reverse (o .order)) (record { gas = gas; amount = replicate (turfCount b) 0f; events = o .events; rips = [] }) in
+        let g = all-passed b (h .gases .1) (h .turfs .1) ids (o .direction) (a .near) (reverse (o .order)) _ (reverse-apart (o .order) (l .apart)) (reverse-all (λ x. x < turfCount b) (o .order) (l .rows)) (record {
+          gas = amounts;
+          size = length-replicate (turfCount b) 0f;
+          ms = replicate (turfCount b) 0;
+          sized = length-replicate (turfCount b) 0;
+          few = let e = all-replicate (turfCount b) 0 in let f = length-reverse (o .order) in let k = line-short b (o .order) l in omega arith;
+          bound = λ r i v. subst (λ w. Within 46 (getD (replicate {A = ℕ} (turfCount b) 0) r 0) w) (sym (getD-replicate (turfCount b) r 0f nan i)) (within-zero 46 (omega arith) (getD (replicate {A = ℕ} (turfCount b) 0) r 0));
+          events = a .told;
+          rips = tt;
+        }) in
+        record { events = All-append Readable (t .events) (t .rips) (g .events) (g .rips); gas = g .gas }
+
+    walk-fine : (w : Walk) → All Readable (w .events) → Line b (w .space) → Fine (fromWalk b gas limit w)
+    unfolding fromWalk
+    walk-fine w t l =
+        let o = outward b limit (w .space) (w .events) in
+        let f = back-fine o (outward-aimed (w .space) (w .events) (l .rows) t) (outward-outed b h limit (w .space) (w .events) l .line) in
+        cond-both Fine (w .planet) _ (cond (eqb (length (w .space)) 0) _ (wayBack b gas o)) (record { events = t; gas = amounts })
+        (cond-both Fine (eqb (length (w .space)) 0) _ (wayBack b gas o) (record { events = t; gas = amounts }) f)
+
+    row-fine : (o : Spot) → Found (λ r. r < turfCount b) o → Fine (fromRow b gas limit o)
+    unfolding fromRow
+    row-fine Nowhere f = record { events = tt; gas = amounts }
+    row-fine (At r) f = walk-fine (walk b (visitSpace b limit) r) (walk-told b ids limit r) (space-walk b h limit r f .space)
+
+    depressurize-fine : (id : ℕ) → Fine (depressurize b gas limit id)
+    unfolding depressurize
+    depressurize-fine id = row-fine (rowOf b id) (row-below b id)
+
+module _ (b : Board) {n : ℕ} (h : Accepted b n) (ids : (r : ℕ) → Word (idOf b r)) (gas : List Float) (e : every amountFits gas ≡ true) (limit id : ℕ) where
+  -- All that a depressurization writes is read back.
+  pub depressurize-readable : All Readable (depressurize b gas limit id .events)
+  depressurize-readable = depressurize-fine b h ids limit gas (accepted-within gas e) id .events
+
+  -- The gas that it leaves is finite.
+  pub depressurize-gas : All Fin (depressurize b gas limit id .gas)
+  depressurize-gas = All-imp (Within 40 1) Fin (depressurize b gas limit id .gas) (λ x w. under-finite w) (depressurize-fine b h ids limit gas (accepted-within gas e) id .gas)
