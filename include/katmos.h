@@ -4,6 +4,13 @@
  * then hold what they held before. A call ends, keeps to the areas that it is lent, and keeps nothing between calls, so several threads
  * may call at once, each with areas of its own. equalize's recursion is as deep as the board: lend it a thread with 2 MiB of stack.
  *
+ * Areas don't overlap. An area that a call writes (amounts of the two calls that change them, events, words, floats, answer) must share no byte
+ * with another area or a table of that call; tables that are only read may share theirs. No call tests this. Where areas overlap nothing is
+ * promised, not even that the call ends or keeps to them: a table may change after it was tested. Take it for undefined behaviour. The Rust crate,
+ * bindings/rust, can't: its types give every area a borrow of its own.
+ *
+ * A NaN that is lent, in amounts of a refused call or in floats, stays a NaN by proof; that it keeps its sign and its payload is tested.
+ *
  * The calls come twice. `katmos_equalize_on`, `katmos_depressurize_on` and `katmos_planet_walk_on` take structs that a host fills once, by name, and
  * answer a struct; begin there. They are these lines and nothing else: they hand what they are given to `katmos_equalize`, `katmos_depressurize` and
  * `katmos_planet_walk`, the library's own functions, for languages that read no C header. bindings/c/breach.c is a whole program.
@@ -32,7 +39,7 @@ enum {
     KATMOS_AMOUNTS = 5,   /* an amount or the threshold outside its range */
     KATMOS_HOT = 6,       /* hot ids not strictly ascending */
     KATMOS_ROOM = 7,      /* event area or scratch too short */
-    KATMOS_RECORD = 8     /* a bad event record, kind or offset */
+    KATMOS_RECORD = 8     /* a bad event record or offset; of katmos_write_event, a kind that there isn't */
 };
 
 /* Kinds of events; a record's fields stand in this order. An amount is the bits of its float. */
@@ -180,10 +187,14 @@ uint32_t katmos_planet_walk(
     uint8_t *events, size_t events_len, uint32_t *words, size_t words_len, float *floats, size_t floats_len,
     uint32_t answer[2]);
 
-/* Reads the record at `offset` of the first events_len bytes. answer: number, kind, next offset, four fields; those that the kind hasn't are 0. */
+/* Reads the record at `offset` of the first events_len bytes. answer: number, kind, next offset, four fields; those that the kind hasn't are 0. At
+ * the end the kind is KATMOS_END and all else 0. Of a longer area only the first 2^32 - 1 bytes count: there is its end, and a record that passes
+ * it is KATMOS_RECORD. */
 uint32_t katmos_read_event(const uint8_t *events, size_t events_len, uint32_t offset, uint32_t answer[7]);
 
-/* Writes a record at `offset`; fields that the kind hasn't are ignored. answer: number, next offset. */
+/* Writes a record at `offset`; fields that the kind hasn't are ignored. answer: number, next offset. Tested in this order: KATMOS_RECORD for a
+ * kind that there isn't, KATMOS_AMOUNTS for an amount that isn't finite, KATMOS_ROOM for a record that passes the end, or the first 2^32 - 1 bytes
+ * of a longer area. A refusal writes nothing. */
 uint32_t katmos_write_event(
     uint32_t kind, uint32_t f0, uint32_t f1, uint32_t f2, uint32_t f3,
     uint8_t *events, size_t events_len, uint32_t offset, uint32_t answer[2]);

@@ -8,6 +8,7 @@ use lib.ListN.{length, getD, take, drop, set, replicate, length-drop, length-rep
 use lib.Seq.{take-set-lt, drop-set-lt, take-set-le, drop-set-add, getD-take, getD-drop, length-take-le, drop-drop, take-at, drop-at, take-add}
 use Rattle.basics.specs.Regions.{cut, region, base}
 use Rattle.basics.proofs.Parts.{drop-later}
+use Rattle.basics.specs.Worked as worked  -- checked before the laws
 
 module _ {A : Type 0} where
   -- a store at index i of array k: that array has it, and every other is as it was

@@ -1,4 +1,4 @@
--- Loops and searches. Every loop of the port is one of two: `run f xs s`, a step for each element of a list, and `times f n s`, a step n times.
+-- Loops and searches. A loop of the definitions is one of two: `run f xs s`, a step for each element of a list, and `times f n s`, a step n times.
 -- A loop that ends early is the same loop with a step that changes nothing from there on.
 use mathlib.Core.List.{List, [], _∷_, _++_}
 use mathlib.Core.Bool.{Bool, true, false, not, _&&_, _||_, cond}

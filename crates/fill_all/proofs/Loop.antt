@@ -28,10 +28,9 @@ use Rattle.fill_links.specs.Held.{zeros}
 use Rattle.fill_links.proofs.Does.{does-plain, does-then, does-as}
 use Rattle.fill_links.proofs.Bounds.{zeros-most}
 use Rattle.laws_fill.proofs.Counts.{marked}
-use Rattle.rules_equalize.specs.Equalize.{Ask, Filled, near, passedOver, fillFrom, hotRow, hotId, fillAll}
-use Rattle.laws_equalize.proofs.Hot.{startFilled}
+use Rattle.rules_equalize.specs.Equalize.{Ask, Filled, near, passedOver, fillFrom, hotRow, hotId, fillAll, startFilled, askOf}
 use Rattle.laws_equalize.proofs.Zones.{Zoned, zoned}
-use Rattle.fill_all.specs.Held.{askOf, zoneIn, FilledView, filledView, aroundIn, onFilled, Stored, FillOpen, Fills, start, HotBegun, Cleared, FillsAll}
+use Rattle.fill_all.specs.Held.{zoneIn, FilledView, filledView, aroundIn, onFilled, Stored, FillOpen, Fills, start, HotBegun, Cleared, FillsAll}
 use Rattle.fill_all.specs.Asked.{FillFits}
 use Rattle.fill_all.specs.declared.Filling.{Filling}
 

@@ -19,14 +19,10 @@ use Rattle.rules_fill.specs.declared.Settings.{Settings}
 use Rattle.fill_links.specs.Held.{zeros, FillDoes}
 use Rattle.fill_zone.specs.declared.Flood.{Flood}
 use Rattle.rules_finish.specs.Turns.{Zone}
-use Rattle.rules_equalize.specs.Equalize.{Ask, Filled}
+use Rattle.rules_equalize.specs.Equalize.{Ask, Filled, askOf}
 use Rattle.fill_all.specs.declared.Filling.{Filling}
 
--- what only equalize is asked
-abbrev pub askOf : List ℕ → Float → ℕ → ℕ → Ask
-askOf hot threshold limit allowance = record { hot = hot; threshold = threshold; limit = limit; allowance = allowance }
-
--- the same by the settings
+-- what only equalize is asked, by the settings
 abbrev pub asked : List ℕ → Settings → Ask
 asked hot settings = askOf hot (settings .threshold) (settings .limit) (settings .allowance)
 

@@ -3,8 +3,8 @@ use Prim.Native.Nat.{ℕ, _+_, _≤_, _<_}
 use mathlib.Core.Path.{_≡_}
 use mathlib.Core.List.{List, []}
 use lib.ListN.{length, getD}
-use Rattle.rules_board.specs.Board.{Board, turfCount, linkCount, mixtureCount, mixOf, end}
-use Rattle.turfs.specs.Tables.{board, Parts}
+use Rattle.rules_board.specs.Board.{Board, turfCount, linkCount, mixtureCount, mixOf, end, board}
+use Rattle.turfs.specs.Tables.{Parts}
 use Rattle.scratch.specs.Layout.{mostNodes}
 use Rattle.fill_links.specs.Held.{reachView, ReachFits, Bounded}
 use Rattle.fill_links.specs.declared.Reached.{Reached}

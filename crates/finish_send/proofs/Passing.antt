@@ -24,7 +24,8 @@ use Rattle.laws_plan.proofs.Sizes.{alter-size}
 use Rattle.plan_state.specs.Steps.{backLink}
 use Rattle.plan_state.proofs.Links.{reverse-within}
 use Rattle.rules_finish.specs.Lifted.{above, pending, Held, sendHeld, giversHeld}
-use Rattle.laws_finish.proofs.Weights.{alter-less}
+use Rattle.laws_finish.proofs.Weights.{Below, alter-below, alter-less}
+use Rattle.laws_finish.proofs.Unfinished.{unfinished-below}
 use Rattle.scratch.specs.View.{ownerIn, reverseIn}
 use Rattle.finish_send.specs.Areas.{FinishAreas, liftedFrom, weightOn, liftedOn, Shows, FinishFits, Kept}
 use Rattle.finish_send.specs.Sending.{isMarked, Next, SendFits, Sends, pairAs, toSend, Going, Progress, SentTo}
@@ -73,7 +74,7 @@ module _ (b : Board) (words : List ℕ) (z k to : ℕ) (h : to ≤ linkCount b) 
   unfolding toSend
   to-send-skip f m n = count-skip (isMarked words f z (liftedFrom b) true) k (m - k) m to (omega (arith, n .low)) (n .high) (n .none)
 
-  pub to-send-here : (f : List Float) → k < to → isMarked words f z (liftedFrom b) true k ≡ true → toSend b words f z k to ≡ 1 + toSend b words f z (k + 1) to
+  to-send-here : (f : List Float) → k < to → isMarked words f z (liftedFrom b) true k ≡ true → toSend b words f z k to ≡ 1 + toSend b words f z (k + 1) to
   unfolding toSend
   to-send-here f l t = count-here (isMarked words f z (liftedFrom b) true) k to l ∙ ap (λ (x : Bool). one x + count (isMarked words f z (liftedFrom b) true) (upFrom (k + 1) (to - (k + 1)))) t
 
@@ -157,13 +158,17 @@ module _ (b : Board) (words : List ℕ) (stop : Bool) (z r : ℕ) where
           let x = getD (a′ .floats) (liftedFrom b + k) nan in
           let ready′ = ready-kept ready (m .kept) in
           let lifted = sent-lifted b words z r k a′ a″ ready′ row i below x s in
+          let back = backLink (reverseIn (linkCount b) words) owner z k in
+          let weight = sent-weight b words z r k a′ a″ ready′ row i below x s in
           record {
             kept = kept-then (m .kept) (sent-kept b words z r k a′ a″ ready′ row i below x s);
             low = omega (arith, m .low);
             high = omega arith;
             lifted = lifted ∙ m .lifted;
-            fewer = le-trans (subst (λ (w : List Float). pending w ≤ pending (weightOn b (a′ .floats))) (sym (sent-weight b words z r k a′ a″ ready′ row i below x s)) (alter-less (backLink (reverseIn (linkCount b) words) owner z k) (weightOn b (a′ .floats)))) (m .fewer);
-            room = omega (arith, m .room, sent-used b words z r k a′ a″ ready′ row i below x s, to-send-same b words z (k + 1) to e (a′ .floats) (a″ .floats) lifted, to-send-here b words z k to e (a′ .floats) l t);
+            fewer = le-trans (unfinished-below b owner z _ _ (subst (λ (w : List Float). Below w (weightOn b (a′ .floats))) (sym weight) (alter-below back (weightOn b (a′ .floats)) (weightOn b (a′ .floats)) (λ j o. o)))) (m .fewer);
+            room =
+                let less : pending (weightOn b (a″ .floats)) ≤ pending (weightOn b (a′ .floats)) = subst (λ (w : List Float). pending w ≤ pending (weightOn b (a′ .floats))) (sym weight) (alter-less back (weightOn b (a′ .floats))) in
+                omega (arith, m .room, less, sent-used b words z r k a′ a″ ready′ row i below x s, to-send-same b words z (k + 1) to e (a′ .floats) (a″ .floats) lifted, to-send-here b words z k to e (a′ .floats) l t);
             shows = λ f h v.
                 let F = pairAs b owner z stop f r in
                 let g = run F (upFrom from (k - from)) h in

@@ -1,7 +1,7 @@
 -- How the lent areas hold what finishing changes, and what a function of finishing promises of them.
 use mathlib.Core.Path.{_≡_}
 use mathlib.Core.List.{List, [], _∷_}
-use Prim.Native.Nat.{ℕ, _+_, _≤_}
+use Prim.Native.Nat.{ℕ, _+_, _*_, _≤_}
 use lib.ListN.{length, drop}
 use denote.Ref.{RefT}
 use lib.Ieee.{Float}
@@ -9,11 +9,11 @@ use Rattle.basics.specs.Regions.{region}
 use Rattle.rules_board.specs.Board.{Board, turfCount, linkCount}
 use Rattle.turfs.specs.Tables.{Accepted}
 use Rattle.scratch.specs.Layout.{floatSizes, reverseAt, liftedAt, floatsEnd}
-use Rattle.scratch.specs.View.{reverseIn, weightIn, liftedIn, molesIn}
+use Rattle.scratch.specs.View.{ownerIn, reverseIn, weightIn, liftedIn, molesIn}
 use Rattle.events.specs.Area.{HoldsEvents}
 use Rattle.rules_events.specs.declared.Event.{Event}
 use Rattle.reverse_links.specs.Reverse.{Linked, Reverses}
-use Rattle.rules_finish.specs.Lifted.{Held}
+use Rattle.rules_finish.specs.Lifted.{pending, Held, unfinishedNodes}
 
 -- the first `used` bytes of the area are these events
 abbrev pub Written : List Event → ℕ → List ℕ → Type 0
@@ -48,6 +48,14 @@ liftedOn b f = liftedIn (turfCount b) (linkCount b) f
 -- where those start
 abbrev pub liftedFrom : Board → ℕ
 liftedFrom b = liftedAt (turfCount b) (linkCount b)
+
+-- how many nodes of zone z are unfinished
+abbrev pub unfinishedOn : Board → List ℕ → ℕ → List Float → ℕ
+unfinishedOn b words z f = unfinishedNodes b (ownerIn (linkCount b) words) z (weightOn b f)
+
+-- the bytes written, and 20 for each weight above 0
+abbrev pub due : Board → FinishAreas → ℕ
+due b a = a .used + 20 * pending (weightOn b (a .floats))
 
 -- the floats that finishing leaves as they are
 unfoldable pub others : Board → List Float → List (List Float)

@@ -17,12 +17,12 @@ use Rattle.events.specs.Area.{Wrote}
 use Rattle.rules_events.specs.declared.Event.the-variants.{Pressure}
 use Rattle.rules_plan.specs.Edges.{alter, owned}
 use Rattle.plan_state.specs.Steps.{backLink}
-use Rattle.rules_finish.specs.Lifted.{Held, sendHeld, giversHeld, above, pending}
+use Rattle.rules_finish.specs.Lifted.{Held, sendHeld, giversHeld, above}
 use Rattle.finish_send.specs.declared.Turf.{Turf}
 use Rattle.finish_send.specs.declared.Span.{Span}
 use Rattle.scratch.specs.Layout.{reverseAt}
 use Rattle.scratch.specs.View.{ownerIn, reverseIn}
-use Rattle.finish_send.specs.Areas.{FinishAreas, Shows, FinishFits, Kept, weightOn, liftedOn, liftedFrom}
+use Rattle.finish_send.specs.Areas.{FinishAreas, Shows, FinishFits, Kept, unfinishedOn, due, liftedOn, liftedFrom}
 
 -- above 0, or below it
 abbrev pub onSide : Bool → Float → Bool
@@ -106,7 +106,7 @@ pub record Going (b : Board) (words : List ℕ) (z r from to : ℕ) (a : FinishA
   pub low : getD (b .starts) r 0 ≤ from
   pub order : from ≤ to
   pub high : to ≤ getD (b .starts) (r + 1) 0
-  pub room : a .used + 20 * pending (weightOn b (a .floats)) + 20 * toSend b words (a .floats) z from to ≤ length (a .events)
+  pub room : due b a + 20 * toSend b words (a .floats) z from to ≤ length (a .events)
 
 -- all links of the turf r from `from` up to `at` were gone through
 pub record Progress (b : Board) (words : List ℕ) (stop : Bool) (z r from to at : ℕ) (a a′ : FinishAreas) : Type 0 where
@@ -114,8 +114,8 @@ pub record Progress (b : Board) (words : List ℕ) (stop : Bool) (z r from to at
   pub low : from ≤ at
   pub high : at ≤ to
   pub lifted : liftedOn b (a′ .floats) ≡ liftedOn b (a .floats)
-  pub fewer : pending (weightOn b (a′ .floats)) ≤ pending (weightOn b (a .floats))
-  pub room : a′ .used + 20 * toSend b words (a′ .floats) z at to ≤ a .used + 20 * toSend b words (a .floats) z from to
+  pub fewer : unfinishedOn b words z (a′ .floats) ≤ unfinishedOn b words z (a .floats)
+  pub room : due b a′ + 20 * toSend b words (a′ .floats) z at to ≤ due b a + 20 * toSend b words (a .floats) z from to
   pub shows : (f : ℕ → Held → Held) (h : Held) → Shows b a h → Shows b a′ (run (pairAs b (ownerIn (linkCount b) words) z stop f r) (upFrom from (at - from)) h)
 
 -- and there the turf is short, or the links are at their end

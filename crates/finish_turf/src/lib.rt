@@ -1,5 +1,6 @@
 // `finalize_eq` and `finalize_eq_neighbors`, which call each other. A call of the second comes after a turf's weights were lifted, one of them above 0, so
-// the number of weights above 0 falls. What a turf sends is in functions of its own, so that a turf in the cycle takes little of the stack.
+// the number of unfinished nodes of the zone falls: of turfs that have an edge with a weight above 0. What a turf sends is in functions of its own, so that a
+// turf in the cycle takes little of the stack.
 use finish_send::Sent;
 use finish_send::Span;
 use finish_send::Turf;
@@ -13,7 +14,7 @@ ghost use Prim.Native.Nat.{_<_};
 ghost use Rattle.turfs.specs.Tables.{boardAt};
 ghost use Rattle.finish_send.specs.Areas.{finishAreasAt};
 ghost use Rattle.finish_send.specs.Sending.{Going};
-ghost use Rattle.finish_turf.specs.Finishing.{TurfBegun, Finishes, turfDone, giversDone, linksEnd, SentFirst, SentRest};
+ghost use Rattle.finish_turf.specs.Finishing.{TurfBegun, TurfDone, GiversDone, linksEnd, SentFirst, SentRest};
 
 // Lifts the turf's weights and sends what is above 0, up to the first edge for which it hasn't enough.
 fn send_first(
@@ -84,7 +85,7 @@ pub fn finalize_eq(
     events: &mut [u8],
 ) -> usize
     requires { ⌜ TurfBegun (boardAt rows marks (turf .gases)) (now words) (turf .zone) (turf .row) (finishAreasAt gas floats events used) ⌝ }
-    ensures { λ r. let b = boardAt (rows .entry) (marks .entry) (turf .gases) in ⌜ Finishes b (turfDone b (now (words .entry)) turf) (finishAreasAt (gas .entry) (floats .entry) (events .entry) used) (finishAreasAt (gas .exit) (floats .exit) (events .exit) r) ⌝ }
+    ensures { λ r. let b = boardAt (rows .entry) (marks .entry) (turf .gases) in ⌜ TurfDone b (now (words .entry)) (turf .zone) (turf .row) (finishAreasAt (gas .entry) (floats .entry) (events .entry) used) (finishAreasAt (gas .exit) (floats .exit) (events .exit) r) ⌝ }
 {
     let sent = send_first(turf, used, rows, marks, gas, words, floats, events);
     let links = turfs::links_of(rows[STARTS], turf.row);
@@ -108,7 +109,7 @@ fn finalize_eq_neighbors(
     events: &mut [u8],
 ) -> usize
     requires { ⌜ TurfBegun (boardAt rows marks (turf .gases)) (now words) (turf .zone) (turf .row) (finishAreasAt gas floats events used) ⌝ }
-    ensures { λ r. let b = boardAt (rows .entry) (marks .entry) (turf .gases) in ⌜ Finishes b (giversDone b (now (words .entry)) turf) (finishAreasAt (gas .entry) (floats .entry) (events .entry) used) (finishAreasAt (gas .exit) (floats .exit) (events .exit) r) ⌝ }
+    ensures { λ r. let b = boardAt (rows .entry) (marks .entry) (turf .gases) in ⌜ GiversDone b (now (words .entry)) (turf .zone) (turf .row) (finishAreasAt (gas .entry) (floats .entry) (events .entry) used) (finishAreasAt (gas .exit) (floats .exit) (events .exit) r) ⌝ }
 {
     let zone = turf.zone;
     let gases = turf.gases;

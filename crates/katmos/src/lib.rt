@@ -1,15 +1,12 @@
 // The C interface: each function writes its answer into an array and returns the number, which is the answer's first.
 use rules_fill::Settings;
-ghost use mathlib.Core.Path.{_≡_};
-ghost use lib.ListN.{getD};
-ghost use Rattle.turfs.specs.Tables.{board};
-ghost use Rattle.events.specs.Interface.{readEvent, writeEvent};
+ghost use Rattle.rules_board.specs.Board.{board};
 ghost use Rattle.lent.specs.Given.{lentAt};
-ghost use Rattle.fill_all.specs.Held.{askOf};
+ghost use Rattle.rules_equalize.specs.Equalize.{askOf};
 ghost use Rattle.rules_equalize.specs.Result.{equalizeResult};
 ghost use Rattle.rules_planet.specs.Planet.{planetResult};
 ghost use Rattle.rules_depressurize.specs.Depressurize.{depressurizeResult};
-ghost use Rattle.call_answers.specs.Answers.{Answers, equalizeNumbers, planetNumbers, depressurizeNumbers};
+ghost use Rattle.call_answers.specs.Answers.{Answers, ReadAnswers, WriteAnswers, equalizeNumbers, planetNumbers, depressurizeNumbers};
 
 // Evens out the gas of the rooms around the hot ones: number, cancelled, processed, tests, zones, apart, bytes.
 #[no_mangle]
@@ -35,7 +32,7 @@ pub extern "C" fn katmos_equalize<'a>(
     answer: &mut [u32; 7],
 ) -> u32
     ensures { λ r. let b = board (now (ids .entry)) (now (flags .entry)) (now (planetary .entry)) (now (mixtures .entry)) (now (starts .entry)) (now (neighbours .entry)) (now («link_flags» .entry)) (now (immutable .entry)) gases in
-        ⌜ Answers equalizeNumbers (equalizeResult b (askOf (now (hot .entry)) threshold limit allowance) (now (turns .entry)) (lentAt (amounts .entry) (events .entry) (words .entry) (floats .entry))) r (now (answer .exit)) (lentAt (amounts .exit) (events .exit) (words .exit) (floats .exit)) ⌝ }
+        ⌜ Answers equalizeNumbers b (equalizeResult b (askOf (now (hot .entry)) threshold limit allowance) (now (turns .entry)) (lentAt (amounts .entry) (events .entry) (words .entry) (floats .entry))) r (now (answer .exit)) (lentAt (amounts .exit) (events .exit) (words .exit) (floats .exit)) ⌝ }
 {
     let rows = [ids, mixtures, starts, neighbours];
     let marks = [flags, planetary, link_flags, immutable];
@@ -81,7 +78,7 @@ pub extern "C" fn katmos_planet_walk<'a>(
     answer: &mut [u32; 2],
 ) -> u32
     ensures { λ r. let b = board (now (ids .entry)) (now (flags .entry)) (now (planetary .entry)) (now (mixtures .entry)) (now (starts .entry)) (now (neighbours .entry)) (now («link_flags» .entry)) (now (immutable .entry)) gases in
-        ⌜ Answers planetNumbers (planetResult b limit id (lentAt (amounts .entry) (events .entry) (words .entry) (floats .entry))) r (now (answer .exit)) (lentAt (amounts .entry) (events .exit) (words .exit) (floats .exit)) ⌝ }
+        ⌜ Answers planetNumbers b (planetResult b limit id (lentAt (amounts .entry) (events .entry) (words .entry) (floats .entry))) r (now (answer .exit)) (lentAt (amounts .entry) (events .exit) (words .exit) (floats .exit)) ⌝ }
 {
     let rows = [ids, mixtures, starts, neighbours];
     let marks = [flags, planetary, link_flags, immutable];
@@ -121,7 +118,7 @@ pub extern "C" fn katmos_depressurize<'a>(
     answer: &mut [u32; 3],
 ) -> u32
     ensures { λ r. let b = board (now (ids .entry)) (now (flags .entry)) (now (planetary .entry)) (now (mixtures .entry)) (now (starts .entry)) (now (neighbours .entry)) (now («link_flags» .entry)) (now (immutable .entry)) gases in
-        ⌜ Answers depressurizeNumbers (depressurizeResult b limit id (lentAt (amounts .entry) (events .entry) (words .entry) (floats .entry))) r (now (answer .exit)) (lentAt (amounts .exit) (events .exit) (words .exit) (floats .exit)) ⌝ }
+        ⌜ Answers depressurizeNumbers b (depressurizeResult b limit id (lentAt (amounts .entry) (events .entry) (words .entry) (floats .entry))) r (now (answer .exit)) (lentAt (amounts .exit) (events .exit) (words .exit) (floats .exit)) ⌝ }
 {
     let rows = [ids, mixtures, starts, neighbours];
     let marks = [flags, planetary, link_flags, immutable];
@@ -143,7 +140,7 @@ pub extern "C" fn katmos_depressurize<'a>(
 // The record at an offset: number, kind, next, four fields; kind 0 is the end, an amount is its bits.
 #[no_mangle]
 pub extern "C" fn katmos_read_event(events: &[u8], offset: u32, answer: &mut [u32; 7]) -> u32
-    ensures { λ r. ⌜ (now (answer .exit) ≡ readEvent (now (events .entry)) offset) × (r ≡ getD (readEvent (now (events .entry)) offset) 0 0) ⌝ }
+    ensures { λ r. ⌜ ReadAnswers (now (events .entry)) offset r (now (answer .exit)) ⌝ }
 {
     let a = events::read_event(events, offset);
     *answer = a;
@@ -162,7 +159,7 @@ pub extern "C" fn katmos_write_event(
     offset: u32,
     answer: &mut [u32; 2],
 ) -> u32
-    ensures { λ r. ⌜ (record { answer = now (answer .exit); area = now (events .exit) } ≡ writeEvent kind f0 f1 f2 f3 (now (events .entry)) offset) × (r ≡ getD (writeEvent kind f0 f1 f2 f3 (now (events .entry)) offset .answer) 0 0) ⌝ }
+    ensures { λ r. ⌜ WriteAnswers kind f0 f1 f2 f3 (now (events .entry)) offset r (now (answer .exit)) (now (events .exit)) ⌝ }
 {
     let a = events::write_event(kind, f0, f1, f2, f3, events, offset);
     *answer = a;

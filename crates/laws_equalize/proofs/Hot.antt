@@ -12,19 +12,8 @@ use Rattle.basics.specs.Lists.{Found}
 use Rattle.basics.proofs.Loops.{All-any, run-keeps}
 use Rattle.rules_board.specs.Board.{Board, turfCount, linkCount, enabled, rowOf}
 use Rattle.turfs.proofs.Accepted.{row-below}
-use Rattle.rules_equalize.specs.Equalize.{Ask, Filled, passedOver, fillFrom, hotRow, hotId, fillAll}
+use Rattle.rules_equalize.specs.Equalize.{Ask, Filled, startFilled, passedOver, fillFrom, hotRow, hotId, fillAll}
 use Rattle.rules_equalize.specs.Worked as worked  -- checked before the laws
-
--- where filling starts
-abbrev pub startFilled : Board → Filled
-startFilled b = record {
-  found = replicate (turfCount b) 0;
-  owner = replicate (linkCount b) 0;
-  zones = [];
-  tests = 0;
-  events = [];
-  cancelled = false;
-}
 
 module _ (b : Board) (gas : List Float) (q : Ask) where
   -- what a turf has that a zone is filled from

@@ -19,74 +19,47 @@ use Rattle.turfs.specs.Tables.{Accepted}
 use Rattle.rules_fill.specs.Fill.{Fill, fill}
 use Rattle.laws_fill.proofs.Rest.{fill-tests}
 use Rattle.rules_finish.specs.Turns.{nodeCount}
-use Rattle.rules_equalize.specs.Equalize.{Ask, Filled, Equalized, afterFill, passedOver, fillFrom, hotRow, hotId, fillAll, cancel, played, equalize}
-use Rattle.laws_equalize.proofs.Hot.{startFilled}
+use Rattle.rules_equalize.specs.Equalize.{Ask, Filled, startFilled, afterFill, passedOver, fillFrom, hotRow, hotId, fillAll, cancel, played, equalize}
+use Rattle.rules_equalize.specs.Clock.{popsOf, fillOf, fillAt, fills, pops, Timed}
 use Rattle.laws_equalize.proofs.Zones.{Zoned, zoned}
 
--- the turfs that fills popped
-unfoldable pub popsOf : List Fill → ℕ
-popsOf [] = 0
-popsOf (t ∷ ts) = t .popped + popsOf ts
-
 module _ (b : Board) (gas : List Float) (q : Ask) where
-  -- the fill that a hot turf starts
-  abbrev pub fillOf : ℕ → Filled → Fill
-  fillOf r s = fill b gas (q .limit) (q .allowance) (length (s .zones)) r (s .found) (s .owner) (s .events) (s .tests)
-
-  -- the fill of a row, unless it is passed over
-  unfoldable pub fillAt : Spot → Filled → List Fill
-  fillAt Nowhere s = []
-  fillAt (At r) s = cond (passedOver b gas q r (s .found)) [] (fillOf r s ∷ [])
-
-  -- every fill of the call, in order, those of ignored zones too
-  unfoldable pub fills : List ℕ → Filled → List Fill
-  fills [] s = []
-  fills (i ∷ is) s = cond (s .cancelled) [] (fillAt (rowOf b i) s) ++ fills is (hotId b gas q i s)
-
-  -- the turfs popped by the call
-  abbrev pub pops : ℕ
-  pops = popsOf (fills (q .hot) (startFilled b))
-
   pops-append : (ts us : List Fill) → popsOf (ts ++ us) ≡ popsOf ts + popsOf us
   unfolding popsOf
   pops-append [] us = omega arith
   pops-append (t ∷ ts) us = omega (arith, pops-append ts us)
 
-  row-tests : (o : Spot) (s : Filled) → hotRow b gas q o s .tests ≡ s .tests + popsOf (fillAt o s)
+  row-tests : (o : Spot) (s : Filled) → hotRow b gas q o s .tests ≡ s .tests + popsOf (fillAt b gas q o s)
   unfolding hotRow fillAt popsOf fillFrom afterFill
   row-tests Nowhere s = omega arith
   row-tests (At r) s = go (passedOver b gas q r (s .found))
     where
-      go : (t : Bool) → cond t s (fillFrom b gas q r s) .tests ≡ s .tests + popsOf (cond t [] (fillOf r s ∷ []))
+      go : (t : Bool) → cond t s (fillFrom b gas q r s) .tests ≡ s .tests + popsOf (cond t [] (fillOf b gas q r s ∷ []))
       go true = omega arith
       go false = omega (arith, fill-tests b gas (q .limit) (q .allowance) (length (s .zones)) r (s .found) (s .owner) (s .events) (s .tests))
 
-  id-tests : (i : ℕ) (s : Filled) → hotId b gas q i s .tests ≡ s .tests + popsOf (cond (s .cancelled) [] (fillAt (rowOf b i) s))
+  id-tests : (i : ℕ) (s : Filled) → hotId b gas q i s .tests ≡ s .tests + popsOf (cond (s .cancelled) [] (fillAt b gas q (rowOf b i) s))
   unfolding hotId popsOf
   id-tests i s = go (s .cancelled)
     where
-      go : (t : Bool) → cond t s (hotRow b gas q (rowOf b i) s) .tests ≡ s .tests + popsOf (cond t [] (fillAt (rowOf b i) s))
+      go : (t : Bool) → cond t s (hotRow b gas q (rowOf b i) s) .tests ≡ s .tests + popsOf (cond t [] (fillAt b gas q (rowOf b i) s))
       go true = omega arith
       go false = row-tests (rowOf b i) s
 
-  all-tests : (is : List ℕ) (s : Filled) → run (hotId b gas q) is s .tests ≡ s .tests + popsOf (fills is s)
+  all-tests : (is : List ℕ) (s : Filled) → run (hotId b gas q) is s .tests ≡ s .tests + popsOf (fills b gas q is s)
   unfolding run fills popsOf
   all-tests [] s = omega arith
   all-tests (i ∷ is) s =
-      omega (arith, all-tests is (hotId b gas q i s), id-tests i s, pops-append (cond (s .cancelled) [] (fillAt (rowOf b i) s)) (fills is (hotId b gas q i s)))
+      omega (arith, all-tests is (hotId b gas q i s), id-tests i s, pops-append (cond (s .cancelled) [] (fillAt b gas q (rowOf b i) s)) (fills b gas q is (hotId b gas q i s)))
 
   -- filling makes a test a pop
-  pub filling-tests : fillAll b gas q .tests ≡ pops
+  pub filling-tests : fillAll b gas q .tests ≡ pops b gas q
   unfolding fillAll
   filling-tests = all-tests (q .hot) (startFilled b) ∙ omega arith
 
   -- ---- the call
 
-  pub record Timed (e : Equalized) : Type 0 where
-    pub done : e .cancelled ≡ 0 → (e .tests ≡ pops + 2) × (e .tests ≤ q .allowance)
-    pub over : e .cancelled ≡ 1 → (e .tests ≡ q .allowance + 1) × ((e .tests ≡ pops) ⊎ ((e .tests ≡ pops + 1) ⊎ (e .tests ≡ pops + 2)))
-
-  pub tests-made : {n : ℕ} → Accepted b n → (turns : List ℕ) → Timed (equalize b gas q turns)
+  pub tests-made : {n : ℕ} → Accepted b n → (turns : List ℕ) → Timed b gas q (equalize b gas q turns)
   unfolding equalize cancel played
   tests-made h turns = go (s .cancelled) refl (ltb (q .allowance) (s .tests + 1)) refl (ltb (q .allowance) (s .tests + 2)) refl
     where
@@ -100,7 +73,7 @@ module _ (b : Board) (gas : List Float) (q : Ask) where
       no e = suc-ne-zero 0 e
 
       go : (c1 : Bool) → s .cancelled ≡ c1 → (c2 : Bool) → ltb (q .allowance) (s .tests + 1) ≡ c2 → (c3 : Bool) → ltb (q .allowance) (s .tests + 2) ≡ c3
-          → Timed (cond c1 (cancel b gas q 0 (s .tests) (s .events))
+          → Timed b gas q (cond c1 (cancel b gas q 0 (s .tests) (s .events))
           (cond c2 (cancel b gas q 0 (s .tests + 1) (s .events)) (cond c3 (cancel b gas q (nodeCount (s .zones)) (s .tests + 2) (s .events)) (played b gas q turns s))))
       go true e1 c2 e2 c3 e3 = record { done = λ i. absurd (no i); over = λ i. (z .over e1, inl filling-tests) }
       go false e1 true e2 c3 e3 = record {

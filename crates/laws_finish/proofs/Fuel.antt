@@ -1,5 +1,5 @@
 -- How deep finishing goes: a call that finishes givers has lifted a positive weight, so any count of levels above the positive weights gives one result.
--- A cycle of two functions ends by the same count: twice it for a turf, twice it and one for the givers. Assumes nothing.
+-- Assumes nothing.
 use mathlib.Core.Path.{_≡_, refl, ap}
 use mathlib.Core.List.{List, [], _∷_, map}
 use mathlib.Core.Bool.{cond}

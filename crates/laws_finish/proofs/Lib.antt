@@ -4,4 +4,5 @@ pub mod Jobs
 pub mod Order
 pub mod Fuel
 pub mod Slices
+pub mod Unfinished
 pub mod Room

@@ -79,6 +79,23 @@ module _ (b : Board) (owner : List ℕ) (z : ℕ) (Q : Held → Type 0) (sends :
       let g = cond t (giversHeld b owner z f r h) h in
       cond-both Q (above x) (sendHeld b owner z r k x g) h (sends r k x g (cond-both Q t (giversHeld b owner z f r h) h (givers-keep r h q) q)) q
 
+-- ---- a turf with no positive weight
+
+no-false : (t : Bool) → T (not t) → t ≡ false
+no-false true h = absurd h
+no-false false h = refl
+
+module _ (b : Board) (owner : List ℕ) (z r : ℕ) (w : List Float) where
+  pub quiet-is : T (quiet b owner z r w) → (k : ℕ) → T (member k (edgesOf b owner z r)) → above (getD w k nan) ≡ false
+  unfolding quiet
+  quiet-is t k m = no-false (above (getD w k nan))
+      (member-has (λ j. T (not (above (getD w j nan)))) k (edgesOf b owner z r) (every-all (λ j. not (above (getD w j nan))) (edgesOf b owner z r) t) m)
+
+  pub is-quiet : ((k : ℕ) → T (member k (edgesOf b owner z r)) → above (getD w k nan) ≡ false) → T (quiet b owner z r w)
+  unfolding quiet
+  is-quiet h = all-every (λ j. not (above (getD w j nan))) (edgesOf b owner z r)
+      (All-imp (λ j. T (member j (edgesOf b owner z r))) (λ j. T (not (above (getD w j nan)))) (edgesOf b owner z r) (λ j m. not-of (above (getD w j nan)) (h j m)) (members (edgesOf b owner z r)))
+
 -- ---- the theorem
 
 -- a link leaves one turf
@@ -91,20 +108,6 @@ module _ (b : Board) (owner : List ℕ) (z : ℕ) (src : ℕ → ℕ) (srcs : (r
 
   pub one-row : (r r′ k : ℕ) → Mine r k → Mine r′ k → r ≡ r′
   one-row r r′ k m m′ = sym (member-has (λ j. src j ≡ r) k (edgesOf b owner z r) (srcs r) m) ∙ member-has (λ j. src j ≡ r′) k (edgesOf b owner z r′) (srcs r′) m′
-
-  no-false : (t : Bool) → T (not t) → t ≡ false
-  no-false true h = absurd h
-  no-false false h = refl
-
-  pub quiet-is : (r : ℕ) (w : List Float) → T (quiet b owner z r w) → Quiet r w
-  unfolding quiet
-  quiet-is r w t k m = no-false (above (getD w k nan))
-      (member-has (λ j. T (not (above (getD w j nan)))) k (edgesOf b owner z r) (every-all (λ j. not (above (getD w j nan))) (edgesOf b owner z r) t) m)
-
-  pub is-quiet : (r : ℕ) (w : List Float) → Quiet r w → T (quiet b owner z r w)
-  unfolding quiet
-  is-quiet r w h = all-every (λ j. not (above (getD w j nan))) (edgesOf b owner z r)
-      (All-imp (λ j. Mine r j) (λ j. T (not (above (getD w j nan)))) (edgesOf b owner z r) (λ j m. not-of (above (getD w j nan)) (h j m)) (members (edgesOf b owner z r)))
 
   -- the weights went down from w₀, and the link K has the lifted weight c
   pub record Holds (K : ℕ) (w₀ : List Float) (c : Float) (h : Held) : Type 0 where
@@ -129,7 +132,7 @@ module _ (b : Board) (owner : List ℕ) (z : ℕ) (src : ℕ → ℕ) (srcs : (r
         es = edgesOf b owner z r
 
         loud : quiet b owner z r (h .done .weight) ≡ false → T (member K es) → ⊥
-        loud e m = subst T e (is-quiet r (h .done .weight) (λ k i. q .below k (safe r m k i)))
+        loud e m = subst T e (is-quiet b owner z r (h .done .weight) (λ k i. q .below k (safe r m k i)))
 
         go : (t : Bool) → quiet b owner z r (h .done .weight) ≡ t → ((a : ℕ) (g : Held) → H g → H (finishHeld b owner z n a g))
             → H (cond t (record { done = cleared b owner z r (h .done); lifted = h .lifted })
@@ -262,7 +265,7 @@ module _ (b : Board) (owner : List ℕ) (z : ℕ) (src : ℕ → ℕ) (srcs : (r
           → cond t (record { done = cleared b owner z r (h .done); lifted = h .lifted }) (run (pairHeld b owner z (λ a g. finishHeld b owner z n a g) r) (es r w e) up) .done ≡ goal
       go true t ih =
           ap (λ (qs : List Pair). run (finishPair b owner z (λ a u. finish b owner z n a u) r (ps r w e)) qs (cleared b owner z r (h .done)))
-          (sym (keep-none (λ p. above (p .amount)) (ps r w e) (none (quiet-is r w (subst T (sym t) tt)))))
+          (sym (keep-none (λ p. above (p .amount)) (ps r w e) (none (quiet-is b owner z r w (subst T (sym t) tt)))))
       go false t ih =
           run-both (Mine r) (Midway r w e) (pairHeld b owner z (λ a g. finishHeld b owner z n a g) r) (λ k u. cond (above (getD w k nan)) (finishPair b owner z (λ a t′. finish b owner z n a t′) r (ps r w e) (pair r w e k) u) u)
           (λ k g u m i. pair-midway r w e n ih k g u m i) (es r w e) up (cleared b owner z r (h .done)) (members (es r w e))

@@ -11,9 +11,9 @@ use borrow.Author.Tests.{leb-true}
 use Rattle.basics.specs.Loops.{every, allOf}
 use Rattle.basics.specs.Floats.{0f}
 use Rattle.basics.proofs.Tests.{each}
-use Rattle.rules_board.specs.Board.{Board}
+use Rattle.rules_board.specs.Board.{Board, board}
 use Rattle.rules_board.specs.Refuse.{sizesFit, tablesFit, idsFit, linksFit}
-use Rattle.turfs.specs.Tables.{board, Small}
+use Rattle.turfs.specs.Tables.{Small}
 use Rattle.turfs.proofs.Tables.{amounts-of, tables-of}
 use Rattle.rules_mixture.specs.Mixture.{amountFits}
 use Rattle.rules_events.specs.declared.Event.{Event}

@@ -1,4 +1,4 @@
--- Two outcomes that the promise of a public function allows for one input are equal: number, counts and every lent cell. Each promise is an equation with the
+-- Two outcomes that the promise of a function of the library allows for one input are equal: number, counts and every lent cell. Each promise is an equation with the
 -- definition's result, or says the answer and every cell place by place. Assumes nothing.
 use mathlib.Core.Path.{_≡_, ap, _∙_, sym}
 use mathlib.Core.List.{List, _++_}
@@ -8,7 +8,6 @@ use Rattle.rules_board.specs.Board.{Board}
 use Rattle.events.specs.Area.{Wrote}
 use Rattle.rules_events.specs.Events.{Put, put, readAt}
 use Rattle.rules_events.specs.Lister.{listing}
-use Rattle.events.specs.Interface.{WriteEvent, readEvent, writeEvent}
 use Rattle.rules_events.specs.declared.Event.{Event}
 use Rattle.rules_events.specs.declared.Reading.{Reading}
 use Rattle.rules_lent.specs.Lent.{Lent, Result, Extra, refusal}
@@ -19,7 +18,6 @@ use Rattle.rules_depressurize.specs.Depressurize.{depressurizeResult}
 use Rattle.rules_depressurize.specs.declared.DepressurizeAnswer.{DepressurizeAnswer}
 use Rattle.rules_planet.specs.Planet.{planetResult}
 use Rattle.rules_planet.specs.declared.PlanetAnswer.{PlanetAnswer}
-use Rattle.call_answers.specs.Answers.{Answers}
 
 -- an equation with one result allows one outcome
 once : {A : Type 0} (x o o′ : A) → o ≡ x → o′ ≡ x → o ≡ o′
@@ -36,25 +34,13 @@ depressurize-once b limit id l = once (depressurizeResult b limit id l)
 pub planet-once : (b : Board) (limit id : ℕ) (l : Lent) (o o′ : Result PlanetAnswer) → o ≡ planetResult b limit id l → o′ ≡ planetResult b limit id l → o ≡ o′
 planet-once b limit id l = once (planetResult b limit id l)
 
--- ---- the exported calls: what was returned, the answer's array, all that was lent
-
-module _ {A : Type 0} (numbers : A → List ℕ) (o : Result A) (n n′ : ℕ) (a a′ : List ℕ) (l l′ : Lent) where
-  pub answers-once : Answers numbers o n a l → Answers numbers o n′ a′ l′ → (n ≡ n′) × ((a ≡ a′) × (l ≡ l′))
-  answers-once x y = (x .returned ∙ sym (y .returned), (x .written ∙ sym (y .written), x .lent ∙ sym (y .lent)))
-
 -- ---- events
 
 pub read-once : (area : List ℕ) (offset : ℕ) (o o′ : Reading) → o ≡ readAt area offset → o′ ≡ readAt area offset → o ≡ o′
 read-once area offset = once (readAt area offset)
 
-pub read-event-once : (area : List ℕ) (offset : ℕ) (o o′ : List ℕ) → o ≡ readEvent area offset → o′ ≡ readEvent area offset → o ≡ o′
-read-event-once area offset = once (readEvent area offset)
-
 pub put-once : (e : Event) (area : List ℕ) (offset : ℕ) (o o′ : Put) → o ≡ put e area offset → o′ ≡ put e area offset → o ≡ o′
 put-once e area offset = once (put e area offset)
-
-pub write-event-once : (kind a b c d : ℕ) (area : List ℕ) (offset : ℕ) (o o′ : WriteEvent) → o ≡ writeEvent kind a b c d area offset → o′ ≡ writeEvent kind a b c d area offset → o ≡ o′
-write-event-once kind a b c d area offset = once (writeEvent kind a b c d area offset)
 
 -- ---- the refusals
 

@@ -17,11 +17,12 @@ use Rattle.basics.proofs.Tests.{differ}
 use Rattle.rules_events.specs.Events.{Put, wordOf, kindOf, fieldsOf, sound, encode, put, sizeOf, decode, readAt, readNumbers, putFields}
 use Rattle.rules_events.specs.Readings.{Fitting}
 use Rattle.rules_events.specs.declared.Event.{Event}
-use Rattle.events.specs.Interface.{reach, readEvent, writeEvent}
+use Rattle.events.specs.Interface.{WriteEvent, reach, readEvent, writeEvent}
 use Rattle.events.proofs.ReadAll.{Wrote, wrote, put-read}
 use Rattle.events.proofs.Exact.{bits-back}
 use Rattle.events.proofs.Numbers.{reach-take}
-use Rattle.promises.specs.ReadsBack.{Words, fieldsBack}
+use Rattle.call_answers.specs.Answers.{Words, ReadAnswers, WriteAnswers}
+use Rattle.promises.specs.ReadsBack.{fieldsBack}
 
 -- ---- an event made of a kind and four u32s
 
@@ -109,3 +110,10 @@ module _ (kind a b c d : ℕ) (w : Words (a ∷ b ∷ c ∷ d ∷ [])) (s : List
       ∙ ap (λ (p : Put). readNumbers (readAt (p .area) o)) (u .1)
       ∙ ap readNumbers (put-read e t o y (m .fitting))
       ∙ (λ i. 0 ∷ m .kind i ∷ sym (ap (λ (p : Put). p .answer .next) (u .1)) i ∷ take 4 (m .words i ++ (0 ∷ 0 ∷ 0 ∷ 0 ∷ [])))
+
+-- the exported pair: what an accepted call of the one wrote, the other gives back
+pub katmos-write-read : (kind a b c d : ℕ) (s : List ℕ) (o n : ℕ) (x s′ : List ℕ) → WriteAnswers kind a b c d s o n x s′ → n ≡ 0 → (m : ℕ) (y : List ℕ) → ReadAnswers s′ o m y
+    → y ≡ 0 ∷ kind ∷ getD x 1 0 ∷ fieldsBack kind (a ∷ b ∷ c ∷ d ∷ [])
+katmos-write-read kind a b c d s o n x s′ h z m y r =
+    r .written ∙ ap (λ (p : WriteEvent). readEvent (p .area) o) (h .done) ∙ write-read kind a b c d (h .fields) s o (sym (h .returned) ∙ z)
+    ∙ sym (ap (λ (p : WriteEvent). 0 ∷ kind ∷ getD (p .answer) 1 0 ∷ fieldsBack kind (a ∷ b ∷ c ∷ d ∷ [])) (h .done))

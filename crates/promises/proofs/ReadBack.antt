@@ -27,12 +27,12 @@ use Rattle.rules_planet.specs.Planet.{planetWalk, planetRoom, planetNumber, pla
 use Rattle.rules_planet.specs.declared.PlanetAnswer.{PlanetAnswer}
 use Rattle.rules_depressurize.specs.Depressurize.{depressurize, depressurizeRoom, depressurizeNumber, depressurizeDone, depressurizeResult}
 use Rattle.rules_depressurize.specs.declared.DepressurizeAnswer.{DepressurizeAnswer}
-use Rattle.call_answers.specs.Answers.{Answers, equalizeNumbers, planetNumbers, depressurizeNumbers}
+use Rattle.call_answers.specs.Answers.{Answers, Words, equalizeNumbers, planetNumbers, depressurizeNumbers}
 use Rattle.laws_equalize.proofs.Room.{events-room}
 use Rattle.laws_planet.proofs.Room.{planet-room}
 use Rattle.laws_depressurize.proofs.Room.{depressurize-room}
 use Rattle.laws_finite.proofs.Calls.{equalize-call, planet-call, depressurize-call}
-use Rattle.promises.specs.ReadsBack.{Words, ReadsBack}
+use Rattle.promises.specs.ReadsBack.{ReadsBack}
 
 -- events that are read back, written at the start of an area
 starts-with : (es : List Event) (t : List ℕ) → All Readable es → size es < 4294967296 → ReadsBack (take (size es) (encodeAll es ++ t)) es
@@ -86,12 +86,12 @@ module _ (b : Board) (ids : Words (b .ids)) (l : Lent) where
 
 -- ---- the exported calls, by what they returned, wrote into the answer and left
 
-module _ (b : Board) (ids : Words (b .ids)) (l : Lent) (n : ℕ) (a : List ℕ) (left : Lent) (z : n ≡ 0) where
-  pub katmos-equalize-reads : (q : Ask) (turns : List ℕ) → Answers equalizeNumbers (equalizeResult b q turns l) n a left → ReadsBack (take (getD a 6 0) (left .area)) (equalize b (l .gas) q turns .events)
-  katmos-equalize-reads q turns h = rw (h .written, h .lent) (equalize-reads b ids l q turns (equalizeResult b q turns l) refl (sym (h .returned) ∙ z))
+module _ (b : Board) (l : Lent) (n : ℕ) (a : List ℕ) (left : Lent) (z : n ≡ 0) where
+  pub katmos-equalize-reads : (q : Ask) (turns : List ℕ) → Answers equalizeNumbers b (equalizeResult b q turns l) n a left → ReadsBack (take (getD a 6 0) (left .area)) (equalize b (l .gas) q turns .events)
+  katmos-equalize-reads q turns h = rw (h .written, h .lent) (equalize-reads b (h .ids) l q turns (equalizeResult b q turns l) refl (sym (h .returned) ∙ z))
 
-  pub katmos-depressurize-reads : (limit id : ℕ) → Answers depressurizeNumbers (depressurizeResult b limit id l) n a left → ReadsBack (take (getD a 2 0) (left .area)) (depressurize b (l .gas) limit id .events)
-  katmos-depressurize-reads limit id h = rw (h .written, h .lent) (depressurize-reads b ids l limit id (depressurizeResult b limit id l) refl (sym (h .returned) ∙ z))
+  pub katmos-depressurize-reads : (limit id : ℕ) → Answers depressurizeNumbers b (depressurizeResult b limit id l) n a left → ReadsBack (take (getD a 2 0) (left .area)) (depressurize b (l .gas) limit id .events)
+  katmos-depressurize-reads limit id h = rw (h .written, h .lent) (depressurize-reads b (h .ids) l limit id (depressurizeResult b limit id l) refl (sym (h .returned) ∙ z))
 
-  pub katmos-planet-reads : (limit id : ℕ) → Answers planetNumbers (planetResult b limit id l) n a left → ReadsBack (take (getD a 1 0) (left .area)) (planetWalk b limit id)
-  katmos-planet-reads limit id h = rw (h .written, h .lent) (planet-reads b ids l limit id (planetResult b limit id l) refl (sym (h .returned) ∙ z))
+  pub katmos-planet-reads : (limit id : ℕ) → Answers planetNumbers b (planetResult b limit id l) n a left → ReadsBack (take (getD a 1 0) (left .area)) (planetWalk b limit id)
+  katmos-planet-reads limit id h = rw (h .written, h .lent) (planet-reads b (h .ids) l limit id (planetResult b limit id l) refl (sym (h .returned) ∙ z))

@@ -20,6 +20,20 @@ pub record Board : Type 0 where
   pub immutable : List ℕ  -- by mixture, nonzero: immutable
   pub gases : ℕ  -- G, the amounts that a mixture has
 
+-- the tables in the order of the C interface
+abbrev pub board : List ℕ → List ℕ → List ℕ → List ℕ → List ℕ → List ℕ → List ℕ → List ℕ → ℕ → Board
+board ids flags planetary mixtures starts neighbours linkFlags immutable gases = record {
+  ids = ids;
+  flags = flags;
+  planetary = planetary;
+  mixtures = mixtures;
+  starts = starts;
+  neighbours = neighbours;
+  linkFlags = linkFlags;
+  immutable = immutable;
+  gases = gases;
+}
+
 -- SimulationFlags::SIMULATION_ANY: bit 0 or bit 1
 abbrev pub «SIMULATION_ANY» : ℕ
 «SIMULATION_ANY» = 3

@@ -24,6 +24,10 @@ pub record Ask : Type 0 where
   pub limit : ℕ  -- `equalize_hard_turf_limit`
   pub allowance : ℕ  -- test k is over when k exceeds it
 
+-- the same of its parts
+abbrev pub askOf : List ℕ → Float → ℕ → ℕ → Ask
+askOf hot threshold limit allowance = record { hot = hot; threshold = threshold; limit = limit; allowance = allowance }
+
 -- what filling has come to
 pub record Filled : Type 0 where
   pub found : List ℕ
@@ -32,6 +36,17 @@ pub record Filled : Type 0 where
   pub tests : ℕ
   pub events : List Event
   pub cancelled : Bool
+
+-- where filling starts
+abbrev pub startFilled : Board → Filled
+startFilled b = record {
+  found = replicate (turfCount b) 0;
+  owner = replicate (linkCount b) 0;
+  zones = [];
+  tests = 0;
+  events = [];
+  cancelled = false;
+}
 
 -- `our_moles < 10.0`
 abbrev pub 10f : Float
@@ -75,14 +90,7 @@ module _ (b : Board) (gas : List Float) (q : Ask) where
 
   -- all hot ids, ascending
   unfoldable pub fillAll : Filled
-  fillAll = run hotId (q .hot) (record {
-    found = replicate (turfCount b) 0;
-    owner = replicate (linkCount b) 0;
-    zones = [];
-    tests = 0;
-    events = [];
-    cancelled = false;
-  })
+  fillAll = run hotId (q .hot) (startFilled b)
 
 module _ (b : Board) (gas : List Float) where
   -- every zone's weights

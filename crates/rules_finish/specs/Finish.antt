@@ -62,10 +62,11 @@ module _ (b : Board) (owner : List ℕ) (z : ℕ) where
       let short = lt (total b (s .gas) r) (p .amount) in
       send r p (finishGivers f (if short then ps else []) s)
 
-  -- `finalize_eq`; calls go at most n deep. A lifted turf has no positive weight left and finishes nobody, so one more than there are links is enough.
+  -- `finalize_eq`, with calls that go at most `depth` deep. A lifted turf has no positive weight left and finishes nobody, so a depth above the number of positive
+  -- weights never ends a call, and any two such depths give the same: `enough` (laws_finish, proofs/Fuel). The turns take one more than there are links.
   unfoldable pub finish : ℕ → ℕ → Done → Done
   finish zero r s = s
-  finish (suc n) r s =
+  finish (suc depth) r s =
       let ps = pairs r (s .weight) in
-      run (finishPair (λ a t. finish n a t) r ps) (positive ps)
+      run (finishPair (λ a t. finish depth a t) r ps) (positive ps)
       (record { gas = s .gas; weight = zeroLifted (edgesOf b owner z r) (s .weight); events = s .events })

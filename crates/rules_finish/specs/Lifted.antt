@@ -4,10 +4,10 @@ use mathlib.Core.Bool.{Bool, not, cond}
 use Prim.Native.Nat.{ℕ, zero, suc}
 use lib.ListN.{getD, set}
 use lib.Ieee.{Float, nan, lt}
-use Rattle.basics.specs.Loops.{run, every}
+use Rattle.basics.specs.Loops.{run, every, upFrom}
 use Rattle.basics.specs.Lists.{count}
 use Rattle.basics.specs.Floats.{0f}
-use Rattle.rules_board.specs.Board.{Board, end}
+use Rattle.rules_board.specs.Board.{Board, turfCount, end}
 use Rattle.rules_mixture.specs.Mixture.{total}
 use Rattle.rules_plan.specs.Edges.{edgesOf}
 use Rattle.rules_finish.specs.Finish.{Done, zeroLifted, send}
@@ -34,6 +34,10 @@ module _ (b : Board) (owner : List ℕ) (z : ℕ) where
   -- none of the turf's edges has a positive weight
   unfoldable pub quiet : ℕ → List Float → Bool
   quiet r w = every (λ k. not (above (getD w k nan))) (edgesOf b owner z r)
+
+  -- the zone's unfinished nodes: the turfs that have an edge with a positive weight
+  unfoldable pub unfinishedNodes : List Float → ℕ
+  unfinishedNodes w = count (λ r. not (quiet r w)) (upFrom 0 (turfCount b))
 
   -- the turf's weights lifted: 0 is left
   abbrev pub cleared : ℕ → Done → Done

@@ -16,7 +16,7 @@ abbrev pub alter : Spot → (Float → Float) → List Float → List Float
 alter (At k) f w = set w k (f (getD w k nan))
 alter Nowhere f w = w
 
--- `owner` has by link z + 1 for an edge of zone z, and 0 for a link of none
+-- `owner` has by link z + 1 for an edge of zone z, and 0 for a link of none: zones count from 0, and 0 is what a link has before any zone is filled
 module _ (b : Board) (owner : List ℕ) (z : ℕ) where
   -- whether the zone has the link
   abbrev pub owned : ℕ → Bool

@@ -8,10 +8,12 @@ use turfs::Rows;
 ghost use mathlib.Core.Path.{_≡_};
 ghost use mathlib.Core.List.{[]};
 ghost use Prim.Native.Nat.{ℕ};
-ghost use Rattle.turfs.specs.Tables.{board, boardAt};
+ghost use Rattle.rules_board.specs.Board.{board};
+ghost use Rattle.turfs.specs.Tables.{boardAt};
 ghost use Rattle.lent.specs.Given.{lentAt};
 ghost use Rattle.rules_equalize.specs.Result.{equalizeNumber};
-ghost use Rattle.fill_all.specs.Held.{askOf, asked};
+ghost use Rattle.fill_all.specs.Held.{asked};
+ghost use Rattle.rules_equalize.specs.Equalize.{askOf};
 ghost use Rattle.stages.specs.Stages.{StageFills, Few, fillNumbers, FillAnswers, StagePlans, PlanAnswers};
 
 // What filling answers: its number, and what it came to.

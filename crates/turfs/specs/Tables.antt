@@ -8,22 +8,8 @@ use lib.ListN.{length, getD, drop}
 use denote.Ref.{RefT}
 use Rattle.basics.specs.Loops.{every, upFrom}
 use Rattle.basics.specs.Lists.{count}
-use Rattle.rules_board.specs.Board.{Board, turfCount, linkCount, mixtureCount, mixOf, end, neighboursOf}
+use Rattle.rules_board.specs.Board.{Board, turfCount, linkCount, mixtureCount, mixOf, end, neighboursOf, board}
 use Rattle.rules_board.specs.Refuse.{ascending, rising, rowFits}
-
--- the tables in the order of the C interface
-abbrev pub board : List ℕ → List ℕ → List ℕ → List ℕ → List ℕ → List ℕ → List ℕ → List ℕ → ℕ → Board
-board ids flags planetary mixtures starts neighbours linkFlags immutable gases = record {
-  ids = ids;
-  flags = flags;
-  planetary = planetary;
-  mixtures = mixtures;
-  starts = starts;
-  neighbours = neighbours;
-  linkFlags = linkFlags;
-  immutable = immutable;
-  gases = gases;
-}
 
 -- ---- the tables as they travel: `rows` are ids, mixtures, starts, neighbours; `marks` are flags, planetary, link flags, immutable
 

@@ -4,7 +4,7 @@ use native.Mathlib.Omega.{arith}
 use native.Mathlib.Numerals.{add-one}
 use mathlib.Core.Path.{_≡_, refl, ap, ap₂, _∙_, sym, subst}
 use mathlib.Core.List.{List, [], _∷_, _++_}
-use mathlib.Core.Bool.{Bool, true, false, not}
+use mathlib.Core.Bool.{Bool, not}
 use lib.Dec.{T, eqb}
 use lib.ListN.{length, getD, take, drop, set, length-set}
 use lib.Seq.{take-suc-set, length-take-le}
@@ -14,67 +14,23 @@ use Rattle.basics.specs.Floats.{_+f_}
 use Rattle.basics.specs.Regions.{cut, region}
 use Rattle.basics.proofs.Regions.{cut-set, cut-get, cut-length}
 use Rattle.rules_board.specs.Board.{Board, turfCount, mixOf}
-use Rattle.rules_events.specs.Events.{encodeAll, encode, kindOf, sizeOf}
+use Rattle.rules_events.specs.Events.{encodeAll}
 use Rattle.events.specs.Area.{Wrote}
 use Rattle.rules_events.specs.declared.Event.{Event}
-use Rattle.rules_events.specs.declared.Event.the-variants.{HighPressure, Difference, FloorRip}
+use Rattle.rules_events.specs.declared.Event.the-variants.{FloorRip}
 use Rattle.events.proofs.Areas.{wrote-length}
-use Rattle.events.proofs.Sizes.{encode-size, size, size-cons}
 use Rattle.index_set.specs.Line.{Below}
 use Rattle.index_set.proofs.Queue.{Below-snoc}
 use Rattle.scratch.specs.Layout.{outSizes, backSizes, waysAt, sumsAt}
 use Rattle.walk_first.specs.Does.{WalkDoes}
-use Rattle.walk_first.proofs.Does.{both-wrote, one-wrote}
 use Rattle.rules_back.specs.Back.{backTo}
-use Rattle.walk_back.specs.Backed.{notNegative, BackState, backAt, ripsOf, backIn, backOf, BackFits, backing, Points, directions, Settled, told}
+use Rattle.walk_steps.specs.Steps.{told}
+use Rattle.walk_steps.proofs.Steps.{told-size}
+use Rattle.walk_back.specs.Backed.{notNegative, BackState, backAt, ripsOf, backIn, backOf, BackFits, backing, Points, directions, Settled}
 use Rattle.walk_back.specs.declared.Way.{Way}
 use Rattle.walk_back.specs.declared.Sums.{Sums}
 use Rattle.walk_back.proofs.Signs.{add-clear, clear-number, every-at, every-set, every-snoc, total-clear, cleared-clear}
 use Rattle.rules_back.specs.Worked as worked  -- checked before the laws
-
--- ---- the events of a turf
-
-high-kind : (id : ℕ) → sizeOf (kindOf (HighPressure id)) ≡ 8
-unfolding sizeOf kindOf
-high-kind id = refl
-
-difference-kind : (id : ℕ) (x : Float) → sizeOf (kindOf (Difference id x id id)) ≡ 20
-unfolding sizeOf kindOf
-difference-kind id x = refl
-
-high-size : (id : ℕ) → length (encode (HighPressure id)) ≡ 8
-high-size id = encode-size (HighPressure id) ∙ high-kind id
-
-difference-size : (id : ℕ) (x : Float) → length (encode (Difference id x id id)) ≡ 20
-difference-size id x = encode-size (Difference id x id id) ∙ difference-kind id x
-
-module _ (id : ℕ) (mine theirs : Float) (used : ℕ) (e : List ℕ) (room : used + 48 ≤ length e) where
-  pub high-room : used + 8 ≤ length e
-  high-room = omega arith
-
-  module _ (e₁ : List ℕ) (u₁ : ℕ) (w₁ : Wrote (encode (HighPressure id)) used u₁ e e₁) where
-    pub mine-room : u₁ + 20 ≤ length e₁
-    mine-room = omega (arith, high-size id, w₁ .end, wrote-length w₁)
-
-    module _ (e₂ : List ℕ) (u₂ : ℕ) (w₂ : Wrote (encode (Difference id mine id id)) u₁ u₂ e₁ e₂) where
-      pub theirs-room : u₂ + 20 ≤ length e₂
-      theirs-room = omega (arith, high-size id, difference-size id mine, w₁ .end, w₂ .end, wrote-length w₁, wrote-length w₂)
-
-      two : Wrote (encodeAll (HighPressure id ∷ Difference id mine id id ∷ [])) used u₂ e e₂
-      two = both-wrote (HighPressure id ∷ []) (Difference id mine id id ∷ []) (one-wrote (HighPressure id) w₁) (one-wrote (Difference id mine id id) w₂)
-
-      pub told-two : (last : Bool) → last ≡ false → Wrote (encodeAll (told id mine theirs last)) used u₂ e e₂
-      unfolding told
-      told-two last q = rw q two
-
-      pub told-three : (last : Bool) → last ≡ true → (e₃ : List ℕ) (u₃ : ℕ) → Wrote (encode (Difference id theirs id id)) u₂ u₃ e₂ e₃ → Wrote (encodeAll (told id mine theirs last)) used u₃ e e₃
-      unfolding told
-      told-three last q e₃ u₃ w₃ = rw q (both-wrote (HighPressure id ∷ Difference id mine id id ∷ []) (Difference id theirs id id ∷ []) two (one-wrote (Difference id theirs id id) w₃))
-
-told-size : (id : ℕ) (mine theirs : Float) (last : Bool) → size (told id mine theirs last) ≤ 48
-unfolding told encodeAll
-told-size id mine theirs true = omega (arith, size-cons (HighPressure id) (Difference id mine id id ∷ Difference id theirs id id ∷ []), size-cons (Difference id mine id id) (Difference id theirs id id ∷ []), size-cons (Difference id theirs id id) [], high-kind id, difference-kind id mine, difference-kind id theirs)
-told-size id mine theirs false = omega (arith, size-cons (HighPressure id) (Difference id mine id id ∷ []), size-cons (Difference id mine id id) [], high-kind id, difference-kind id mine)
 
 -- ---- rips
 

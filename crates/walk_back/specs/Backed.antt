@@ -6,7 +6,7 @@ use Prim.Native.Nat.{ℕ, _+_, _-_, _*_, _≤_, _<_}
 use lib.Dec.{T}
 use lib.ListN.{length, getD, take, drop, set, replicate}
 use lib.Ieee.{Float, nan, inf, fin, isNan}
-use Rattle.basics.specs.Loops.{run, every, if_then_else_}
+use Rattle.basics.specs.Loops.{run, every}
 use Rattle.basics.specs.Floats.{0f, _+f_}
 use Rattle.basics.specs.Regions.{cut, region}
 use Rattle.rules_board.specs.Board.{Board, turfCount, mixtureCount, mixOf}
@@ -14,7 +14,7 @@ use Rattle.rules_mixture.specs.Mixture.{total, clearAir}
 use Rattle.rules_events.specs.Events.{encodeAll}
 use Rattle.events.specs.Area.{Wrote}
 use Rattle.rules_events.specs.declared.Event.{Event}
-use Rattle.rules_events.specs.declared.Event.the-variants.{HighPressure, Difference, FloorRip}
+use Rattle.rules_events.specs.declared.Event.the-variants.{FloorRip}
 use Rattle.index_set.specs.Line.{Below}
 use Rattle.scratch.specs.Layout.{outSizes, backSizes, sumsAt, outRoom, backRoom}
 use Rattle.walk_first.specs.Does.{Walker}
@@ -138,16 +138,6 @@ pub record Settled (b : Board) (row d : ℕ) (r : Sums) (gas gas′ f f′ : Lis
   pub mine : r .mine ≡ getD f row nan +f r .sum
   pub theirs : r .theirs ≡ getD (set f row (r .mine)) d nan +f r .mine
   pub amounts : f′ ≡ set (set f row (r .mine)) d (r .theirs)
-
--- one turf's events, but for the rip; the last is written where the next one has no direction
-unfoldable pub told : ℕ → Float → Float → Bool → List Event
-told id mine theirs last = HighPressure id ∷ Difference id mine id id ∷ (if last then Difference id theirs id id ∷ [] else [])
-
--- they can be written after `used` bytes
-pub record BackTells (x y : Float) (used : ℕ) (e : List ℕ) : Type 0 where
-  pub mine : T (not (isNan x))
-  pub theirs : T (not (isNan y))
-  pub room : used + 48 ≤ length e
 
 -- `back` of the turf before those that are left
 abbrev pub backNext : Board → ℕ → List ℕ → Back → Back

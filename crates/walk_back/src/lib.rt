@@ -18,7 +18,7 @@ ghost use Rattle.events.specs.Area.{Wrote};
 ghost use Rattle.scratch.specs.Layout.{outSizes, sumsAt};
 ghost use Rattle.walk_first.specs.Does.{WalkDoes};
 ghost use Rattle.rules_back.specs.Back.{backTo, back};
-ghost use Rattle.walk_back.specs.Backed.{backAt, backAreas, backing, BackGoes, Points, directions, Settles, Settled, told, BackTells, backNext, ripsOf, Rips, ripAt, Ripping, BackStarts, Backed};
+ghost use Rattle.walk_back.specs.Backed.{backAt, backAreas, backing, BackGoes, Points, directions, Settles, Settled, backNext, ripsOf, Rips, ripAt, Ripping, BackStarts, Backed};
 
 // How far the way back has come: turfs of the order that are left, turfs that the floor rips off, event bytes written.
 pub struct Way {
@@ -57,37 +57,6 @@ fn settle(
     Sums { sum, mine, theirs }
 }
 
-// Writes kinds 6 and 7, and 7 again where the next turf has no direction; both arrows run from the id to itself.
-fn tell(id: u32, mine: f32, theirs: f32, last: bool, used: usize, events: &mut [u8]) -> usize
-    requires { ⌜ BackTells mine theirs used (now events) ⌝ }
-    ensures { λ r. ⌜ Wrote (encodeAll (told id mine theirs last)) used r (now (events .entry)) (now (events .exit)) ⌝ }
-{
-    let at = events::append(events, used, Event::HighPressure(id));
-    let to = events::append(
-        events,
-        at,
-        Event::Difference {
-            id,
-            amount: mine,
-            from: id,
-            to: id,
-        },
-    );
-    if !last {
-        return to;
-    }
-    events::append(
-        events,
-        to,
-        Event::Difference {
-            id,
-            amount: theirs,
-            from: id,
-            to: id,
-        },
-    )
-}
-
 // The turf at `row`, which points at the turf at d.
 fn back_to(
     row: u32,
@@ -113,7 +82,7 @@ fn back_to(
     let r = row as usize;
     let sums = settle(r, d, rows, marks, gases, gas, floats);
     let last = words[scratch::ways_at(n) + d] == 0;
-    let used = tell(ids[r], sums.mine, sums.theirs, last, s.used, events);
+    let used = walk_steps::tell(ids[r], sums.mine, sums.theirs, last, s.used, events);
     let k = s.rips;
     words[k] = row;
     floats[scratch::sums_at(n) + k] = sums.sum;

@@ -20,7 +20,8 @@ use Rattle.index_set.proofs.Queue.{Below-at, apart-all}
 use Rattle.scratch.specs.Layout.{outSizes, spotsAt, orderAt, waysAt, targetsAt, outRoom}
 use Rattle.walk_first.specs.Does.{WalkDoes}
 use Rattle.rules_out.specs.Out.{outNext, outward}
-use Rattle.walk_out.specs.Outed.{outAt, outIn, outOf, OutRest, outing, Passing, Owns, ownAt, Spaces, Owned, Opens, Outed}
+use Rattle.walk_steps.specs.Steps.{Owns, ownAt}
+use Rattle.walk_out.specs.Outed.{outAt, outIn, outOf, OutRest, outing, Passing, Spaces, Owned, Opens, Outed}
 use Rattle.walk_out.specs.declared.Front.{Front}
 
 -- ---- a cleared array
@@ -59,10 +60,6 @@ module _ (n : ℕ) (w : List ℕ) {w₁ : List ℕ} (l : outRoom n ≤ length w)
       ap (cut (outSizes n)) q ∙ array-cleared n 4 w₁ (targetsAt n) (omega arith) (omega arith) (omega (arith, l, same))
 
 -- ---- places and targets
-
--- the space turf number i, from where the order stands
-pub row-at : (ids : List ℕ) (i : ℕ) (w : List ℕ) → Owns ids i w → (order : ℕ) → order ≡ orderAt (length ids) → getD w (order + i) 0 < length ids
-row-at ids i w h order o = rw o (h .row)
 
 module _ (ids : List ℕ) (count : ℕ) (w : List ℕ) where
   abbrev n : ℕ

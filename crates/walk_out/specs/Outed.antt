@@ -11,7 +11,7 @@ use Rattle.rules_events.specs.Events.{encodeAll}
 use Rattle.events.specs.Area.{Wrote}
 use Rattle.rules_events.specs.declared.Event.{Event}
 use Rattle.index_set.specs.Line.{Below, Apart, Line}
-use Rattle.scratch.specs.Layout.{outSizes, spotsAt, orderAt, targetsAt, outRoom}
+use Rattle.scratch.specs.Layout.{outSizes, outRoom}
 use Rattle.walk_first.specs.Does.{Walker}
 use Rattle.walk_first.specs.Reached.{Ground}
 use Rattle.rules_out.specs.Out.{Out, outRow, outward}
@@ -81,20 +81,6 @@ pub record Joins (b : Board) (row to : ℕ) (a : OutState) : Type 0 where
 -- `outNext` where there is a turf to pass
 abbrev pub passNext : Board → ℕ → Out → Out
 passNext b limit s = outRow b limit (getD (s .order) (s .place) 0) s
-
--- the words hold a space turf number i
-pub record Owns (ids : List ℕ) (i : ℕ) (w : List ℕ) : Type 0 where
-  pub small : length ids ≤ 4096
-  pub words : outRoom (length ids) ≤ length w
-  pub few : i < length ids
-  pub row : getD w (orderAt (length ids) + i) 0 < length ids
-
--- it is given its place, and is its own target
-abbrev pub ownAt : List ℕ → ℕ → List ℕ → List ℕ
-ownAt ids i w =
-    let n = length ids in
-    let row = getD w (orderAt n + i) 0 in
-    set (set w (spotsAt n + row) i) (targetsAt n + row) (getD ids row 0)
 
 -- the words hold a space list, no turf twice
 pub record Spaces (ids : List ℕ) (count : ℕ) (w : List ℕ) : Type 0 where

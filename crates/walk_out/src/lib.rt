@@ -14,7 +14,7 @@ ghost use Rattle.rules_board.specs.Board.{turfCount, end, linksOf, neighboursOf
 ghost use Rattle.turfs.specs.Tables.{boardAt};
 ghost use Rattle.walk_first.specs.Does.{WalkDoes};
 ghost use Rattle.rules_out.specs.Out.{outTo, outLink, outNext};
-ghost use Rattle.walk_out.specs.Outed.{outAt, outing, Passing, OutStands, Joins, passNext, Owns, ownAt, Spaces, Owned, Opens, Outed};
+ghost use Rattle.walk_out.specs.Outed.{outAt, outing, Passing, OutStands, Joins, passNext, Spaces, Owned, Opens, Outed};
 
 // How far the way out has come: turfs in the order, turfs passed, event bytes written.
 pub struct Front {
@@ -158,20 +158,6 @@ fn out_rows(
     t
 }
 
-// The space turf number i has its place, and is its own target.
-fn own_target(i: usize, ids: &[u32], words: &mut [u32])
-    requires { ⌜ Owns (now ids) i (now words) ⌝ }
-    ensures { λ _. ⌜ now (words .exit) ≡ ownAt (now (ids .entry)) i (now (words .entry)) ⌝ }
-{
-    let n = ids.len();
-    let order = scratch::order_at(n);
-    let spots = scratch::spots_at(n);
-    let targets = scratch::targets_at(n);
-    let row = words[order + i] as usize;
-    words[spots + row] = i as u32;
-    words[targets + row] = ids[row];
-}
-
 // The space turfs have their places, and are their own targets.
 fn own_targets(spaces: usize, ids: &[u32], words: &mut [u32])
     requires { ⌜ Spaces (now ids) spaces (now words) ⌝ }
@@ -179,7 +165,7 @@ fn own_targets(spaces: usize, ids: &[u32], words: &mut [u32])
 {
     let mut i = 0;
     while i < spaces {
-        own_target(i, ids, words);
+        walk_steps::own_target(i, ids, words);
         i += 1;
     }
 }

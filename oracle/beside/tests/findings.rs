@@ -1,13 +1,26 @@
 //! What the runs beside the Rust showed, one smallest board each; docs/DIFFERENCES.md names them.
 
 use beside::{Numbers, accepted, vectors};
-use boards::paper::{ask_a, board_a};
+use boards::events::encode;
+use boards::paper::{ask_a, board, board_a};
 use boards::refusal::refusal;
-use boards::{Board, Call, Case, Equalize};
+use boards::{Board, Call, Case, Equalize, Event, model};
 use filled::play::{outcome, play};
 
 fn equalize(board: Board, ask: Equalize) -> Case {
     Case::new(board, Call::Equalize(ask), 0)
+}
+
+/// What a call of equalize leaves by the text and by the model: amounts, and exactly these events.
+fn leaves(board: Board, ask: Equalize, amounts: &[f32], events: &[Event]) {
+    let case = equalize(board, ask);
+    let (got, bytes) = (outcome(&case), encode(events));
+    assert_eq!(got, case.done(&model::play(&case)));
+    assert_eq!((&got.amounts[..], &got.events[..bytes.len()], got.answer[6]), (amounts, &bytes[..], bytes.len() as u32));
+}
+
+fn pressure(zone: u32, amount: f32, from: u32, to: u32) -> Event {
+    Event::Pressure { zone, amount, from, to }
 }
 
 /// The files that are compiled are the published ones.
@@ -41,6 +54,30 @@ fn zones_share_turfs() {
     let case = equalize(Board { planetary: vec![1, 0], ..board_a() }, Equalize { hot: vec![10, 20], limit: 0, ..ask_a() });
     let answer = outcome(&case).answer;
     assert_eq!((answer[2], answer[4], answer[5]), (3, 2, 0), "{answer:?}");
+}
+
+/// The first turf of a zone is not asked whether it is immutable: it gives, and doesn't lose.
+#[test]
+fn the_first_turf_may_be_immutable() {
+    leaves(Board { immutable: vec![1, 0], ..board_a() }, ask_a(), &[32.0, 24.0], &[pressure(0, 8.0, 10, 20)]);
+}
+
+/// Zones are numbered from 0 as they are kept: an ignored one in between takes no number.
+#[test]
+fn an_ignored_zone_takes_no_number() {
+    let links: [&[u32]; 6] = [&[1], &[0], &[3], &[2], &[5], &[4]];
+    let breached = Board { immutable: vec![0, 0, 0, 1, 0, 0], ..board(&links, &[32.0, 16.0, 32.0, 0.0, 32.0, 16.0]) };
+    let events = [Event::DepressurizeWanted { id: 30 }, pressure(0, 8.0, 10, 20), pressure(1, 8.0, 50, 60)];
+    leaves(breached, Equalize { hot: vec![10, 30, 50], ..ask_a() }, &[24.0, 24.0, 32.0, 0.0, 24.0, 24.0], &events);
+}
+
+/// A turn goes to the zone's next node though that is done already as a giver: 20 finishes 10 first, the second turn goes to 10, and 50 comes before 30.
+#[test]
+fn a_turn_goes_to_a_node_done_as_a_giver() {
+    let links: [&[u32]; 6] = [&[1], &[0, 2], &[1, 3], &[2], &[5], &[4]];
+    let ask = Equalize { hot: vec![20, 50], turns: vec![0, 0, 1], ..ask_a() };
+    let events = [pressure(0, 44.0, 10, 20), pressure(0, 35.0, 20, 30), pressure(1, 8.0, 50, 60), pressure(0, 15.0, 30, 40)];
+    leaves(board(&links, &[64.0, 11.0, 0.0, 5.0, 32.0, 16.0]), ask, &[20.0, 20.0, 19.999998, 20.0, 24.0, 24.0], &events);
 }
 
 /// An accepted call can leave amounts that the next call refuses.

@@ -6,10 +6,10 @@ use boards::{Board, Call, Case, Equalize, Outcome, Walk, call};
 use std::time::Duration;
 
 pub mod bench;
+pub mod judge;
+pub mod payloads;
 pub mod picture;
 pub mod stack;
-
-pub mod judge;
 
 boards::calls! {
     fn katmos_equalize(amounts: *mut f32, amounts_len: usize, hot: *const u32, hot_len: usize, turns: *const u32, turns_len: usize, threshold: f32, limit: u32, allowance: u32);

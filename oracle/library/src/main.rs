@@ -5,7 +5,7 @@ use boards::families::cases;
 use boards::random::Random;
 use boards::{Case, refusal::refusal};
 use library::judge::{Judge, Place, overstep};
-use library::{bench, outcome, picture, read_event, stack, write_event};
+use library::{bench, outcome, payloads, picture, read_event, stack, write_event};
 use std::io::{BufReader, stdin};
 use std::time::{Duration, Instant};
 
@@ -15,6 +15,7 @@ library walks EACH SEED      depressurize and the planet walk on EACH boards a f
 library equalize EACH SEED   equalize on EACH boards a family, with and without turns, against the text
 library paper                document 01's boards
 library events COUNT SEED    the reader and the writer on COUNT areas, against the independent ones
+library payloads EACH SEED   every fault, alone and with another, EACH times, and EACH boards a family, gas and scratch floats being NaNs: every bit of them
 library bench SECONDS [NAME] how long equalize takes, the text's and the library's by turns, SECONDS a board at least; boards with NAME in their name
 library places SECONDS [NAME] how much longer the library's takes with the scratch at other places within a page of memory, by 16 bytes: the best and the worst
 library parts SECONDS        what of the library's time is for refusals and for clearing
@@ -177,6 +178,7 @@ fn main() {
             let picture = picture::svg(&bench::cost(Duration::from_millis(milliseconds)), &bench::machine());
             std::fs::write(&words[2], picture).expect("the picture can be written");
         }
+        ("payloads", Some(each), Some(seed)) => std::process::exit((!payloads::payloads(each, seed)).into()),
         ("stack", None, None) => std::process::exit((!stack::stack()).into()),
         _ => println!("{HELP}"),
     }

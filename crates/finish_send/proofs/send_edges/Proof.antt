@@ -124,8 +124,10 @@ loop-again c =
     let l = c .before .before .before .before .before .before .before .before .before .before .before .before .before .before .before .before .before .before in
     let entry = l .before .before .before .before .before .before .before .before .before in
     let lifted-at = l .before .before .before .before .lifted-at in
-    let asked = c .before .before .before .before .before .before .before .before .before .before .before .before .before .before in
-    loop-next _ _ _ _ _ _ _ _ _ (lifted-at .ensures) (entry .pre) _ _ _ _ _ _ (l .before .loop .inv) (l .loop-test .taken) (asked .total .ensures _ refl refl) (c .before .before .before .before .before .before .before .before .before .before .before .before .if1 .left) (c .before .before .before .before .before .before .before .before .before .before .before .before .before .is-short .ensures) (c .before .before .before .before .before .before .before .before .send .ensures) (c .next-edge2 .ensures)
+    let sent = c .before .before .before .before .before .before .before .before in
+    let left = sent .before .before .before .before in
+    let short = left .before in
+    loop-next _ _ _ _ _ _ _ _ _ (lifted-at .ensures) (entry .pre) _ _ _ _ _ _ (l .before .loop .inv) (l .loop-test .taken) (short .before .total .ensures _ refl refl) (left .if1 .left) (short .is-short .ensures) (sent .send .ensures) (c .next-edge2 .ensures)
 
 same-length-4 : tie.Need-same-length-4 Inv-loop μ-loop
 same-length-4 c = c .before .loop .inv .made .kept .gas

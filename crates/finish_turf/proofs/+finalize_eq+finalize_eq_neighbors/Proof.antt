@@ -1,12 +1,11 @@
--- The two functions meet their contracts. The measures: twice the weights above 0, and one more for the givers, which come after a weight above 0 was lifted. Assumes nothing.
+-- The two functions meet their contracts. The measures: twice the unfinished nodes of the zone, and one more for the givers, which come after an unfinished node was lifted. Assumes nothing.
 use mathlib.Core.Path.{_≡_, refl, sym, _∙_}
 use native.Mathlib.Omega.{arith}
-use lib.ListN.{length, take}
 use denote.Ref.{now}
 use borrow.Author.Needs.{needs}
-use Rattle.rules_finish.specs.Lifted.{pending}
-use Rattle.turfs.specs.Tables.{boardOf, table}
-use Rattle.finish_send.specs.Areas.{finishAreas}
+use Rattle.turfs.specs.Tables.{Slices, boardOf}
+use Rattle.finish_send.specs.declared.Turf.{Turf}
+use Rattle.finish_send.specs.Areas.{finishAreas, unfinishedOn}
 use Rattle.finish_turf.proofs.Turf.{links-room}
 use Rattle.finish_turf.proofs.Givers.{Giving, loop-start, giver-begun, link-below, edge-room, loop-next, givers-finished}
 use Prim.Native.Nat.{ℕ, _+_, _-_, _<_}
@@ -28,15 +27,15 @@ use Rattle.finish_turf.proofs.+finalize_eq+finalize_eq_neighbors.Tie.{c
 use Rattle.finish_turf.proofs.send_first.Reads as send-first-reads
 use Rattle.finish_turf.proofs.send_rest.Reads as send-rest-reads
 
--- twice the weights above 0, of a board with these neighbours
-abbrev twice : List ℕ → List Float → ℕ
-twice neighbours floats = pending (take (length neighbours) floats) + pending (take (length neighbours) floats)
+-- twice the unfinished nodes of the turf's zone
+abbrev twice : Slices → Slices → List ℕ → List Float → Turf → ℕ
+twice rows marks words floats t = let n = unfinishedOn (boardOf rows marks (t .gases)) words (t .zone) floats in n + n
 
 abbrev μ-finalize-eq : Measures 8 finalize-eq-kinds.ps ℕ
-μ-finalize-eq κs a = twice (table (now (a .1 .1 .0)) 3) (now (a .1 .1 .1 .1 .1 .1 .0))
+μ-finalize-eq κs a = twice (now (a .1 .1 .0)) (now (a .1 .1 .1 .0)) (now (a .1 .1 .1 .1 .1 .0)) (now (a .1 .1 .1 .1 .1 .1 .0)) (a .0)
 
 abbrev μ-finalize-eq-neighbors : Measures 8 finalize-eq-neighbors-kinds.ps ℕ
-μ-finalize-eq-neighbors κs a = twice (table (now (a .1 .1 .0)) 3) (now (a .1 .1 .1 .1 .1 .1 .0)) + 1
+μ-finalize-eq-neighbors κs a = twice (now (a .1 .1 .0)) (now (a .1 .1 .1 .0)) (now (a .1 .1 .1 .1 .1 .0)) (now (a .1 .1 .1 .1 .1 .1 .0)) (a .0) + 1
 
 abbrev finalize-eq-at : ℕ → In 8 finalize-eq-kinds.ps
 finalize-eq-at t =

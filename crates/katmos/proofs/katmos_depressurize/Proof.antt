@@ -1,7 +1,9 @@
 -- The call's own promise. Assumes nothing.
+use denote.Ref.{now}
 use borrow.Author.Needs.{needs}
+use Rattle.rules_board.specs.Board.{board}
 use Rattle.call_answers.specs.Answers.{depressurizeNumbers}
-use Rattle.katmos.proofs.Results.{answers}
+use Rattle.katmos.proofs.Results.{answers, words-of}
 use Rattle.katmos.proofs.katmos_depressurize.Statement.{statement}
 use Rattle.katmos.proofs.katmos_depressurize.Tie as tie
 
@@ -24,7 +26,11 @@ same-length-4 : tie.Need-same-length-4
 same-length-4 c = search needs
 
 returns : tie.Need-returns
-returns c = answers depressurizeNumbers _ _ _ (c .before .before .before .before .before .before .before .before .before .depressurize .ensures) (c .depressurize-numbers .ensures)
+returns c =
+    let known = c .before .before .before .before .before .before .before .before .before .before .before .before .before .before .before .before .before .before .before .before .before .before .before .before .before .before .before in
+    let a = known .before .args in
+    let b = board (now (a .ids)) (now (a .flags)) (now (a .planetary)) (now (a .mixtures)) (now (a .starts)) (now (a .neighbours)) (now (a .link-flags)) (now (a .immutable)) (a .gases) in
+    answers depressurizeNumbers b _ _ _ (words-of (now (a .ids)) (known .shared-slice-known .given)) (c .before .before .before .before .before .before .before .before .before .depressurize .ensures) (c .depressurize-numbers .ensures)
 
 pub katmos-depressurize-spec : {M : Type 1} → statement M
 katmos-depressurize-spec =

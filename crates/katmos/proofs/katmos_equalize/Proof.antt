@@ -1,7 +1,9 @@
 -- The call's own promise. Assumes nothing.
+use denote.Ref.{now}
 use borrow.Author.Needs.{needs}
+use Rattle.rules_board.specs.Board.{board}
 use Rattle.call_answers.specs.Answers.{equalizeNumbers}
-use Rattle.katmos.proofs.Results.{answers}
+use Rattle.katmos.proofs.Results.{answers, words-of}
 use Rattle.katmos.proofs.katmos_equalize.Statement.{statement}
 use Rattle.katmos.proofs.katmos_equalize.Tie as tie
 
@@ -24,7 +26,11 @@ same-length-4 : tie.Need-same-length-4
 same-length-4 c = search needs
 
 returns : tie.Need-returns
-returns c = answers equalizeNumbers _ _ _ (c .before .before .before .before .before .before .before .before .before .equalize .ensures) (c .equalize-numbers .ensures)
+returns c =
+    let known = c .before .before .before .before .before .before .before .before .before .before .before .before .before .before .before .before .before .before .before .before .before .before .before .before .before .before .before .before .before in
+    let a = known .before .args in
+    let b = board (now (a .ids)) (now (a .flags)) (now (a .planetary)) (now (a .mixtures)) (now (a .starts)) (now (a .neighbours)) (now (a .link-flags)) (now (a .immutable)) (a .gases) in
+    answers equalizeNumbers b _ _ _ (words-of (now (a .ids)) (known .shared-slice-known .given)) (c .before .before .before .before .before .before .before .before .before .equalize .ensures) (c .equalize-numbers .ensures)
 
 pub katmos-equalize-spec : {M : Type 1} → statement M
 katmos-equalize-spec =

@@ -17,7 +17,7 @@ array-read-result : tie.Need-array-read-result
 array-read-result c = search needs
 
 returns : tie.Need-returns
-returns c = (c .read-event .ensures, ap (λ (l : List ℕ). getD l 0 0) (c .read-event .ensures))
+returns c = record { returned = ap (λ (l : List ℕ). getD l 0 0) (c .read-event .ensures); written = c .read-event .ensures }
 
 pub katmos-read-event-spec : {M : Type 1} → statement M
 katmos-read-event-spec = tie.close (tie.spec read-event-requires array-read-result returns)

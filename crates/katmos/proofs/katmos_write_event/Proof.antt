@@ -1,5 +1,6 @@
 -- The writer's own promise. Assumes nothing.
 use mathlib.Core.Path.{ap}
+use native.Mathlib.Omega.{arith}
 use lib.ListN.{getD}
 use Rattle.events.specs.Interface.{WriteEvent}
 use borrow.Author.Needs.{needs}
@@ -21,7 +22,12 @@ same-length c = search needs
 returns : tie.Need-returns
 returns c =
     let write-event = c .before .before .write-event in
-    (write-event .ensures, ap (λ (p : WriteEvent). getD (p .answer) 0 0) (write-event .ensures))
+    let fits = c .before .before .before .before .before .fits in
+    record {
+      returned = ap (λ (p : WriteEvent). getD (p .answer) 0 0) (write-event .ensures);
+      done = write-event .ensures;
+      fields = (omega (arith, fits .f0), (omega (arith, fits .f1), (omega (arith, fits .f2), (omega (arith, fits .f3), tt))));
+    }
 
 pub katmos-write-event-spec : {M : Type 1} → statement M
 katmos-write-event-spec =

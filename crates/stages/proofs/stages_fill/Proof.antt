@@ -1,9 +1,9 @@
 -- Filling's own promise; its counts are small. Assumes nothing.
 use denote.Ref.{now}
 use borrow.Author.Needs.{needs}
-use Rattle.turfs.specs.Tables.{board}
+use Rattle.rules_board.specs.Board.{board}
 use Rattle.lent.specs.Given.{lent}
-use Rattle.fill_all.specs.Held.{askOf}
+use Rattle.rules_equalize.specs.Equalize.{askOf}
 use Rattle.stages.proofs.Calls.{few}
 use Rattle.stages.proofs.stages_fill.Statement.{statement}
 use Rattle.stages.proofs.stages_fill.Tie as tie

@@ -2,10 +2,10 @@
 use native.Mathlib.Omega.{arith}
 use lib.ListN.{length-set}
 use mathlib.Core.Path.{refl}
-use Rattle.walk_out.proofs.Owns.{row-at}
+use Rattle.walk_steps.proofs.Steps.{row-at}
 use borrow.Author.Needs.{needs}
-use Rattle.walk_out.proofs.own_target.Statement.{statement}
-use Rattle.walk_out.proofs.own_target.Tie as tie
+use Rattle.walk_steps.proofs.own_target.Statement.{statement}
+use Rattle.walk_steps.proofs.own_target.Tie as tie
 
 order-at-requires : tie.Need-order-at-requires
 order-at-requires c κs = c .before .before .pre .small
@@ -44,7 +44,7 @@ mul-words-2 : tie.Need-mul-words-2
 mul-words-2 c = let p = c .before .before .before .before .before .before .pre in let below = row-at _ _ _ p _ (c .before .before .before .order-at .ensures) in omega (arith, below, p .small)
 
 shared-slice-read-words : tie.Need-shared-slice-read-words
-shared-slice-read-words c = let p = c .before .before .before .before .before .before .before .pre in row-at _ _ _ p _ (c .before .before .before .before .order-at .ensures)
+shared-slice-read-words c = let p = c .before .before .before .before .before .before .before .pre in let below = row-at _ _ _ p _ (c .before .before .before .before .order-at .ensures) in omega (arith, below, p .few)
 
 add-words-2 : tie.Need-add-words-2
 add-words-2 c = let p = c .before .before .before .before .before .before .before .pre in let below = row-at _ _ _ p _ (c .before .before .before .before .order-at .ensures) in omega (arith, below, p .small, c .before .before .targets-at .ensures)

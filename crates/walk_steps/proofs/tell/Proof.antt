@@ -1,11 +1,10 @@
 -- Two records, or three. Assumes nothing.
 use borrow.Author.Tests.{not-true, not-false}
 use denote.Ref.{now}
-use Rattle.events.proofs.Areas.{one-added}
-use Rattle.walk_back.proofs.Backs.{high-room, mine-room, theirs-room, told-two, told-three}
+use Rattle.walk_steps.proofs.Steps.{high-room, mine-room, theirs-room, told-two, told-three}
 use borrow.Author.Needs.{needs}
-use Rattle.walk_back.proofs.tell.Statement.{statement}
-use Rattle.walk_back.proofs.tell.Tie as tie
+use Rattle.walk_steps.proofs.tell.Statement.{statement}
+use Rattle.walk_steps.proofs.tell.Tie as tie
 
 append-requires : tie.Need-append-requires
 append-requires c κs = let a = c .before .before .args in (tt, high-room (a .id) (a .mine) (a .theirs) (a .used) (now (a .events)) (c .before .before .pre .room))
@@ -14,7 +13,7 @@ append-requires-2 : tie.Need-append-requires-2
 append-requires-2 c κs =
     let a = c .before .before .before .before .before .before .args in
     let p = c .before .before .before .before .before .before .pre in
-    (p .mine, mine-room (a .id) (a .mine) (a .theirs) (a .used) (now (a .events)) (p .room) _ _ (one-added _ (c .before .before .before .append .ensures)))
+    (p .mine, mine-room (a .id) (a .mine) (a .theirs) (a .used) (now (a .events)) (p .room) _ _ (c .before .before .before .append .ensures))
 
 same-length : tie.Need-same-length
 same-length c = search needs
@@ -25,13 +24,13 @@ returns c =
     let pre = c .before .before .before .before .before .before .before .before .before .before .pre in
     let append = c .before .before .before .before .before .before .before .append in
     let append2 = c .before .before .before .append2 in
-    told-two (a .id) (a .mine) (a .theirs) (a .used) (now (a .events)) (pre .room) _ _ (one-added _ (append .ensures)) _ _ (one-added _ (append2 .ensures)) _ (not-true _ (c .if1 .taken))
+    told-two (a .id) (a .mine) (a .theirs) (a .used) (now (a .events)) (pre .room) _ _ (append .ensures) _ _ (append2 .ensures) (a .last) (not-true (a .last) (c .if1 .taken))
 
 append-requires-3 : tie.Need-append-requires-3
 append-requires-3 c κs =
     let a = c .before .before .before .before .before .before .before .before .before .before .before .args in
     let p = c .before .before .before .before .before .before .before .before .before .before .before .pre in
-    (p .theirs, theirs-room (a .id) (a .mine) (a .theirs) (a .used) (now (a .events)) (p .room) _ _ (one-added _ (c .before .before .before .before .before .before .before .before .append .ensures)) _ _ (one-added _ (c .before .before .before .before .append2 .ensures)))
+    (search needs, theirs-room (a .id) (a .mine) (a .theirs) (a .used) (now (a .events)) (p .room) _ _ (c .before .before .before .before .before .before .before .before .append .ensures) _ _ (c .before .before .before .before .append2 .ensures))
 
 same-length-2 : tie.Need-same-length-2
 same-length-2 c = search needs
@@ -44,8 +43,8 @@ returns-2 c =
     let append2 = c .before .before .before .before .before .before .before .append2 in
     let if1 = c .before .before .before .before .if1 in
     let append3 = c .before .before .append3 in
-    told-three (a .id) (a .mine) (a .theirs) (a .used) (now (a .events)) (pre .room) _ _ (one-added _ (append .ensures)) _ _ (one-added _ (append2 .ensures)) _ (not-false _ (if1 .left))
-    _ _ (one-added _ (append3 .ensures))
+    told-three (a .id) (a .mine) (a .theirs) (a .used) (now (a .events)) (pre .room) _ _ (append .ensures) _ _ (append2 .ensures) (a .last) (not-false (a .last) (if1 .left))
+    (append3 .ensures)
 
 pub tell-spec : {M : Type 1} → statement M
 tell-spec =
