@@ -23,7 +23,8 @@ use Rattle.events.proofs.Sizes.{size}
 use Rattle.index_set.proofs.Queue.{Below-at, all-below, all-apart}
 use Rattle.rules_lent.specs.Lent.{Lent, Extra, noExtra, wordsRoom, floatsRoom, refusal, after}
 use Rattle.lent_room.specs.Areas.{clearedFirst, Roomy}
-use Rattle.lent.specs.Given.{lent, Given}
+use Rattle.lent.specs.Given.{lent, Given, Tests}
+use Rattle.lent.specs.declared.ExtraTests.{ExtraTests}
 use Rattle.lent.proofs.Numbers.{bare, given, no-links, scratch-of}
 use Rattle.lent.proofs.Passed.{passed}
 use Rattle.scratch.specs.Layout.{outSizes, backSizes, walkRoom, outRoom, backRoom}
@@ -210,9 +211,9 @@ module _ (b : Board) (l : Lent) (z : refusal b l (84 * turfCount b) noExtra ≡ 
 
 -- ---- the answers
 
-module _ (b : Board) (limit id : ℕ) (l : Lent) (x : Extra) (number : ℕ) (q : x ≡ noExtra) (r : number ≡ refusal b l (0 * linkCount b + 84 * turfCount b) x) where
+module _ (b : Board) (limit id : ℕ) (l : Lent) (t : ExtraTests) (number : ℕ) (q : Tests noExtra t) (r : (x : Extra) → Tests x t → number ≡ refusal b l (0 * linkCount b + 84 * turfCount b) x) where
   number-is : number ≡ refusal b l (84 * turfCount b) noExtra
-  number-is = r ∙ rw (q, no-links (linkCount b) (84 * turfCount b))
+  number-is = r noExtra q ∙ rw (no-links (linkCount b) (84 * turfCount b))
 
   pub refused : (number ≡ 0 → ⊥) → record { answer = record { number = number; outcome = 0; bytes = 0 }; lent = l } ≡ depressurizeResult b limit id l
   unfolding depressurizeResult depressurizeNumber

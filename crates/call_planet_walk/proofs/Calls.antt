@@ -19,7 +19,8 @@ use Rattle.events.specs.Area.{Wrote}
 use Rattle.events.proofs.Sizes.{size}
 use Rattle.rules_lent.specs.Lent.{Lent, Extra, noExtra, wordsRoom, floatsRoom, refusal, after}
 use Rattle.lent_room.specs.Areas.{clearedFirst, Roomy}
-use Rattle.lent.specs.Given.{lent, Given}
+use Rattle.lent.specs.Given.{lent, Given, Tests}
+use Rattle.lent.specs.declared.ExtraTests.{ExtraTests}
 use Rattle.lent.proofs.Numbers.{bare, given, no-links, scratch-of}
 use Rattle.lent.proofs.Passed.{passed}
 use Rattle.scratch.specs.Layout.{walkSizes, walkRoom}
@@ -59,9 +60,9 @@ bare-walk b limit id = from (rowOf b id)
 
 -- ---- the answers
 
-module _ (b : Board) (limit id : ℕ) (l : Lent) (x : Extra) (number : ℕ) (q : x ≡ noExtra) (r : number ≡ refusal b l (0 * linkCount b + 12 * turfCount b) x) where
+module _ (b : Board) (limit id : ℕ) (l : Lent) (t : ExtraTests) (number : ℕ) (q : Tests noExtra t) (r : (x : Extra) → Tests x t → number ≡ refusal b l (0 * linkCount b + 12 * turfCount b) x) where
   number-is : number ≡ refusal b l (planetRoom b) noExtra
-  number-is = r ∙ rw (q, no-links (linkCount b) (12 * turfCount b))
+  number-is = r noExtra q ∙ rw (no-links (linkCount b) (12 * turfCount b))
 
   pub refused : (number ≡ 0 → ⊥) → record { answer = record { number = number; bytes = 0 }; lent = l } ≡ planetResult b limit id l
   unfolding planetResult planetNumber

@@ -1,18 +1,19 @@
 -- A call that equalize's number lets pass was lent what filling asks for. Assumes nothing.
 use Prim.Native.Nat.{ℕ}
 use native.Mathlib.Omega.{arith}
-use mathlib.Core.Path.{_≡_, ap, _∙_}
+use mathlib.Core.Path.{_≡_, refl}
 use mathlib.Core.List.{List}
-use mathlib.Core.Bool.{true, _&&_}
-use lib.Dec.{T, leb}
+use mathlib.Core.Bool.{true}
+use lib.Dec.{T}
 use lib.Ieee.Bits.{is-true}
 use lib.ListN.{length}
 use Rattle.basics.specs.Floats.{finiteSignClear}
 use Rattle.rules_board.specs.Board.{Board}
-use Rattle.rules_board.specs.Refuse.{ascending, linksFit}
+use Rattle.rules_board.specs.Refuse.{linksFit}
 use Rattle.turfs.specs.Tables.{Accepted}
 use Rattle.rules_lent.specs.Lent.{Lent, Extra, wordsRoom, floatsRoom, refusal}
-use Rattle.lent.specs.Given.{Given}
+use Rattle.lent.specs.Given.{Given, Tests}
+use Rattle.lent.specs.declared.ExtraTests.{ExtraTests}
 use Rattle.lent.proofs.Passed.{Passed, passed, links-pass}
 use Rattle.lent.proofs.Numbers.{given}
 use Rattle.rules_equalize.specs.Equalize.{Ask}
@@ -22,12 +23,14 @@ use Rattle.fill_all.specs.Asked.{FillFits}
 module _ (b : Board) (q : Ask) (turns : List ℕ) (l : Lent) where
   -- what only equalize is lent
   abbrev pub extra : Extra
-  extra = record { sizes = leb (length (q .hot)) 4096 && leb (length turns) 65536; threshold = finiteSignClear (q .threshold); hot = ascending (q .hot) }
+  extra = record { hot = q .hot; turns = turns; threshold = q .threshold }
 
   -- its number is the refusal of all that it is lent
-  pub number-is : {number : ℕ} (x : Extra) → x ≡ extra → number ≡ refusal b l (equalizeRoom b) x → number ≡ equalizeNumber b q turns l
+  pub number-is : {number : ℕ} (t : ExtraTests)
+      → ((ts : List ℕ) → length ts ≡ length turns → Tests (record { hot = q .hot; turns = ts; threshold = q .threshold }) t)
+      → ((x : Extra) → Tests x t → number ≡ refusal b l (equalizeRoom b) x) → number ≡ equalizeNumber b q turns l
   unfolding equalizeNumber
-  number-is x e r = r ∙ ap (refusal b l (equalizeRoom b)) e
+  number-is t e r = r extra (e turns refl)
 
   -- ---- not refused
 

@@ -1,5 +1,5 @@
 -- Demand 3 for finishing: where the zones are apart, two lists of turns come to the same. Assumes nothing.
-use mathlib.Core.Path.{_≡_, refl, sym, _∙_, subst}
+use mathlib.Core.Path.{_≡_, refl, sym, _∙_, subst, subst₂}
 use mathlib.Core.Logic.{_≢_, _⊎_, inl, inr}
 use mathlib.Core.List.{List, [], _∷_, map}
 use mathlib.Core.Bool.{Bool, true, false, _||_}
@@ -17,7 +17,9 @@ use Rattle.basics.proofs.Lists.{All-unmap, or-cases, members, member-has, upFro
 use Rattle.rules_board.specs.Board.{Board, mixtureCount, mixOf, immutableMix, end}
 use Rattle.mixture.proofs.Parts.{Fits}
 use Rattle.rules_finish.specs.Finish.{Done}
-use Rattle.rules_finish.specs.Turns.{Zone, zoneAt, nodesAt, turnOrder, finishAll}
+use Rattle.rules_finish.specs.Turns.{Zone, zoneAt, nodesAt, finishAll}
+use Rattle.laws_finish.specs.Jobs.{turnOrder}
+use Rattle.laws_finish.proofs.ByTurns.{by-order}
 use Rattle.laws_finish.proofs.Jobs.{Agrees, agree}
 use Rattle.laws_finish.proofs.Order.{order-in, turn-rows}
 use Rattle.rules_equalize.specs.Equalize.{hasMix, apart}
@@ -108,9 +110,10 @@ module _ (b : Board) (owner : List ℕ) (zones : List Zone) (wf : WellFormed b o
   -- Two lists of turns: the same gas, the same requests, and each zone's records in the same order.
   pub turns-agree : T (apart b zones) → (turns turns′ : List ℕ) (s : Done) → Fits b (s .gas)
       → Agrees (finishAll b owner zones turns s) (finishAll b owner zones turns′ s)
-  unfolding finishAll turnOrder
+  unfolding turnOrder
   turns-agree t turns turns′ s f =
-      agree b owner In (wf .mixed) (wf .ends) (aparted t) (wf .some) inOne (turnOrder zones turns) (turnOrder zones turns′) s f
+      subst₂ Agrees (sym (by-order b owner zones turns s)) (sym (by-order b owner zones turns′ s))
+      (agree b owner In (wf .mixed) (wf .ends) (aparted t) (wf .some) inOne (turnOrder zones turns) (turnOrder zones turns′) s f
       (order-in zones (λ z r. In z (mixOf b r)) nodes-in turns (replicate (length zones) 0))
       (order-in zones (λ z r. In z (mixOf b r)) nodes-in turns′ (replicate (length zones) 0))
-      (λ z. turn-rows zones turns z ∙ sym (turn-rows zones turns′ z))
+      (λ z. turn-rows zones turns z ∙ sym (turn-rows zones turns′ z)))

@@ -21,7 +21,7 @@ use Rattle.mixture.proofs.Parts.{Fits}
 use Rattle.rules_events.specs.Compared.{records}
 use Rattle.events.proofs.Compared.{others}
 use Rattle.rules_finish.specs.Finish.{Done, finish}
-use Rattle.rules_finish.specs.Turns.{Job, work}
+use Rattle.laws_finish.specs.Jobs.{Job, work}
 use Rattle.laws_finish.proofs.Alone.{Beside, Alike, finish-beside, finish-alike}
 
 -- the turfs that a list of jobs gives to a zone

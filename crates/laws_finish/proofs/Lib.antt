@@ -2,6 +2,7 @@ pub mod Weights
 pub mod Alone
 pub mod Jobs
 pub mod Order
+pub mod ByTurns
 pub mod Fuel
 pub mod Slices
 pub mod Unfinished

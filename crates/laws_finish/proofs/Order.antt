@@ -16,7 +16,8 @@ use Rattle.basics.specs.Floats.{0f}
 use Rattle.basics.specs.Lists.{All}
 use Rattle.basics.proofs.Loops.{All-imp, All-getD, All-map, keep-all, keep-append}
 use Rattle.basics.proofs.Lists.{All-append, All-drop, map-append, upFrom-below, replicate-at}
-use Rattle.rules_finish.specs.Turns.{Zone, nodesAt, Job, unfinished, jobsLeft, inOrder, pick, nextJob, order, turnOrder, jobsOn}
+use Rattle.rules_finish.specs.Turns.{Zone, nodesAt, unfinished}
+use Rattle.laws_finish.specs.Jobs.{Job, jobsLeft, inOrder, pick, nextJob, order, turnOrder, jobsOn}
 use Rattle.laws_finish.proofs.Jobs.{rowsOf, rows-mine, rows-other}
 
 rows-append : (z : ℕ) (js ks : List Job) → rowsOf z (js ++ ks) ≡ rowsOf z js ++ rowsOf z ks
@@ -85,13 +86,14 @@ module _ (zones : List Zone) where
       (λ z h. (ltb→lt (getD next z 0) (length (nodesAt zones z)) (h .0), omega (arith, h .1)))
       (keep-all (λ z. ltb (getD next z 0) (length (nodesAt zones z))) (λ k. k < 0 + length zones) (upFrom 0 (length zones)) (upFrom-below 0 (length zones)))
 
-  picked : (next : List ℕ) (c : ℕ) → eqb (length (unfinished zones next)) 0 ≡ false → Open next (pick zones c (unfinished zones next))
+  pub picked : (next : List ℕ) (c : ℕ) → eqb (length (unfinished zones next)) 0 ≡ false → Open next (pick zones c (unfinished zones next))
   picked next c e =
       let u = unfinished zones next in
       let ne : length u ≡ 0 → ⊥ = eqb-false (length u) 0 e in
       All-getD (Open next) u (c % length u) 0 (open-all next) (mod-lt c (omega arith))
 
-  abbrev bumped : List ℕ → ℕ → List ℕ
+  -- the zone z had one turn more
+  abbrev pub bumped : List ℕ → ℕ → List ℕ
   bumped next z = set next z (getD next z 0 + 1)
 
   -- each zone's turfs are those that it has left

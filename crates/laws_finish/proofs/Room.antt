@@ -1,5 +1,5 @@
 -- Finishing writes at most a record for each weight above 0, since a record's weight was lifted: 20 bytes a link. Assumes nothing.
-use mathlib.Core.Path.{_≡_, refl}
+use mathlib.Core.Path.{_≡_, refl, sym, subst}
 use mathlib.Core.List.{List, [], _∷_}
 use mathlib.Core.Bool.{cond}
 use Prim.Native.Nat.{ℕ, zero, suc, _+_, _*_, _≤_}
@@ -19,7 +19,9 @@ use Rattle.rules_events.specs.declared.Event.the-variants.{Pressure}
 use Rattle.events.proofs.Sizes.{size, size-snoc}
 use Rattle.rules_plan.specs.Edges.{edgesOf, edge, alter}
 use Rattle.rules_finish.specs.Finish.{Done, Pair, zeroLifted, positive, negative, pairs, finishGivers, send, finishPair, finish}
-use Rattle.rules_finish.specs.Turns.{Zone, work, turnOrder, finishAll}
+use Rattle.rules_finish.specs.Turns.{Zone, finishAll}
+use Rattle.laws_finish.specs.Jobs.{work, turnOrder}
+use Rattle.laws_finish.proofs.ByTurns.{by-order}
 use Rattle.rules_finish.specs.Lifted.{above, pending}
 use Rattle.laws_finish.proofs.Weights.{aboveAt, alter-less, lift-count, pairs-count, edges-apart}
 
@@ -58,9 +60,10 @@ module _ (b : Board) (owner : List ℕ) where
 
   -- a whole run writes at most a record a link
   pub records-room : (zones : List Zone) (turns : List ℕ) (s : Done) → size (finishAll b owner zones turns s .events) ≤ size (s .events) + 20 * length (s .weight)
-  unfolding finishAll work pending
+  unfolding work pending
   records-room zones turns s =
       let h : due (finishAll b owner zones turns s) ≤ due s =
-      run-keeps (λ j. Unit {0}) (λ t. due t ≤ due s) (work b owner) (λ j t u i. finish-room (j .zone) (suc (linkCount b)) (j .row) t (due s) i) (turnOrder zones turns) s (All-any _ (λ j. tt) (turnOrder zones turns)) (le-refl (due s)) in
+      subst (λ (t : Done). due t ≤ due s) (sym (by-order b owner zones turns s))
+      (run-keeps (λ j. Unit {0}) (λ t. due t ≤ due s) (work b owner) (λ j t u i. finish-room (j .zone) (suc (linkCount b)) (j .row) t (due s) i) (turnOrder zones turns) s (All-any _ (λ j. tt) (turnOrder zones turns)) (le-refl (due s))) in
       let p : count above (s .weight) ≤ length (s .weight) = count-length above (s .weight) in
       omega (arith, h, p)

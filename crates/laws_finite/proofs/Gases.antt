@@ -21,7 +21,9 @@ use Rattle.rules_mixture.specs.Mixture.{sum, total, part, amounts, moveAir, amo
 use Rattle.mixture.proofs.Parts.{Fits, move-fits, move-apart}
 use Rattle.rules_plan.specs.Edges.{alter, edgesOf, edge}
 use Rattle.rules_finish.specs.Finish.{Done, Pair, positive, negative, pairs, finishGivers, send, finishPair, finish}
-use Rattle.rules_finish.specs.Turns.{Zone, turnOrder, work, finishAll}
+use Rattle.rules_finish.specs.Turns.{Zone, finishAll}
+use Rattle.laws_finish.specs.Jobs.{turnOrder, work}
+use Rattle.laws_finish.proofs.ByTurns.{by-order}
 use Rattle.rules_finish.specs.Lifted.{pending}
 use Rattle.laws_finish.proofs.Weights.{lift-count, pairs-count, alter-less, edges-apart}
 use Rattle.laws_finite.proofs.Laws.{Under, under, exact, Up, up-fin, under-finite}
@@ -197,9 +199,10 @@ module _ (b : Board) {n₀ : ℕ} (h : Accepted b n₀) (owner : List ℕ) (gas�
         (record { sendable = lift-sendable b ks (s .weight) (q .sendable); fits = q .fits; ms = q .ms; ranked = q .ranked; few = omega arith; same = q .same })
 
   pub finish-all-airy : (zones : List Zone) (turns : List ℕ) (s : Done) → Airy 0 s → Airy 0 (finishAll b owner zones turns s)
-  unfolding finishAll work
+  unfolding work
   finish-all-airy zones turns s q =
-      run-keeps (λ j. Unit {0}) (Airy 0) (work b owner) (λ j t u i. finish-airy (j .zone) (suc (linkCount b)) 0 (j .row) t i) (turnOrder zones turns) s (All-any _ (λ j. tt) (turnOrder zones turns)) q
+      subst (Airy 0) (sym (by-order b owner zones turns s))
+      (run-keeps (λ j. Unit {0}) (Airy 0) (work b owner) (λ j t u i. finish-airy (j .zone) (suc (linkCount b)) 0 (j .row) t i) (turnOrder zones turns) s (All-any _ (λ j. tt) (turnOrder zones turns)) q)
 
   -- where finishing starts
   pub airy-start : (s : Done) → Sendable b (s .weight) → s .gas ≡ gas₀ → Fits b gas₀ → Airy 0 s

@@ -22,7 +22,9 @@ use Rattle.rules_events.specs.Readings.{Readable}
 use Rattle.rules_fill.specs.Fill.{reachLink}
 use Rattle.laws_fill.proofs.Steps.{Keeps, fill-keeps}
 use Rattle.rules_finish.specs.Finish.{Done, Pair, positive, negative, pairs, finishGivers, send, finishPair, finish}
-use Rattle.rules_finish.specs.Turns.{Zone, nodesAt, turnOrder, work, finishAll}
+use Rattle.rules_finish.specs.Turns.{Zone, nodesAt, finishAll}
+use Rattle.laws_finish.specs.Jobs.{turnOrder, work}
+use Rattle.laws_finish.proofs.ByTurns.{by-order}
 use Rattle.laws_finish.proofs.Order.{order-in}
 use Rattle.rules_equalize.specs.Equalize.{Ask, Filled, Equalized, afterFill, fillFrom, fillAll, planAll, planned, cancel, played, equalize}
 use Rattle.laws_equalize.proofs.Hot.{Starts, fill-all-keeps}
@@ -91,9 +93,10 @@ module _ (b : Board) {n₀ : ℕ} (h : Accepted b n₀) (ids : (r : ℕ) → Wor
         (All-keep (λ p. Amount (p .amount)) (λ p. lt 0f (p .amount)) ps (pairs-amount b h owner z r (s .weight) (q .sendable))) (record { sendable = lift-sendable b (edgesOf b owner z r) (s .weight) (q .sendable); events = q .events })
 
   finish-all-fine : (zones : List Zone) → length zones ≤ 4096 → (turns : List ℕ) (s : Done) → Fine s → Fine (finishAll b owner zones turns s)
-  unfolding finishAll work turnOrder
+  unfolding work turnOrder
   finish-all-fine zones few turns s q =
-      run-keeps (λ j. Word (j .zone)) Fine (work b owner) (λ j t u i. finish-fine (j .zone) u (suc (linkCount b)) (j .row) t i) (turnOrder zones turns) s (order-in zones (λ z r. Word z) (zones-low zones few) turns (replicate (length zones) 0)) q
+      subst Fine (sym (by-order b owner zones turns s))
+      (run-keeps (λ j. Word (j .zone)) Fine (work b owner) (λ j t u i. finish-fine (j .zone) u (suc (linkCount b)) (j .row) t i) (turnOrder zones turns) s (order-in zones (λ z r. Word z) (zones-low zones few) turns (replicate (length zones) 0)) q)
 
 -- All that equalize writes is read back.
 pub equalize-readable : (b : Board) {n : ℕ} → Accepted b n → ((r : ℕ) → Word (idOf b r)) → (gas : List Float) → every amountFits gas ≡ true → (q : Ask) (turns : List ℕ) → All Readable (equalize b gas q turns .events)

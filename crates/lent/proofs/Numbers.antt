@@ -1,7 +1,7 @@
 -- The first requirement that fails gives the number; where none does, every one holds. Assumes nothing.
 use mathlib.Core.Path.{_≡_, refl}
 use mathlib.Core.List.{List, [], _∷_}
-use mathlib.Core.Bool.{Bool, true, false}
+use mathlib.Core.Bool.{Bool, true, false, _&&_}
 use Prim.Native.Nat.{ℕ, zero, suc, _+_, _*_, _<_}
 use native.Mathlib.Omega.{arith}
 use lib.Dec.{leb}
@@ -19,7 +19,8 @@ use Rattle.rules_mixture.specs.Mixture.{amountFits}
 use Rattle.rules_events.specs.declared.Event.{Event}
 use Rattle.rules_lent.specs.Lent.{Lent, Extra, wordsRoom, floatsRoom, firstFailed, refusal, after}
 use Rattle.lent_room.specs.Areas.{clearedFirst, Roomy}
-use Rattle.lent.specs.Given.{Given}
+use Rattle.lent.specs.Given.{Given, Tests}
+use Rattle.lent.specs.declared.ExtraTests.{ExtraTests}
 
 -- ---- the number of a list of requirements
 
@@ -71,8 +72,8 @@ module _ (b : Board) where
 abbrev pub areas : Board → Lent → ℕ → Bool
 areas b l room = allOf (leb room (length (l .area)) ∷ leb (wordsRoom b) (length (l .words)) ∷ leb (floatsRoom b) (length (l .floats)) ∷ [])
 
--- the requirements of `refusal`, in order
-abbrev pub tests : Board → Lent → ℕ → Extra → List (Bool × ℕ)
+-- the requirements of `refusal`, in order, with the code's answers to what only equalize is lent
+abbrev pub tests : Board → Lent → ℕ → ExtraTests → List (Bool × ℕ)
 tests b l room x =
     (allOf (sizesFit b ∷ x .sizes ∷ []), 1)
     ∷ (tablesFit b (length (l .gas)), 2)
@@ -82,6 +83,17 @@ tests b l room x =
     ∷ (x .hot, 6)
     ∷ (areas b l room, 7)
     ∷ []
+
+-- one answer for two sizes
+sizes-one : (a c d : Bool) → allOf (a ∷ (c && d) ∷ []) ≡ allOf (a ∷ c ∷ d ∷ [])
+unfolding allOf
+sizes-one a true d = refl
+sizes-one a false d = refl
+
+-- so the number of those answers is the refusal
+pub same-tests : (b : Board) (l : Lent) (room : ℕ) (t : ExtraTests) (x : Extra) → Tests x t → firstFailed (tests b l room t) ≡ refusal b l room x
+unfolding refusal
+same-tests b l room t x e = rw (e .sizes, e .threshold, e .hot, sizes-one (sizesFit b) (leb (length (x .hot)) 4096) (leb (length (x .turns)) 65536))
 
 -- ---- a call that is not refused
 
@@ -106,18 +118,6 @@ module _ (b : Board) (l : Lent) (room : ℕ) (x : Extra) where
         words = leb-true (wordsRoom b) (length (l .words)) (each _ 1 (h₇ .0) (omega arith));
         floats = leb-true (floatsRoom b) (length (l .floats)) (each _ 2 (h₇ .0) (omega arith));
       }
-
-  -- and what it alone was lent passed its tests
-  pub given-extra : refusal b l room x ≡ 0 → (x .sizes ≡ true) × ((x .threshold ≡ true) × (x .hot ≡ true))
-  unfolding refusal
-  given-extra e =
-      let h₁ = holds _ 0 _ e in
-      let h₂ = holds _ 1 _ (h₁ .1) in
-      let h₃ = holds _ 2 _ (h₂ .1) in
-      let h₄ = holds _ 3 _ (h₃ .1) in
-      let h₅ = holds _ 4 _ (h₄ .1) in
-      let h₆ = holds _ 5 _ (h₅ .1) in
-      (each _ 1 (h₁ .0) (omega arith), (each _ 1 (h₅ .0) (omega arith), h₆ .0))
 
 -- ---- what a call that goes on needs, and leaves
 

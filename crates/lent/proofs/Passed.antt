@@ -8,10 +8,11 @@ use lib.Dec.{T, leb→le}
 use lib.ListN.{length, drop, length-append, length-drop}
 use lib.Ieee.{Float}
 use Rattle.basics.specs.Loops.{every}
+use Rattle.basics.specs.Floats.{finiteSignClear}
 use Rattle.basics.specs.Lists.{All}
 use Rattle.basics.proofs.Loops.{all-of}
 use Rattle.rules_board.specs.Board.{Board}
-use Rattle.rules_board.specs.Refuse.{linksFit}
+use Rattle.rules_board.specs.Refuse.{ascending, linksFit}
 use Rattle.turfs.specs.Tables.{Accepted}
 use Rattle.turfs.proofs.Accepted.{accepted}
 use Rattle.rules_mixture.specs.Mixture.{amountFits}
@@ -34,10 +35,11 @@ module _ (b : Board) (l : Lent) where
   -- what the refusals 1 to 7 leave
   pub record Passed (room : ℕ) (x : Extra) : Type 0 where
     pub board : Accepted b (length (l .gas))
-    pub sizes : T (x .sizes)
+    pub hots : length (x .hot) ≤ 4096
+    pub turns : length (x .turns) ≤ 65536
     pub amounts : T (every amountFits (l .gas))
-    pub threshold : T (x .threshold)
-    pub hot : T (x .hot)
+    pub threshold : T (finiteSignClear (x .threshold))
+    pub hot : T (ascending (x .hot))
     pub area : room ≤ length (l .area)
     pub words : wordsRoom b ≤ length (l .words)
     pub floats : floatsRoom b ≤ length (l .floats)
@@ -51,7 +53,8 @@ module _ (b : Board) (l : Lent) where
       let seven = all-of _ (met .1 .1 .1 .1 .1 .1 .0) in
       record {
         board = accepted b (length (l .gas)) (one .0) (met .1 .0) (met .1 .1 .0) (met .1 .1 .1 .0);
-        sizes = one .1 .0;
+        hots = leb→le (length (x .hot)) 4096 (one .1 .0);
+        turns = leb→le (length (x .turns)) 65536 (one .1 .1 .0);
         amounts = five .0;
         threshold = five .1 .0;
         hot = met .1 .1 .1 .1 .1 .0;

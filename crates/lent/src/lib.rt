@@ -5,9 +5,9 @@ use turfs::Marks;
 use turfs::Rows;
 ghost use mathlib.Core.Path.{_≡_};
 ghost use Rattle.turfs.specs.Tables.{boardAt};
-ghost use Rattle.rules_lent.specs.Lent.{noExtra, refusal};
+ghost use Rattle.rules_lent.specs.Lent.{Extra, noExtra, refusal};
 ghost use Rattle.lent_room.specs.Areas.{roomOf};
-ghost use Rattle.lent.specs.Given.{lent, extraOf};
+ghost use Rattle.lent.specs.Given.{lent, Tests};
 
 // What only equalize is lent, and tests itself: the sizes of the hot ids and of the turns, the threshold, the order of the hot ids.
 pub struct ExtraTests {
@@ -19,7 +19,7 @@ pub struct ExtraTests {
 impl ExtraTests {
     // Nothing of that is lent.
     pub fn none() -> Self
-        ensures { λ r. ⌜ extraOf r ≡ noExtra ⌝ }
+        ensures { λ r. ⌜ Tests noExtra r ⌝ }
     {
         Self {
             sizes: true,
@@ -41,7 +41,8 @@ pub fn refusal(
     room: Room,
     extra: ExtraTests,
 ) -> u32
-    ensures { λ r. let b = boardAt (rows .entry) (marks .entry) gases in ⌜ r ≡ refusal b (lent (now (gas .entry)) (now (events .entry)) (now (words .entry)) (now (floats .entry))) (roomOf b room) (extraOf extra) ⌝ }
+    ensures { λ r. let b = boardAt (rows .entry) (marks .entry) gases in
+        ⌜ ((x : Extra) → Tests x extra → r ≡ refusal b (lent (now (gas .entry)) (now (events .entry)) (now (words .entry)) (now (floats .entry))) (roomOf b room) x) ⌝ }
 {
     if !turfs::refuse::sizes_fit(rows, marks, gases) {
         return 1;

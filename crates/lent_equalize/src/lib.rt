@@ -1,12 +1,12 @@
 // What only equalize is lent, tested; and a mark as the number that it answers.
 use lent::ExtraTests;
 ghost use mathlib.Core.Path.{_≡_};
+ghost use mathlib.Core.List.{List};
+ghost use Prim.Native.Nat.{ℕ};
 ghost use mathlib.Core.Bool.{_&&_};
 ghost use lib.Dec.{leb};
 ghost use lib.ListN.{length};
-ghost use Rattle.basics.specs.Floats.{finiteSignClear};
-ghost use Rattle.rules_board.specs.Refuse.{ascending};
-ghost use Rattle.lent.specs.Given.{extraOf};
+ghost use Rattle.lent.specs.Given.{Tests};
 ghost use Rattle.rules_equalize.specs.Equalize.{bit};
 
 // A mark as a number.
@@ -28,7 +28,7 @@ fn counts_fit(hot: usize, turns: usize) -> bool
 
 // What only equalize is lent, tested: the sizes of the hot ids and of the turns, the threshold, the order of the hot ids.
 pub fn extra_tests(hot: &[u32], turns: usize, threshold: f32) -> ExtraTests
-    ensures { λ r. ⌜ extraOf r ≡ record { sizes = leb (length (now (hot .entry))) 4096 && leb turns 65536; threshold = finiteSignClear threshold; hot = ascending (now (hot .entry)) } ⌝ }
+    ensures { λ r. ⌜ ((ts : List ℕ) → length ts ≡ turns → Tests (record { hot = now (hot .entry); turns = ts; threshold = threshold }) r) ⌝ }
 {
     ExtraTests {
         sizes: counts_fit(hot.len(), turns),

@@ -1,13 +1,11 @@
 -- The whole of a call of equalize: its answer and every lent cell, for each input and refusal.
 use mathlib.Core.List.{List}
-use mathlib.Core.Bool.{_&&_, cond}
+use mathlib.Core.Bool.{cond}
 use Prim.Native.Nat.{ℕ, _+_, _*_}
-use lib.Dec.{eqb, leb}
+use lib.Dec.{eqb}
 use lib.ListN.{length}
 use Rattle.basics.specs.Loops.{if_then_else_}
-use Rattle.basics.specs.Floats.{finiteSignClear}
 use Rattle.rules_board.specs.Board.{Board, turfCount, linkCount}
-use Rattle.rules_board.specs.Refuse.{ascending}
 use Rattle.rules_events.specs.Events.{encodeAll}
 use Rattle.rules_lent.specs.Lent.{Lent, Result, Extra, refusal, after}
 use Rattle.rules_equalize.specs.Equalize.{Ask, Equalized, equalize}
@@ -24,11 +22,7 @@ refusedEqualize n = record { number = n; cancelled = 0; processed = 0; tests = 0
 module _ (b : Board) (q : Ask) (turns : List ℕ) (l : Lent) where
   -- the number that the call answers
   unfoldable pub equalizeNumber : ℕ
-  equalizeNumber = refusal b l (equalizeRoom b) (record {
-    sizes = leb (length (q .hot)) 4096 && leb (length turns) 65536;
-    threshold = finiteSignClear (q .threshold);
-    hot = ascending (q .hot);
-  })
+  equalizeNumber = refusal b l (equalizeRoom b) (record { hot = q .hot; turns = turns; threshold = q .threshold })
 
   -- a call that was done
   unfoldable pub equalizeDone : Equalized → Result EqualizeAnswer

@@ -20,7 +20,7 @@ use Rattle.rules_fill.specs.Fill.{insert, endFill, reachLink, expand, pop, popN
 use Rattle.rules_plan.specs.Edges.{edgesOf, edge, adjust}
 use Rattle.rules_plan.specs.Plan.{chosen, trade, meet, seekTo, fastMove, eligible, fastTurf, seekLink, seekRow, seekNext, drainTo, drain, serve, fastPass, shareOut, deltas, planZone}
 use Rattle.rules_finish.specs.Finish.{zeroLifted, pairs, finishGivers, send, finishPair, finish}
-use Rattle.rules_finish.specs.Turns.{nodeCount, unfinished, jobsLeft, inOrder, order, turnOrder, work, finishAll}
+use Rattle.rules_finish.specs.Turns.{nodeCount, unfinished, turn, byTurns, finishAll}
 use Rattle.rules_equalize.specs.Equalize.{Ask, afterFill, near, passedOver, fillFrom, hotRow, hotId, fillAll, planAll, hasMix, apart, cancel, planned, played, equalize}
 use Rattle.rules_equalize.specs.Result.{equalizeRoom, refusedEqualize, equalizeNumber, equalizeDone, equalizeResult}
 use Rattle.rules_equalize.specs.declared.EqualizeAnswer.{EqualizeAnswer}
@@ -91,7 +91,7 @@ unfolding equalizes refused numbers lend leaves unchanged run times keep every a
     sum scale plus ratio remove amounts change totalMix total moveAir amountFits kindOf fieldsOf wordsBytes encode encodeAll
     wordsRoom floatsRoom firstFailed refusal after insert endFill reachLink expand pop popNext fill
     edgesOf edge adjust chosen trade meet seekTo fastMove eligible fastTurf seekLink seekRow seekNext drainTo drain serve fastPass shareOut deltas planZone
-    zeroLifted pairs finishGivers send finishPair finish nodeCount unfinished jobsLeft inOrder order turnOrder work finishAll
+    zeroLifted pairs finishGivers send finishPair finish nodeCount unfinished turn byTurns finishAll
     afterFill near passedOver fillFrom hotRow hotId fillAll planAll hasMix apart cancel planned played equalize equalizeNumber equalizeDone equalizeResult
     leadingZeros trailingZeros add sub isum mul div neg round size span climb units odd ofInt ofBits ofFields toBits lt le eq ne
 worked = tt

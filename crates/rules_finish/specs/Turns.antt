@@ -1,11 +1,11 @@
 -- The turns, which stand for the Rust's parallel workers: in which order the nodes of the kept zones are finished.
-use mathlib.Core.List.{List, [], _∷_, _++_, map}
+use mathlib.Core.List.{List, []}
 use mathlib.Core.Bool.{Bool, cond}
 use Prim.Native.Nat.{ℕ, suc, _+_, _%_}
 use lib.Dec.{eqb, ltb}
-use lib.ListN.{length, getD, set, drop, replicate}
+use lib.ListN.{length, getD, set, replicate}
 use lib.Ieee.{Float}
-use Rattle.basics.specs.Loops.{run, keep, upFrom, if_then_else_}
+use Rattle.basics.specs.Loops.{run, times, keep, upFrom, if_then_else_}
 use Rattle.basics.specs.Floats.{0f}
 use Rattle.rules_board.specs.Board.{Board, linkCount}
 use Rattle.rules_finish.specs.Finish.{Done, finish}
@@ -27,56 +27,34 @@ nodesAt zs z = zoneAt zs z .nodes
 unfoldable pub nodeCount : List Zone → ℕ
 nodeCount zs = run (λ z n. n + length (z .nodes)) zs 0
 
--- one turn's work: the turf `row` is finished in the zone `zone`
-pub record Job : Type 0 where
-  pub zone : ℕ
-  pub row : ℕ
+-- how many of each zone's nodes had their turn, and what came of the work on them
+pub record Turned (S : Type 0) : Type 0 where
+  pub next : List ℕ  -- by zone
+  pub done : S
 
--- the jobs of zone z on these rows
-abbrev pub jobsOn : ℕ → List ℕ → List Job
-jobsOn z rs = map (λ r. record { zone = z; row = r }) rs
+-- the unfinished zones, ascending
+unfoldable pub unfinished : List Zone → List ℕ → List ℕ
+unfinished zones next = keep (λ z. ltb (getD next z 0) (length (nodesAt zones z))) (upFrom 0 (length zones))
 
--- Which jobs a list of turns makes turns on the zones and the turns alone. `next` has by zone how many of its nodes had their turn.
-module _ (zones : List Zone) where
-  -- the unfinished zones, ascending
-  unfoldable pub unfinished : List ℕ → List ℕ
-  unfinished next = keep (λ z. ltb (getD next z 0) (length (nodesAt zones z))) (upFrom 0 (length zones))
-
-  -- the jobs of zone z that are left
-  unfoldable pub jobsLeft : List ℕ → ℕ → List Job
-  jobsLeft next z = jobsOn z (drop (getD next z 0) (nodesAt zones z))
-
-  -- a used-up list: the lowest unfinished zone, until none is left
-  unfoldable pub inOrder : List ℕ → List ℕ → List Job
-  inOrder next [] = []
-  inOrder next (z ∷ zs) = jobsLeft next z ++ inOrder next zs
-
-  -- the zone that c picks, among the unfinished ones u
-  abbrev pub pick : ℕ → List ℕ → ℕ
-  pick c u = getD u (c % length u) 0
-
+-- The turns are told over what is done with a zone's node: `doNode zone row`.
+module _ {S : Type 0} (zones : List Zone) (doNode : ℕ → ℕ → S → S) where
   -- the next node of zone z
-  abbrev pub nextJob : List ℕ → ℕ → Job
-  nextJob next z = record { zone = z; row = getD (nodesAt zones z) (getD next z 0) 0 }
+  abbrev pub doNext : ℕ → Turned S → Turned S
+  doNext z s =
+      let k = getD (s .next) z 0 in
+      record { next = set (s .next) z (k + 1); done = doNode z (getD (nodesAt zones z) k 0) (s .done) }
 
-  -- the jobs in order; entries left over are ignored
-  unfoldable pub order : List ℕ → List ℕ → List Job
-  order next [] = inOrder next (upFrom 0 (length zones))
-  order next (c ∷ cs) =
-      let u = unfinished next in
-      let z = pick c u in
-      let none = eqb (length u) 0 in
-      (if none then [] else nextJob next z ∷ []) ++ order (if none then next else set next z (getD next z 0 + 1)) cs
+  -- the entry c picks a zone, among the unfinished ones; with none left it is ignored
+  unfoldable pub turn : ℕ → Turned S → Turned S
+  turn c s =
+      let u = unfinished zones (s .next) in
+      let z = getD u (c % length u) 0 in
+      if eqb (length u) 0 then s else doNext z s
 
-  -- from the start
-  unfoldable pub turnOrder : List ℕ → List Job
-  turnOrder turns = order (replicate (length zones) 0) turns
+  -- a used-up list goes on with entry 0, the lowest unfinished zone; as many steps as nodes leave none
+  unfoldable pub byTurns : List ℕ → S → S
+  byTurns turns s = times (turn 0) (nodeCount zones) (run turn turns (record { next = replicate (length zones) 0; done = s })) .done
 
-module _ (b : Board) (owner : List ℕ) where
-  -- one turn, whether the node was done already as a giver or not
-  unfoldable pub work : Job → Done → Done
-  work j s = finish b owner (j .zone) (suc (linkCount b)) (j .row) s
-
-  -- `finalize_eq_zone`, of every zone, by turns
-  unfoldable pub finishAll : List Zone → List ℕ → Done → Done
-  finishAll zones turns s = run work (turnOrder zones turns) s
+-- `finalize_eq_zone`, of every zone, by turns, whether a node was done already as a giver or not
+unfoldable pub finishAll : Board → List ℕ → List Zone → List ℕ → Done → Done
+finishAll b owner zones turns s = byTurns zones (λ z r. finish b owner z (suc (linkCount b)) r) turns s

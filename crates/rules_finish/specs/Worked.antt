@@ -1,11 +1,11 @@
 -- Worked finishes and orders of turns, which antt computes. Assumes nothing.
 use mathlib.Core.List.{List, [], _∷_, map}
 use mathlib.Core.Bool.{Bool}
-use Prim.Native.Nat.{ℕ, _+_, _*_}
+use Prim.Native.Nat.{ℕ, suc, _+_, _*_}
 use lib.Dec.{T}
 use lib.ListN.{replicate}
 use lib.Ieee.{Float, add, sub, sum as isum, mul, div, neg, round, size, span, climb, units, odd, ofInt, ofBits, ofFields, toBits, lt, le, eq, ne}
-use Rattle.basics.specs.Loops.{run, keep, allOf, first, same, upFrom}
+use Rattle.basics.specs.Loops.{run, times, keep, allOf, first, same, upFrom, snoc}
 use Rattle.basics.specs.Floats.{0f, bits, ofCount, whole}
 use Rattle.rules_board.specs.Board.{Board, linkCount, linksOf}
 use Rattle.rules_board.specs.Draw.{to, turf, startsFrom, allWays, draw, sharing, boardA, chain}
@@ -16,17 +16,17 @@ use Rattle.rules_events.specs.Events.{kindOf, fieldsOf, wordsBytes, encode, enc
 use Rattle.rules_events.specs.declared.Event.{Event}
 use Rattle.rules_events.specs.declared.Event.the-variants.{Pressure}
 use Rattle.rules_finish.specs.Finish.{Done, zeroLifted, pairs, finishGivers, send, finishPair, finish}
-use Rattle.rules_finish.specs.Turns.{Zone, Job, unfinished, jobsLeft, inOrder, order, turnOrder, work}
+use Rattle.rules_finish.specs.Turns.{Zone, nodeCount, unfinished, turn, byTurns}
 
 -- a turf of a zone that has all links is finished: weights, gas; then the gas, weights and events afterwards
 unfoldable pub finishes : Board → List Float → List ℕ → ℕ → List ℕ → List Float → List Event → Bool
 finishes b weights gas r gas′ weights′ es =
-    let t = work b (replicate (linkCount b) 1) (record { zone = 0; row = r }) (record { gas = whole gas; weight = weights; events = [] }) in
+    let t = finish b (replicate (linkCount b) 1) 0 (suc (linkCount b)) r (record { gas = whole gas; weight = weights; events = [] }) in
     allOf (same (bits (t .gas)) (bits (whole gas′)) ∷ same (bits (t .weight)) (bits weights′) ∷ same (encodeAll (t .events)) (encodeAll es) ∷ [])
 
 -- the order of turns over zones with these nodes: ten times the zone, and the row
 unfoldable pub orders : List (List ℕ) → List ℕ → List ℕ → Bool
-orders nodes turns jobs = same (map (λ j. 10 * j .zone + j .row) (turnOrder (map (λ ns. record { nodes = ns; moles = 0f }) nodes) turns)) jobs
+orders nodes turns rows = same (byTurns (map (λ ns. record { nodes = ns; moles = 0f }) nodes) (λ z r rs. snoc rs (10 * z + r)) turns []) rows
 
 -- 10 gives to 30 and 40, 30 to 20, and 20 to 10
 abbrev pub loop : Board
@@ -63,8 +63,8 @@ pub worked : T (allOf (
     -- a zone without nodes is finished from the start
     ∷ orders ([] ∷ (5 ∷ []) ∷ []) (0 ∷ []) (15 ∷ [])
     ∷ []))
-unfolding finishes orders run keep allOf first same upFrom bits whole linksOf startsFrom allWays draw sharing
+unfolding finishes orders run times keep allOf first same upFrom bits whole linksOf startsFrom allWays draw sharing
     sum scale plus ratio remove amounts change totalMix total moveAir edgesOf edge kindOf fieldsOf wordsBytes encode encodeAll
-    zeroLifted pairs finishGivers send finishPair finish unfinished jobsLeft inOrder order turnOrder work
+    zeroLifted pairs finishGivers send finishPair finish nodeCount unfinished turn byTurns
     add sub isum mul div neg round size span climb units odd ofInt ofBits ofFields toBits lt le eq ne
 worked = tt

@@ -1,14 +1,14 @@
 -- What every call is lent beside its tables: the refusals in order, and what every lent cell holds afterwards.
 use mathlib.Core.List.{List, [], _∷_, _++_}
-use mathlib.Core.Bool.{Bool, true, cond}
+use mathlib.Core.Bool.{Bool, cond}
 use Prim.Native.Nat.{ℕ, _+_, _*_}
 use lib.Dec.{eqb, leb}
 use lib.ListN.{length, drop, replicate}
 use lib.Ieee.{Float}
 use Rattle.basics.specs.Loops.{every, allOf, if_then_else_}
-use Rattle.basics.specs.Floats.{0f}
+use Rattle.basics.specs.Floats.{0f, finiteSignClear}
 use Rattle.rules_board.specs.Board.{Board, turfCount, linkCount, mixtureCount}
-use Rattle.rules_board.specs.Refuse.{sizesFit, tablesFit, idsFit, linksFit}
+use Rattle.rules_board.specs.Refuse.{ascending, sizesFit, tablesFit, idsFit, linksFit}
 use Rattle.rules_mixture.specs.Mixture.{amountFits}
 use Rattle.rules_events.specs.Events.{encodeAll}
 use Rattle.rules_events.specs.declared.Event.{Event}
@@ -38,26 +38,26 @@ unfoldable pub firstFailed : List (Bool × ℕ) → ℕ
 firstFailed [] = 0
 firstFailed (t ∷ ts) = if t .0 then firstFailed ts else t .1
 
--- What only equalize is lent: what a call isn't lent it doesn't test.
+-- what only equalize is lent
 pub record Extra : Type 0 where
-  pub sizes : Bool  -- hot ids and turns within their limits
-  pub threshold : Bool  -- in its range
-  pub hot : Bool  -- strictly ascending
+  pub hot : List ℕ
+  pub turns : List ℕ
+  pub threshold : Float
 
--- nothing of that is lent
+-- Nothing of that is lent: what a call isn't lent it doesn't test, for every test of it passes.
 abbrev pub noExtra : Extra
-noExtra = record { sizes = true; threshold = true; hot = true }
+noExtra = record { hot = []; turns = []; threshold = 0f }
 
 module _ (b : Board) (l : Lent) where
   -- the refusals 1 to 7, in order, of a call that needs `room` event bytes
   unfoldable pub refusal : ℕ → Extra → ℕ
   refusal room x = firstFailed (
-      (allOf (sizesFit b ∷ x .sizes ∷ []), 1)
+      (allOf (sizesFit b ∷ leb (length (x .hot)) 4096 ∷ leb (length (x .turns)) 65536 ∷ []), 1)
       ∷ (tablesFit b (length (l .gas)), 2)
       ∷ (idsFit b, 3)
       ∷ (linksFit b, 4)
-      ∷ (allOf (every amountFits (l .gas) ∷ x .threshold ∷ []), 5)
-      ∷ (x .hot, 6)
+      ∷ (allOf (every amountFits (l .gas) ∷ finiteSignClear (x .threshold) ∷ []), 5)
+      ∷ (ascending (x .hot), 6)
       ∷ (allOf (leb room (length (l .area)) ∷ leb (wordsRoom b) (length (l .words)) ∷ leb (floatsRoom b) (length (l .floats)) ∷ []), 7)
       ∷ [])
 

@@ -1,12 +1,12 @@
 -- Worked loans: what a call is lent, when it is refused, and what it leaves, which antt computes. Assumes nothing.
 use mathlib.Core.List.{List, [], _∷_, _++_}
-use mathlib.Core.Bool.{Bool, true, false, not}
+use mathlib.Core.Bool.{Bool, not}
 use Prim.Native.Nat.{ℕ, _-_}
 use lib.Dec.{T, eqb}
 use lib.ListN.{length, drop, replicate}
 use lib.Ieee.{Float, add, sub, sum as isum, mul, div, neg, round, size, span, climb, units, odd, ofInt, ofBits, ofFields, toBits, lt, le, eq, ne}
 use Rattle.basics.specs.Loops.{every, allOf, upFrom, member, same}
-use Rattle.basics.specs.Floats.{finiteSignClear, bits, ofCount, whole, exact}
+use Rattle.basics.specs.Floats.{0f, finiteSignClear, bits, ofCount, whole, exact}
 use Rattle.rules_board.specs.Board.{Board}
 use Rattle.rules_board.specs.Refuse.{pairwise, distinct, sizesFit, tablesFit, rowFits, linksFit}
 use Rattle.rules_board.specs.Draw.{to, turf, startsFrom, allWays, draw, withGases, boardA}
@@ -65,15 +65,19 @@ lentA gas = lend boardA 24 gas
 abbrev pub falling : Board
 falling = draw (turf 20 (to 1 ∷ []) ∷ turf 10 (to 0 ∷ []) ∷ [])
 
--- hot ids out of order, a threshold out of range, too many turns
+-- hot ids out of order, a threshold below 0, turns to a number
 abbrev pub badHot : Extra
-badHot = record { sizes = true; threshold = true; hot = false }
+badHot = record { hot = 20 ∷ 10 ∷ []; turns = []; threshold = 0f }
 
 abbrev pub badThreshold : Extra
-badThreshold = record { sizes = true; threshold = false; hot = true }
+badThreshold = record { hot = []; turns = []; threshold = neg (ofCount 1) }
 
-abbrev pub badSizes : Extra
-badSizes = record { sizes = false; threshold = true; hot = true }
+abbrev pub withTurns : ℕ → Extra
+withTurns n = record { hot = []; turns = replicate n 0; threshold = 0f }
+
+-- hot ids to a number, out of order
+abbrev pub withHot : ℕ → Extra
+withHot n = record { hot = replicate n 7; turns = []; threshold = 0f }
 
 pub worked : T (allOf (
     eqb (wordsRoom boardA) 60
@@ -81,7 +85,10 @@ pub worked : T (allOf (
     -- each number before the next one
     ∷ eqb (refusal boardA (lentA (whole (1 ∷ 2 ∷ []))) 24 noExtra) 0
     ∷ eqb (refusal (withGases 0 falling) (lentA (whole (1 ∷ 2 ∷ []))) 24 noExtra) 1
-    ∷ eqb (refusal boardA (lentA (whole (1 ∷ 2 ∷ []))) 24 badSizes) 1
+    ∷ eqb (refusal boardA (lentA (whole (1 ∷ 2 ∷ []))) 24 (withTurns 65537)) 1
+    ∷ eqb (refusal boardA (lentA (whole (1 ∷ 2 ∷ []))) 24 (withTurns 65536)) 0
+    ∷ eqb (refusal boardA (lentA (whole (1 ∷ 2 ∷ []))) 24 (withHot 4097)) 1
+    ∷ eqb (refusal boardA (lentA (whole (1 ∷ 2 ∷ []))) 24 (withHot 4096)) 6
     ∷ eqb (refusal falling (lentA (whole (1 ∷ []))) 24 noExtra) 2
     ∷ eqb (refusal (draw (turf 20 (to 1 ∷ []) ∷ turf 10 (to 1 ∷ []) ∷ [])) (lentA (whole (1 ∷ 2 ∷ []))) 24 noExtra) 3
     ∷ eqb (refusal (draw (turf 10 (to 1 ∷ []) ∷ turf 20 (to 1 ∷ []) ∷ [])) (lentA (exact (1 ∷ 0xffff_ffff ∷ []))) 24 noExtra) 4

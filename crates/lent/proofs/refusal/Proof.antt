@@ -1,6 +1,6 @@
 -- The tests stand in the definition's order, so the first that fails gives its number. Assumes nothing.
 use Prim.Native.Nat.{ℕ}
-use mathlib.Core.Path.{_≡_}
+use mathlib.Core.Path.{_≡_, _∙_}
 use mathlib.Core.List.{List, [], _∷_}
 use mathlib.Core.Bool.{Bool, true}
 use lib.ListN.{length}
@@ -15,10 +15,10 @@ use Rattle.rules_board.specs.Refuse.{sizesFit, tablesFit, idsFit, linksFit, row
 use Rattle.turfs.specs.Tables.{boardOf, BoardSizes}
 use Rattle.turfs.proofs.Tables.{sizes-of, starts-of}
 use Rattle.rules_mixture.specs.Mixture.{amountFits}
-use Rattle.rules_lent.specs.Lent.{Lent, wordsRoom, floatsRoom, refusal}
+use Rattle.rules_lent.specs.Lent.{Lent, Extra, wordsRoom, floatsRoom, firstFailed, refusal}
 use Rattle.lent_room.specs.Areas.{roomOf}
-use Rattle.lent.specs.Given.{lent, extraOf}
-use Rattle.lent.proofs.Numbers.{areas, tests, Hold, decides, all-passed, small-of}
+use Rattle.lent.specs.Given.{lent, Tests}
+use Rattle.lent.proofs.Numbers.{areas, tests, same-tests, Hold, decides, all-passed, small-of}
 use Rattle.lent.proofs.refusal.Statement.{statement}
 use Rattle.lent.proofs.refusal.Tie as tie
 
@@ -30,7 +30,11 @@ abbrev L : tie.Start → Lent
 L s = lent (now (s .args .gas)) (now (s .args .events)) (now (s .args .words)) (now (s .args .floats))
 
 abbrev ts : tie.Start → List (Bool × ℕ)
-ts s = tests (B s) (L s) (roomOf (B s) (s .args .room)) (extraOf (s .args .extra))
+ts s = tests (B s) (L s) (roomOf (B s) (s .args .room)) (s .args .extra)
+
+-- their number, for whatever was lent that has these answers
+told : (s : tie.Start) {n : ℕ} → n ≡ firstFailed (ts s) → (x : Extra) → Tests x (s .args .extra) → n ≡ refusal (B s) (L s) (roomOf (B s) (s .args .room)) x
+told s e x t = e ∙ same-tests (B s) (L s) (roomOf (B s) (s .args .room)) (s .args .extra) x t
 
 -- the function's start, seen from where a test has passed
 abbrev s₁ : tie.Else1 → tie.Start
@@ -99,21 +103,19 @@ sizes-fit-requires : tie.Need-sizes-fit-requires
 sizes-fit-requires c κs = search needs
 
 returns : tie.Need-returns
-unfolding refusal sizesFit
+unfolding sizesFit
 returns c =
     let s : tie.Start = c .before .before .before .before .before .before in
-    decides 0 (ts s) tt (omega arith) (one-fails _ 0 (no (sizesFit (B s)) (c .before .sizes-fit .ensures) (c .if1 .taken)))
+    told s (decides 0 (ts s) tt (omega arith) (one-fails _ 0 (no (sizesFit (B s)) (c .before .sizes-fit .ensures) (c .if1 .taken))))
 
 returns-2 : tie.Need-returns-2
-unfolding refusal
-returns-2 c = decides 0 (ts (s₁ (c .before .before))) tt (omega arith) (one-fails _ 1 (not-true _ (c .if2 .taken)))
+returns-2 c = told (s₁ (c .before .before)) (decides 0 (ts (s₁ (c .before .before))) tt (omega arith) (one-fails _ 1 (not-true _ (c .if2 .taken))))
 
 tables-fit-requires : tie.Need-tables-fit-requires
 tables-fit-requires c κs = sized c
 
 returns-3 : tie.Need-returns-3
-unfolding refusal
-returns-3 c = decides 1 (ts (s₂ (c .before .before))) (p₁ (c .before .before)) (omega arith) (no _ (c .before .tables-fit .ensures) (c .if3 .taken))
+returns-3 c = told (s₂ (c .before .before)) (decides 1 (ts (s₂ (c .before .before))) (p₁ (c .before .before)) (omega arith) (no _ (c .before .tables-fit .ensures) (c .if3 .taken)))
 
 element-copy-out-ascending : tie.Need-element-copy-out-ascending
 element-copy-out-ascending c = search needs
@@ -122,8 +124,7 @@ ascending-requires : tie.Need-ascending-requires
 ascending-requires c κs = search needs
 
 returns-4 : tie.Need-returns-4
-unfolding refusal
-returns-4 c = decides 2 (ts (s₃ (c .before .before .before))) (p₂ (c .before .before .before)) (omega arith) (no _ (c .before .ascending .ensures) (c .if4 .taken))
+returns-4 c = told (s₃ (c .before .before .before)) (decides 2 (ts (s₃ (c .before .before .before))) (p₂ (c .before .before .before)) (omega arith) (no _ (c .before .ascending .ensures) (c .if4 .taken)))
 
 links-fit-requires : tie.Need-links-fit-requires
 links-fit-requires c κs = (
@@ -132,41 +133,38 @@ links-fit-requires c κs = (
 )
 
 returns-5 : tie.Need-returns-5
-unfolding refusal linksFit rowFits
+unfolding linksFit rowFits
 returns-5 c =
     let s : tie.Start = s₄ (c .before .before) in
-    decides 3 (ts s) (p₃ (c .before .before)) (omega arith) (no (linksFit (B s)) (c .before .links-fit .ensures) (c .if5 .taken))
+    told s (decides 3 (ts s) (p₃ (c .before .before)) (omega arith) (no (linksFit (B s)) (c .before .links-fit .ensures) (c .if5 .taken)))
 
 amounts-fit-requires : tie.Need-amounts-fit-requires
 amounts-fit-requires c κs = search needs
 
 returns-6 : tie.Need-returns-6
-unfolding refusal
-returns-6 c = decides 4 (ts (s₅ (c .before .before))) (p₄ (c .before .before)) (omega arith) (one-fails _ 0 (no _ (c .before .amounts-fit .ensures) (c .if6 .taken)))
+returns-6 c = told (s₅ (c .before .before)) (decides 4 (ts (s₅ (c .before .before))) (p₄ (c .before .before)) (omega arith) (one-fails _ 0 (no _ (c .before .amounts-fit .ensures) (c .if6 .taken))))
 
 returns-7 : tie.Need-returns-7
-unfolding refusal
-returns-7 c = decides 4 (ts (s₆ (c .before .before))) (p₄ (c .before .before .before .before)) (omega arith) (one-fails _ 1 (not-true _ (c .if7 .taken)))
+returns-7 c = told (s₆ (c .before .before)) (decides 4 (ts (s₆ (c .before .before))) (p₄ (c .before .before .before .before)) (omega arith) (one-fails _ 1 (not-true _ (c .if7 .taken))))
 
 returns-8 : tie.Need-returns-8
-unfolding refusal
-returns-8 c = decides 5 (ts (s₇ (c .before .before))) (p₅ (c .before .before)) (omega arith) (not-true _ (c .if8 .taken))
+returns-8 c = told (s₇ (c .before .before)) (decides 5 (ts (s₇ (c .before .before))) (p₅ (c .before .before)) (omega arith) (not-true _ (c .if8 .taken)))
 
 areas-fit-requires : tie.Need-areas-fit-requires
 areas-fit-requires c κs = small-of (B (s₈ c)) (sized (c .before .before .before .before .before .before .before .before .before .before .before .before .before) .small)
 
 returns-9 : tie.Need-returns-9
-unfolding refusal wordsRoom floatsRoom
+unfolding wordsRoom floatsRoom
 returns-9 c =
     let s : tie.Start = s₈ (c .before .before) in
-    decides 6 (ts s) (p₆ (c .before .before)) (omega arith) (no (areas (B s) (L s) (roomOf (B s) (s .args .room))) (c .before .areas-fit .ensures) (c .if9 .taken))
+    told s (decides 6 (ts s) (p₆ (c .before .before)) (omega arith) (no (areas (B s) (L s) (roomOf (B s) (s .args .room))) (c .before .areas-fit .ensures) (c .if9 .taken)))
 
 returns-10 : tie.Need-returns-10
-unfolding refusal wordsRoom floatsRoom
+unfolding wordsRoom floatsRoom
 returns-10 c =
     let s : tie.Start = s₉ c in
     let p = p₆ (c .before .before) in
-    all-passed (ts s) (p .0, (p .1 .0, (p .1 .1 .0, (p .1 .1 .1 .0, (p .1 .1 .1 .1 .0, (p .1 .1 .1 .1 .1 .0, (yes (areas (B s) (L s) (roomOf (B s) (s .args .room))) (c .before .areas-fit .ensures) (c .if9 .left), tt)))))))
+    told s (all-passed (ts s) (p .0, (p .1 .0, (p .1 .1 .0, (p .1 .1 .1 .0, (p .1 .1 .1 .1 .0, (p .1 .1 .1 .1 .1 .0, (yes (areas (B s) (L s) (roomOf (B s) (s .args .room))) (c .before .areas-fit .ensures) (c .if9 .left), tt))))))))
 
 pub refusal-spec : {M : Type 1} → statement M
 refusal-spec =

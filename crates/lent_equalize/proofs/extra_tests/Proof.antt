@@ -1,5 +1,5 @@
 -- Each test's own promise. Assumes nothing.
-use Rattle.lent_equalize.proofs.Extra.{extra-of}
+use Rattle.lent_equalize.proofs.Extra.{tests-of}
 use borrow.Author.Needs.{needs}
 use Rattle.lent_equalize.proofs.extra_tests.Statement.{statement}
 use Rattle.lent_equalize.proofs.extra_tests.Tie as tie
@@ -19,7 +19,7 @@ ascending-requires : tie.Need-ascending-requires
 ascending-requires c κs = search needs
 
 returns : tie.Need-returns
-returns c = extra-of (c .before .before .counts-fit .ensures) (c .before .finite-sign-clear .ensures) (c .ascending .ensures)
+returns c = tests-of _ _ _ _ (c .before .before .counts-fit .ensures) (c .before .finite-sign-clear .ensures) (c .ascending .ensures)
 
 pub extra-tests-spec : {M : Type 1} → statement M
 extra-tests-spec =
