@@ -30,12 +30,12 @@ use Rattle.lent.proofs.Passed.{passed}
 use Rattle.scratch.specs.Layout.{outSizes, backSizes, walkRoom, outRoom, backRoom}
 use Rattle.rules_walk.specs.Walk.{Walk, walk}
 use Rattle.rules_walk.specs.Visit.{visitSpace}
-use Rattle.walk_first.specs.Reached.{walkOf, WalkStarts}
-use Rattle.walk_first.specs.Reached as walks
+use Rattle.walk_links.specs.Reached.{walkOf, WalkStarts}
+use Rattle.walk_links.specs.Reached as walks
 use Rattle.rules_walk.specs.declared.Kind.the-variants.{Space}
-use Rattle.walk_first.specs.declared.Reach.{Reach}
-use Rattle.walk_first.proofs.Does.{none-wrote, both-wrote}
-use Rattle.walk_first.proofs.Links.{written-room}
+use Rattle.walk_links.specs.declared.Reach.{Reach}
+use Rattle.walk_links.proofs.Does.{none-wrote, both-wrote}
+use Rattle.walk_links.proofs.Links.{written-room}
 use Rattle.walk_first.proofs.Whole.{ground-of, bare-ground, gasless}
 use Rattle.rules_out.specs.Out.{outTo, outLink, outRow, outNext, outward}
 use Rattle.walk_out.specs.Outed.{outAt, outOf, Opens, Outed}

@@ -13,9 +13,9 @@ use Rattle.events.specs.Area.{Wrote}
 use Rattle.rules_events.specs.declared.Event.{Event}
 use Rattle.index_set.specs.Line.{Below, Apart}
 use Rattle.scratch.specs.Layout.{outSizes, backSizes, outRoom, backRoom}
-use Rattle.walk_first.specs.Reached.{WalkFits, walkOf}
-use Rattle.walk_first.specs.Reached as walks
-use Rattle.walk_first.specs.declared.Reach.{Reach}
+use Rattle.walk_links.specs.Reached.{WalkFits, walkOf}
+use Rattle.walk_links.specs.Reached as walks
+use Rattle.walk_links.specs.declared.Reach.{Reach}
 use Rattle.walk_back.specs.Backed.{notNegative, BackAreas}
 use Rattle.rules_depressurize.specs.Depressurize.{fromWalk, depressurize}
 use Rattle.call_depressurize.specs.declared.Outcome.{Outcome}

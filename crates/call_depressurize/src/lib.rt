@@ -7,7 +7,7 @@ use rules_walk::Kind;
 use turfs::IDS;
 use turfs::Marks;
 use turfs::Rows;
-use walk_first::Reach;
+use walk_links::Reach;
 ghost use mathlib.Core.Path.{_≡_};
 ghost use Prim.Native.Nat.{_*_};
 ghost use Rattle.rules_board.specs.Board.{turfCount};

@@ -25,10 +25,10 @@ use Rattle.lent.proofs.Numbers.{bare, given, no-links, scratch-of}
 use Rattle.lent.proofs.Passed.{passed}
 use Rattle.scratch.specs.Layout.{walkSizes, walkRoom}
 use Rattle.rules_walk.specs.Walk.{Walk, walk}
-use Rattle.walk_first.specs.Reached.{walkAt, walkOf, Walked}
+use Rattle.walk_links.specs.Reached.{walkAt, walkOf, Walked}
 use Rattle.rules_walk.specs.declared.Kind.the-variants.{Planet}
-use Rattle.walk_first.specs.declared.Reach.{Reach}
-use Rattle.walk_first.proofs.Does.{none-wrote}
+use Rattle.walk_links.specs.declared.Reach.{Reach}
+use Rattle.walk_links.proofs.Does.{none-wrote}
 use Rattle.walk_first.proofs.Whole.{ground-of, bare-ground, gasless}
 use Rattle.rules_planet.specs.Planet.{planetFrom, planetWalk, planetRoom, planetNumber, planetDone, planetResult}
 use Rattle.call_planet_walk.specs.Ready.{Ready}

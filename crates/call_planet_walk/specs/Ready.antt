@@ -7,7 +7,7 @@ use lib.ListN.{length}
 use Rattle.rules_board.specs.Board.{Board, turfCount}
 use Rattle.rules_board.specs.Refuse.{ascending}
 use Rattle.scratch.specs.Layout.{walkRoom}
-use Rattle.walk_first.specs.Reached.{Ground}
+use Rattle.walk_links.specs.Reached.{Ground}
 
 -- the tables fit, and the areas w and e have room
 pub record Ready (b : Board) (w e : List ℕ) : Type 0 where

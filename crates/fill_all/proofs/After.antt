@@ -30,12 +30,14 @@ use Rattle.fill_links.proofs.Links.{nodes-length}
 use Rattle.fill_zone.specs.Held.{FillView, fillView, Begins, ZoneFits}
 use Rattle.fill_zone.specs.declared.Flood.{Flood}
 use Rattle.fill_zone.proofs.Boards.{parts}
+use Rattle.fill_ignored.specs.Held.{giveBack, pushed}
+use Rattle.fill_ignored.specs.Asked.{Spans, PushedFits}
+use Rattle.fill_ignored.proofs.Back.{given-back}
 use Rattle.rules_finish.specs.Turns.{Zone}
 use Rattle.rules_equalize.specs.Equalize.{Ask, Filled, afterFill, passedOver, fillFrom, hotRow}
-use Rattle.fill_all.specs.Held.{zoneIn, filledViewIn, filledView, onFilled, Stored, FillOpen, Fills, giveBack, pushed, Keeps, Drops}
-use Rattle.fill_all.specs.Asked.{Spans, PushedFits, KeepFits}
+use Rattle.fill_all.specs.Held.{zoneIn, filledViewIn, filledView, onFilled, Stored, FillOpen, Fills, Keeps, Drops}
+use Rattle.fill_all.specs.Asked.{KeepFits}
 use Rattle.fill_all.specs.declared.Filling.{Filling}
-use Rattle.fill_all.proofs.Back.{given-back}
 
 -- ---- a turf that is passed over
 

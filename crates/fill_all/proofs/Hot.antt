@@ -1,54 +1,31 @@
 -- A hot turf: passed over, or a zone is filled from it; and hot ids one after the other. Where filling stands the laws of the definition hold, so each fill has what it
 -- asks. Assumes nothing.
-use Prim.Native.Nat.{ℕ, _+_, _<_}
+use Prim.Native.Nat.{ℕ, _<_}
 use native.Mathlib.Omega.{arith}
-use mathlib.Core.Path.{_≡_, refl, ap, _∙_, sym, subst}
+use mathlib.Core.Path.{_≡_, refl, ap, _∙_, subst}
 use mathlib.Core.List.{List}
-use mathlib.Core.Bool.{Bool, true, false, not, _||_, cond}
-use lib.Dec.{eqb}
-use lib.Ieee.{Float, lt}
-use lib.ListN.{length, getD}
-use borrow.Author.Tests.{eq-eqb, ne-eqb, eqb-true}
-use Rattle.basics.proofs.Tests.{differ}
-use Rattle.basics.specs.Loops.{every}
+use mathlib.Core.Bool.{Bool, true, false, cond}
+use lib.Ieee.{Float}
+use lib.ListN.{getD}
 use Rattle.basics.specs.declared.Spot.{Spot}
 use Rattle.basics.specs.declared.Spot.the-variants.{At, Nowhere}
 use Rattle.basics.specs.Lists.{Found}
-use Rattle.scratch.specs.Layout.{foundAt}
 use Rattle.scratch.specs.View.{foundIn}
-use Rattle.rules_board.specs.Board.{Board, anyBit, turfCount, linkCount, enabled, linksOf, rowOf}
+use Rattle.rules_board.specs.Board.{Board, turfCount, linkCount, rowOf}
 use Rattle.turfs.specs.Tables.{Accepted}
 use Rattle.turfs.proofs.Accepted.{row-below}
-use Rattle.rules_mixture.specs.Mixture.{total}
 use Rattle.rules_fill.specs.Fill.{fill}
 use Rattle.fill_links.proofs.Does.{does-as}
-use Rattle.fill_links.proofs.Stores.{found-at}
 use Rattle.fill_zone.specs.Held.{Begins}
 use Rattle.fill_zone.specs.declared.Flood.{Flood}
-use Rattle.rules_equalize.specs.Equalize.{Ask, Filled, 10f, near, passedOver, hotRow, hotId}
+use Rattle.rules_equalize.specs.Equalize.{Ask, Filled, passedOver, hotRow, hotId}
 use Rattle.fill_all.specs.Held.{filledView, onFilled, Stored, FillOpen, Fills, After}
-use Rattle.fill_all.specs.Asked.{FoundFits}
 use Rattle.fill_all.specs.declared.Filling.{Filling}
 use Rattle.fill_all.proofs.After.{fills-none, kept-fills, dropped-fills}
 
 -- ---- passed over
 
 module _ (b : Board) (gas : List Float) (q : Ask) (r : ℕ) where
-  abbrev rest : Bool
-  rest = eqb (length (linksOf b r)) 0 || (lt (total b gas r) 10f || every (near b gas q r) (linksOf b r))
-
-  pub is-found : (found : List ℕ) → (getD found r 0 ≡ 0 → ⊥) → passedOver b gas q r found ≡ true
-  unfolding passedOver
-  is-found found ne = rw (ne-eqb (getD found r 0) 0 ne)
-
-  pub is-off : (found : List ℕ) → getD found r 0 ≡ 0 → anyBit (getD (b .flags) r 0) ≡ false → passedOver b gas q r found ≡ true
-  unfolding passedOver enabled
-  is-off found e o = rw (eq-eqb (getD found r 0) 0 e, o)
-
-  pub is-rest : (found : List ℕ) → getD found r 0 ≡ 0 → anyBit (getD (b .flags) r 0) ≡ true → (t : Bool) → t ≡ rest → passedOver b gas q r found ≡ t
-  unfolding passedOver enabled
-  is-rest found e o t i = rw (eq-eqb (getD found r 0) 0 e, o) (sym i)
-
   pub row-passed : (s : Filled) → passedOver b gas q r (s .found) ≡ true → s ≡ hotRow b gas q (At r) s
   unfolding hotRow
   row-passed s t = rw t
@@ -68,23 +45,11 @@ module _ (b : Board) (gas : List Float) (q : Ask) (i : ℕ) where
 
 -- ---- the turf at `row`
 
-pub mark-is : {n e row : ℕ} {w : List ℕ} → FoundFits n e row w → (at : ℕ) → at ≡ foundAt n e → getD w (at + row) 0 ≡ getD (foundIn n e w) row 0
-mark-is {n} {e} {row} {w} h at ea = found-at n e w (h .words) row (at + row) (omega arith) (h .row)
-
 pub row-none : {b : Board} (q : Ask) {s : Filling} {w : List ℕ} {f : List Float} {area : List ℕ} → Stored (turfCount b) (linkCount b) s w f → FillOpen b (q .allowance) s w area → (row : ℕ) (gas : List Float)
     → {t : Bool} → passedOver b gas q row (foundIn (turfCount b) (linkCount b) w) ≡ t → t ≡ true → Fills (turfCount b) (linkCount b) (hotRow b gas q (At row)) s s w w f f area area
 unfolding filledView
 row-none {b} q {s} {w} {f} st op row gas p t =
     fills-none (hotRow b gas q (At row)) st (omega (arith, op .bytes)) (λ es. row-passed b gas q row (filledView (turfCount b) (linkCount b) s w f es .filled) (p ∙ t))
-
--- a turf that isn't passed over isn't found
-pub is-new : (b : Board) (gas : List Float) (q : Ask) (row : ℕ) (found : List ℕ) {t : Bool} → passedOver b gas q row found ≡ t → t ≡ false → getD found row 0 ≡ 0
-unfolding passedOver
-is-new b gas q row found p f = go (eqb (getD found row 0) 0) refl
-  where
-    go : (t : Bool) → eqb (getD found row 0) 0 ≡ t → getD found row 0 ≡ 0
-    go true e = eqb-true (getD found row 0) 0 e
-    go false e = absurd (differ (sym (ap (λ (x : Bool). not x || (not (enabled b row) || rest b gas q row)) e) ∙ p ∙ f))
 
 pub after-fills : {b : Board} {m : ℕ} (h : Accepted b m) (gas : List Float) (q : Ask) (row : ℕ) {s : Filling} {w : List ℕ} {f : List Float} {area : List ℕ} (st : Stored (turfCount b) (linkCount b) s w f)
     (op : FillOpen b (q .allowance) s w area) (hr : row < turfCount b) (new : getD (foundIn (turfCount b) (linkCount b) w) row 0 ≡ 0)

@@ -1,5 +1,3 @@
-pub mod Near
-pub mod Back
 pub mod Stores
 pub mod After
 pub mod Hot

@@ -3,32 +3,13 @@ use Prim.Native.Nat.{ℕ, _+_, _*_, _≤_, _<_}
 use mathlib.Core.Path.{_≡_}
 use mathlib.Core.List.{List}
 use mathlib.Core.Bool.{false}
-use lib.ListN.{length, getD}
+use lib.ListN.{length}
 use lib.Ieee.{Float}
 use Rattle.scratch.specs.Layout.{Sizes, floatsEnd, mostNodes, wordsEnd}
 use Rattle.rules_board.specs.Board.{Board, turfCount, linkCount}
 use Rattle.fill_zone.specs.declared.Flood.{Flood}
-use Rattle.fill_all.specs.Held.{pushed, Stored, FillOpen}
+use Rattle.fill_all.specs.Held.{Stored, FillOpen}
 use Rattle.fill_all.specs.declared.Filling.{Filling}
-
--- the words hold whether the turf at the row r is found
-pub record FoundFits (n e r : ℕ) (w : List ℕ) : Type 0 where
-  pub sizes : Sizes n e
-  pub words : wordsEnd n e ≤ length w
-  pub row : r < n
-
--- the starts of n turfs over e links
-pub record Spans (n e : ℕ) (starts : List ℕ) : Type 0 where
-  pub count : length starts ≡ n + 1
-  pub rise : (r : ℕ) → r < n → getD starts r 0 ≤ getD starts (r + 1) 0
-  pub end : (r : ℕ) → r < n → getD starts (r + 1) 0 ≤ e
-
--- the rows that a zone pushed are turfs
-pub record PushedFits (n e queued : ℕ) (w : List ℕ) : Type 0 where
-  pub sizes : Sizes n e
-  pub words : wordsEnd n e ≤ length w
-  pub few : queued ≤ n
-  pub rows : (i : ℕ) → i < queued → getD (pushed n e queued w) i 0 < n
 
 -- room for one more zone, which t has come to
 pub record KeepFits (n e : ℕ) (s : Filling) (t : Flood) (w : List ℕ) (f : List Float) : Type 0 where

@@ -4,12 +4,11 @@ use mathlib.Core.Path.{_≡_}
 use mathlib.Core.List.{List, [], map}
 use mathlib.Core.Bool.{true, false}
 use lib.ListN.{length, getD, set, take, drop, replicate}
-use lib.Seq.{sets}
 use lib.Ieee.{Float, nan}
-use Rattle.basics.specs.Loops.{run, upFrom}
+use Rattle.basics.specs.Loops.{upFrom}
 use Rattle.basics.specs.Regions.{cut}
 use Rattle.scratch.specs.Layout.{wordSizes, floatSizes, startsAt, molesAt, Sizes, floatsEnd, wordsEnd}
-use Rattle.scratch.specs.View.{ownerIn, queueIn, foundIn, startsIn}
+use Rattle.scratch.specs.View.{ownerIn, foundIn, startsIn}
 use Rattle.rules_board.specs.Board.{Board, turfCount, linkCount}
 use Rattle.turfs.specs.Tables.{source}
 use Rattle.events.specs.Area.{HoldsEvents}
@@ -18,6 +17,7 @@ use Rattle.rules_fill.specs.Fill.{isOver}
 use Rattle.rules_fill.specs.declared.Settings.{Settings}
 use Rattle.fill_links.specs.Held.{zeros, FillDoes}
 use Rattle.fill_zone.specs.declared.Flood.{Flood}
+use Rattle.fill_ignored.specs.Held.{GaveBack}
 use Rattle.rules_finish.specs.Turns.{Zone}
 use Rattle.rules_equalize.specs.Equalize.{Ask, Filled, askOf}
 use Rattle.fill_all.specs.declared.Filling.{Filling}
@@ -114,20 +114,6 @@ pub record FillOpen (b : Board) (allowance : ℕ) (s : Filling) (w area : List �
 pub record Fills (n e : ℕ) (g : Filled → Filled) (s s′ : Filling) (w w′ : List ℕ) (f f′ : List Float) (area area′ : List ℕ) : Type 0 where
   pub stored : Stored n e s′ w′ f′
   pub does : FillDoes (onFilled g) (filledView n e s w f) (filledView n e s′ w′ f′) (s .used) (s′ .used) area area′
-
--- ---- an ignored zone
-
--- the links of the row r lose their owners
-abbrev pub giveBack : List ℕ → ℕ → List ℕ → List ℕ
-giveBack starts r o = sets o (getD starts r 0) (replicate (getD starts (r + 1) 0 - getD starts r 0) 0)
-
--- the rows that were pushed
-abbrev pub pushed : ℕ → ℕ → ℕ → List ℕ → List ℕ
-pushed n e queued w = take queued (queueIn n e w)
-
--- every row that was pushed gave its links back, and all else is as it was
-abbrev pub GaveBack : ℕ → ℕ → List ℕ → ℕ → List ℕ → List ℕ → Type 0
-GaveBack n e starts queued w w′ = cut (wordSizes n e) w′ ≡ set (cut (wordSizes n e) w) 0 (run (giveBack starts) (pushed n e queued w) (ownerIn e w))
 
 -- ---- what a fill leaves
 

@@ -20,7 +20,7 @@ use Rattle.rules_fill.specs.Fill.{Fill, fill}
 use Rattle.laws_fill.proofs.Rest.{fill-tests}
 use Rattle.rules_finish.specs.Turns.{nodeCount}
 use Rattle.rules_equalize.specs.Equalize.{Ask, Filled, startFilled, afterFill, passedOver, fillFrom, hotRow, hotId, fillAll, cancel, played, equalize}
-use Rattle.rules_equalize.specs.Clock.{popsOf, fillOf, fillAt, fills, pops, Timed}
+use Rattle.rules_equalize.specs.Clock.{popsOf, fillOf, fillAt, allFills, pops, Timed}
 use Rattle.laws_equalize.proofs.Zones.{Zoned, zoned}
 
 module _ (b : Board) (gas : List Float) (q : Ask) where
@@ -46,11 +46,11 @@ module _ (b : Board) (gas : List Float) (q : Ask) where
       go true = omega arith
       go false = row-tests (rowOf b i) s
 
-  all-tests : (is : List ℕ) (s : Filled) → run (hotId b gas q) is s .tests ≡ s .tests + popsOf (fills b gas q is s)
-  unfolding run fills popsOf
+  all-tests : (is : List ℕ) (s : Filled) → run (hotId b gas q) is s .tests ≡ s .tests + popsOf (allFills b gas q is s)
+  unfolding run allFills popsOf
   all-tests [] s = omega arith
   all-tests (i ∷ is) s =
-      omega (arith, all-tests is (hotId b gas q i s), id-tests i s, pops-append (cond (s .cancelled) [] (fillAt b gas q (rowOf b i) s)) (fills b gas q is (hotId b gas q i s)))
+      omega (arith, all-tests is (hotId b gas q i s), id-tests i s, pops-append (cond (s .cancelled) [] (fillAt b gas q (rowOf b i) s)) (allFills b gas q is (hotId b gas q i s)))
 
   -- filling makes a test a pop
   pub filling-tests : fillAll b gas q .tests ≡ pops b gas q

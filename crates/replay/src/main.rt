@@ -6,11 +6,11 @@ ghost use Prim.Native.Nat.{_<_};
 ghost use lib.ListN.{length};
 use libc::STDOUT_FILENO;
 use replay_one::replay;
-use vectors::Vector;
 use vectors::count;
 use vectors::count::Total;
 use vectors::count::Tried;
 use vectors::text;
+use vectors_same::Vector;
 
 // Prints a text.
 fn show(text: &[u8]) {

@@ -4,9 +4,9 @@ use mathlib.Core.Logic.{_⊎_}
 use mathlib.Core.List.{List}
 use Prim.Native.Nat.{ℕ}
 use lib.Ieee.{Float}
-use Rattle.vectors.specs.Cells.{tornVector, CellsHeld}
-use Rattle.vectors.specs.declared.Answer.{Answer}
-use Rattle.vectors.specs.declared.Vector.{Vector}
+use Rattle.vectors_same.specs.Same.{tornVector, CellsHeld}
+use Rattle.vectors_same.specs.declared.Answer.{Answer}
+use Rattle.vectors_same.specs.declared.Vector.{Vector}
 
 -- what a call answered and left was looked at
 pub record Looked (numbers : List ℕ) (r : Vector) : Type 0 where

@@ -1,8 +1,8 @@
 // Replays one stored vector of the public calls: lends what its case says, makes its call, and looks at every cell. The program `replay` runs it.
 ghost use Rattle.replay_one.specs.Replayed.{Looked, Replayed};
 use rules_fill::Settings;
-use vectors::Answer;
-use vectors::Vector;
+use vectors_same::Answer;
+use vectors_same::Vector;
 
 // Equalizes as a vector asks, whose numbers are here as bytes too.
 fn equalize(
@@ -134,7 +134,7 @@ fn make(
         1 => equalize(numbers, bytes, gas, words, floats, events),
         2 => depressurize(numbers, bytes, gas, words, floats, events),
         3 => planet_walk(numbers, bytes, gas, words, floats, events),
-        _ => vectors::no_answer(),
+        _ => vectors_same::no_answer(),
     }
 }
 
@@ -151,7 +151,7 @@ fn play(
 {
     vectors::fill(numbers, bytes, gas, words, floats, events);
     let a = make(numbers, bytes, gas, words, floats, events);
-    vectors::held(a, numbers, gas, words, floats, events)
+    vectors_same::held(a, numbers, gas, words, floats, events)
 }
 
 // Replays the vector that the numbers begin with.
@@ -165,7 +165,7 @@ pub fn replay(numbers: &[u32]) -> Vector
     let mut events = [0u8; 12_000];
     let room = vectors::room_of(numbers);
     if !room.fits {
-        return vectors::torn();
+        return vectors_same::torn();
     }
     let gas_count = room.gas;
     let word_count = room.words;

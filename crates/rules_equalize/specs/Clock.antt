@@ -12,7 +12,7 @@ use Rattle.rules_board.specs.Board.{Board, rowOf}
 use Rattle.rules_fill.specs.Fill.{Fill, fill}
 use Rattle.rules_equalize.specs.Equalize.{Ask, Filled, Equalized, startFilled, passedOver, hotId}
 
--- the turfs that fills popped
+-- the turfs that allFills popped
 unfoldable pub popsOf : List Fill → ℕ
 popsOf [] = 0
 popsOf (t ∷ ts) = t .popped + popsOf ts
@@ -28,13 +28,13 @@ module _ (b : Board) (gas : List Float) (q : Ask) where
   fillAt (At r) s = if passedOver b gas q r (s .found) then [] else fillOf r s ∷ []
 
   -- every fill of the call, in order, those of ignored zones too
-  unfoldable pub fills : List ℕ → Filled → List Fill
-  fills [] s = []
-  fills (i ∷ is) s = (if s .cancelled then [] else fillAt (rowOf b i) s) ++ fills is (hotId b gas q i s)
+  unfoldable pub allFills : List ℕ → Filled → List Fill
+  allFills [] s = []
+  allFills (i ∷ is) s = (if s .cancelled then [] else fillAt (rowOf b i) s) ++ allFills is (hotId b gas q i s)
 
   -- the turfs popped by the call
   abbrev pub pops : ℕ
-  pops = popsOf (fills (q .hot) (startFilled b))
+  pops = popsOf (allFills (q .hot) (startFilled b))
 
   -- how many tests a run makes: all within the allowance, or the last of them the first that exceeds it
   pub record Timed (e : Equalized) : Type 0 where

@@ -12,7 +12,6 @@ use Rattle.vectors.specs.declared.Case.{Case}
 use Rattle.vectors.specs.declared.Room.{Room}
 use Rattle.vectors.specs.declared.Asked.{Asked}
 use Rattle.vectors.specs.declared.Walk.{Walk}
-use Rattle.vectors.specs.declared.Due.{Due}
 use Rattle.vectors.specs.Amounts.{amount}
 
 -- a place so much further on; there is a last one
@@ -97,13 +96,3 @@ pub record Walks (ns : List ℕ) (w : Walk) : Type 0 where
   pub id : w .id ≡ number ns (case .asked)
   pub limit : w .limit ≡ number ns (onward (case .asked) 1)
   pub due : w .due ≡ onward (case .asked) 2
-
--- what it expects from a place on: the answer, gas and event bytes, and how many words and floats are 0
-pub record Expects (ns : List ℕ) (at : ℕ) (d : Due) : Type 0 where
-  pub answer : VectorStands ns at (d .answer)
-  pub gas : VectorStands ns (d .answer .to) (d .gas)
-  pub events : VectorStands ns (d .gas .to) (d .events)
-  pub words : d .words ≡ number ns (d .events .to)
-  pub floats : d .floats ≡ number ns (onward (d .events .to) 1)
-  pub next : d .next ≡ onward (d .events .to) 2
-  pub whole : d .events .to ≤ d .next

@@ -22,7 +22,7 @@ use Rattle.events.proofs.Areas.{wrote-length}
 use Rattle.index_set.specs.Line.{Below}
 use Rattle.index_set.proofs.Queue.{Below-snoc}
 use Rattle.scratch.specs.Layout.{outSizes, backSizes, waysAt, sumsAt}
-use Rattle.walk_first.specs.Does.{WalkDoes}
+use Rattle.walk_links.specs.Does.{WalkDoes}
 use Rattle.rules_back.specs.Back.{backTo}
 use Rattle.walk_steps.specs.Steps.{told}
 use Rattle.walk_steps.proofs.Steps.{told-size}

@@ -25,9 +25,9 @@ use Rattle.events.proofs.Sizes.{encode-size, size, size-cons}
 use Rattle.index_set.specs.Line.{Below}
 use Rattle.index_set.proofs.Queue.{Below-at}
 use Rattle.scratch.specs.Layout.{outSizes, backSizes, orderAt, waysAt, sumsAt, outRoom}
-use Rattle.walk_first.specs.Does.{WalkDoes}
-use Rattle.walk_first.proofs.Does.{does-as, none-wrote, both-wrote, Going}
-use Rattle.walk_first.specs.Reached.{Ground}
+use Rattle.walk_links.specs.Does.{WalkDoes}
+use Rattle.walk_links.proofs.Does.{does-as, none-wrote, both-wrote, Going}
+use Rattle.walk_links.specs.Reached.{Ground}
 use Rattle.rules_back.specs.Back.{Back, backTo, back}
 use Rattle.walk_back.specs.Backed.{BackState, backAt, ripsOf, backOf, BackRest, BackFits, backing, BackGoes, Points, directions, backNext, Rips, ripAt, Ripping, backAreas, BackStarts, Backed}
 use Rattle.walk_back.specs.declared.Way.{Way}

@@ -17,8 +17,8 @@ use Rattle.rules_events.specs.declared.Event.{Event}
 use Rattle.rules_events.specs.declared.Event.the-variants.{FloorRip}
 use Rattle.index_set.specs.Line.{Below}
 use Rattle.scratch.specs.Layout.{outSizes, backSizes, sumsAt, outRoom, backRoom}
-use Rattle.walk_first.specs.Does.{Walker}
-use Rattle.walk_first.specs.Reached.{Ground}
+use Rattle.walk_links.specs.Does.{Walker}
+use Rattle.walk_links.specs.Reached.{Ground}
 use Rattle.rules_back.specs.Back.{Back, back}
 use Rattle.walk_back.specs.declared.Way.{Way}
 use Rattle.walk_back.specs.declared.Sums.{Sums}

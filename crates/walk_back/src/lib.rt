@@ -16,7 +16,7 @@ ghost use Rattle.turfs.specs.Tables.{boardAt};
 ghost use Rattle.rules_events.specs.Events.{encodeAll};
 ghost use Rattle.events.specs.Area.{Wrote};
 ghost use Rattle.scratch.specs.Layout.{outSizes, sumsAt};
-ghost use Rattle.walk_first.specs.Does.{WalkDoes};
+ghost use Rattle.walk_links.specs.Does.{WalkDoes};
 ghost use Rattle.rules_back.specs.Back.{backTo, back};
 ghost use Rattle.walk_back.specs.Backed.{backAt, backAreas, backing, BackGoes, Points, directions, Settles, Settled, backNext, ripsOf, Rips, ripAt, Ripping, BackStarts, Backed};
 

@@ -22,12 +22,12 @@ use Rattle.index_set.specs.Line.{Line}
 use Rattle.scratch.specs.Layout.{walkSizes, orderAt}
 use Rattle.rules_walk.specs.Walk.{mark, spread}
 use Rattle.rules_walk.specs.Visit.{visitPlanet, atSpace, visitSpace}
-use Rattle.walk_first.specs.Does.{WalkDoes}
-use Rattle.walk_first.specs.Reached.{WalkState, walkAt, walkIn, walkOf, WalkFits, walking, Visits}
+use Rattle.walk_links.specs.Does.{WalkDoes}
+use Rattle.walk_links.specs.Reached.{WalkState, walkAt, walkIn, walkOf, WalkFits, walking, Visits}
 use Rattle.rules_walk.specs.declared.Kind.the-variants.{Space}
-use Rattle.walk_first.specs.declared.Reach.{Reach}
-use Rattle.walk_first.proofs.Does.{does-as, does-then, none-wrote, one-wrote}
-use Rattle.walk_first.proofs.Links.{written-room}
+use Rattle.walk_links.specs.declared.Reach.{Reach}
+use Rattle.walk_links.proofs.Does.{does-as, does-then, none-wrote, one-wrote}
+use Rattle.walk_links.proofs.Links.{written-room}
 
 -- a target's record
 pub target-size : (i j : ℕ) → length (encode (Target i j)) ≡ 12

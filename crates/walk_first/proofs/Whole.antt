@@ -23,13 +23,13 @@ use Rattle.index_set.proofs.Queue.{Below-at}
 use Rattle.scratch.specs.Layout.{walkSizes}
 use Rattle.rules_walk.specs.Walk.{Walk, advance, walkLink, spread, walkNext, walk}
 use Rattle.rules_walk.specs.Visit.{visitPlanet, atSpace, visitSpace, visit}
-use Rattle.walk_first.specs.Does.{WalkDoes}
-use Rattle.walk_first.specs.Reached.{WalkState, walkAt, walkOf, WalkRest, WalkFits, walking, Ground, WalkStands, perTurf, Visits, Queued, visitNext, WalkStarts, Walked}
+use Rattle.walk_links.specs.Does.{WalkDoes}
+use Rattle.walk_links.specs.Reached.{WalkState, walkAt, walkOf, WalkRest, WalkFits, walking, Ground, WalkStands, perTurf, Visits, Queued, visitNext, WalkStarts, Walked}
 use Rattle.rules_walk.specs.declared.Kind.{Kind}
 use Rattle.rules_walk.specs.declared.Kind.the-variants.{Planet, Space}
-use Rattle.walk_first.specs.declared.Reach.{Reach}
-use Rattle.walk_first.proofs.Does.{does-then}
-use Rattle.walk_first.proofs.Links.{joins, stored, join-open}
+use Rattle.walk_links.specs.declared.Reach.{Reach}
+use Rattle.walk_links.proofs.Does.{does-then}
+use Rattle.walk_links.proofs.Links.{joins, stored, join-open}
 use Rattle.laws_walk.proofs.Walks.{startWalk, going, still, visited}
 use Rattle.laws_walk.proofs.Places.{visit-walked}
 

@@ -19,9 +19,9 @@ use Rattle.events.proofs.Areas.{wrote-length}
 use Rattle.index_set.specs.Line.{Line, array, HoldsSet}
 use Rattle.index_set.proofs.Queue.{count-below, take-more, line-more}
 use Rattle.scratch.specs.Layout.{outSizes, spotsAt, orderAt, waysAt, targetsAt}
-use Rattle.walk_first.specs.Does.{WalkDoes}
+use Rattle.walk_links.specs.Does.{WalkDoes}
 use Rattle.turfs.specs.Tables.{Near}
-use Rattle.walk_first.proofs.Does.{does-none, does-as, one-wrote, Going}
+use Rattle.walk_links.proofs.Does.{does-none, does-as, one-wrote, Going}
 use Rattle.walk_first.proofs.Visits.{target-size}
 use Rattle.rules_out.specs.Out.{Out, outTo, outLink}
 use Rattle.walk_out.specs.Outed.{OutState, outAt, outIn, outOf, OutRest, OutFits, outing, Joins}

@@ -18,7 +18,7 @@ use Rattle.rules_events.specs.declared.Event.{Event}
 use Rattle.index_set.specs.Line.{Line}
 use Rattle.index_set.proofs.Queue.{Below-at, apart-all}
 use Rattle.scratch.specs.Layout.{outSizes, spotsAt, orderAt, waysAt, targetsAt, outRoom}
-use Rattle.walk_first.specs.Does.{WalkDoes}
+use Rattle.walk_links.specs.Does.{WalkDoes}
 use Rattle.rules_out.specs.Out.{outNext, outward}
 use Rattle.walk_steps.specs.Steps.{Owns, ownAt}
 use Rattle.walk_out.specs.Outed.{outAt, outIn, outOf, OutRest, outing, Passing, Spaces, Owned, Opens, Outed}

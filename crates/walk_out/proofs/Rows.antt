@@ -15,8 +15,8 @@ use Rattle.rules_board.specs.Board.{Board, linksOf}
 use Rattle.rules_events.specs.declared.Event.{Event}
 use Rattle.index_set.proofs.Queue.{Below-at}
 use Rattle.scratch.specs.Layout.{outSizes, orderAt}
-use Rattle.walk_first.specs.Does.{WalkDoes}
-use Rattle.walk_first.proofs.Does.{none-wrote}
+use Rattle.walk_links.specs.Does.{WalkDoes}
+use Rattle.walk_links.proofs.Does.{none-wrote}
 use Rattle.laws_walk.proofs.Places.{row-place}
 use Rattle.rules_out.specs.Out.{Out, outLink, outRow, outNext}
 use Rattle.walk_out.specs.Outed.{OutState, outAt, outOf, OutFits, outing, passNext}

@@ -12,8 +12,8 @@ use Rattle.events.specs.Area.{Wrote}
 use Rattle.rules_events.specs.declared.Event.{Event}
 use Rattle.index_set.specs.Line.{Below, Apart, Line}
 use Rattle.scratch.specs.Layout.{outSizes, outRoom}
-use Rattle.walk_first.specs.Does.{Walker}
-use Rattle.walk_first.specs.Reached.{Ground}
+use Rattle.walk_links.specs.Does.{Walker}
+use Rattle.walk_links.specs.Reached.{Ground}
 use Rattle.rules_out.specs.Out.{Out, outRow, outward}
 use Rattle.walk_out.specs.declared.Front.{Front}
 

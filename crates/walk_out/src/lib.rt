@@ -12,7 +12,7 @@ ghost use Prim.Native.Nat.{ℕ, _<_};
 ghost use Rattle.basics.specs.Loops.{run, times};
 ghost use Rattle.rules_board.specs.Board.{turfCount, end, linksOf, neighboursOf};
 ghost use Rattle.turfs.specs.Tables.{boardAt};
-ghost use Rattle.walk_first.specs.Does.{WalkDoes};
+ghost use Rattle.walk_links.specs.Does.{WalkDoes};
 ghost use Rattle.rules_out.specs.Out.{outTo, outLink, outNext};
 ghost use Rattle.walk_out.specs.Outed.{outAt, outing, Passing, OutStands, Joins, passNext, Spaces, Owned, Opens, Outed};
 

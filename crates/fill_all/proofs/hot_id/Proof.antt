@@ -6,9 +6,10 @@ use lib.Ieee.Bits.{is-true}
 use Rattle.scratch.specs.View.{foundIn}
 use Rattle.rules_board.specs.Board.{turfCount, linkCount}
 use Rattle.turfs.specs.Tables.{boardAt}
+use Rattle.fill_tests.proofs.Passed.{is-new}
 use Rattle.fill_all.specs.Held.{asked}
 use Rattle.fill_all.proofs.After.{fill-ready, after-asks}
-use Rattle.fill_all.proofs.Hot.{row-none, is-new, after-fills, fills-id, fills-unknown, row-in}
+use Rattle.fill_all.proofs.Hot.{row-none, after-fills, fills-id, fills-unknown, row-in}
 use borrow.Author.Needs.{needs}
 use Rattle.fill_all.proofs.hot_id.Statement.{statement}
 use Rattle.fill_all.proofs.hot_id.Tie as tie

@@ -4,7 +4,6 @@ use Prim.Native.Nat.{_-_}
 use lib.ListN.{length}
 use lib.ListN.{length-set}
 use Rattle.vectors.proofs.Cells.{Begun, one-more}
-use Rattle.vectors.specs.Cells.{below}
 use native.Mathlib.Nat.{not-suc-le-zero}
 use mathlib.Core.Path.{ap}
 use Prim.Native.Nat.{ℕ, _%_}

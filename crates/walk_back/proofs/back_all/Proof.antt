@@ -10,7 +10,7 @@ use Rattle.basics.specs.Regions.{region}
 use Rattle.rules_board.specs.Board.{turfCount}
 use Rattle.turfs.specs.Tables.{boardOf, boardAt}
 use Rattle.scratch.specs.Layout.{outSizes}
-use Rattle.walk_first.proofs.Does.{Going, going-start, going-next, going-end}
+use Rattle.walk_links.proofs.Does.{Going, going-start, going-next, going-end}
 use Rattle.rules_back.specs.Back.{back}
 use Rattle.walk_back.specs.Backed.{backAt, backing, directions}
 use Rattle.walk_back.proofs.Backs.{written-room}

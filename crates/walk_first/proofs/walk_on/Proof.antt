@@ -7,9 +7,9 @@ use Rattle.rules_board.specs.Board.{turfCount}
 use Rattle.turfs.specs.Tables.{boardOf, boardAt}
 use Rattle.rules_walk.specs.Walk.{walkNext}
 use Rattle.rules_walk.specs.Visit.{visit}
-use Rattle.walk_first.specs.Reached.{walkAt, walking}
-use Rattle.walk_first.proofs.Does.{Going, going-start, going-next, going-end}
-use Rattle.walk_first.proofs.Links.{written-room, kept-words, kept-area}
+use Rattle.walk_links.specs.Reached.{walkAt, walking}
+use Rattle.walk_links.proofs.Does.{Going, going-start, going-next, going-end}
+use Rattle.walk_links.proofs.Links.{written-room, kept-words, kept-area}
 use Rattle.walk_first.proofs.Whole.{on-less, steps-start, steps-next, steps-end, turn-counts}
 use Rattle.walk_first.proofs.walk_on.Statement.{statement}
 use Rattle.walk_first.proofs.walk_on.Tie as tie

@@ -5,8 +5,8 @@ use lib.ListN.{length, getD}
 use Rattle.basics.specs.Loops.{run, upFrom}
 use Rattle.rules_board.specs.Board.{turfCount, linksOf}
 use Rattle.turfs.specs.Tables.{boardOf}
-use Rattle.walk_first.proofs.Does.{Going, going-start, going-next, going-end}
-use Rattle.walk_first.proofs.LinksOf.{leads-below, near-run, near-leads, near-next, near-none}
+use Rattle.walk_links.proofs.Does.{Going, going-start, going-next, going-end}
+use Rattle.walk_links.proofs.LinksOf.{leads-below, near-run, near-leads, near-next, near-none}
 use Rattle.rules_out.specs.Out.{outLink}
 use Rattle.walk_out.specs.Outed.{outAt, outing}
 use Rattle.walk_out.proofs.Joins.{written-room, kept-words, kept-area, near-here}

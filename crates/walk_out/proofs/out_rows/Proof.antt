@@ -4,7 +4,7 @@ use native.Mathlib.Omega.{arith}
 use Rattle.basics.specs.Loops.{times}
 use Rattle.rules_board.specs.Board.{turfCount}
 use Rattle.turfs.specs.Tables.{boardOf, boardAt}
-use Rattle.walk_first.proofs.Does.{Going, going-start, going-next, going-end}
+use Rattle.walk_links.proofs.Does.{Going, going-start, going-next, going-end}
 use Rattle.rules_out.specs.Out.{outNext}
 use Rattle.walk_out.specs.Outed.{outAt, outing}
 use Rattle.walk_out.proofs.Joins.{written-room, kept-words, kept-area}
