@@ -32,7 +32,8 @@ pub extern "C" fn katmos_equalize<'a>(
     answer: &mut [u32; 7],
 ) -> u32
     ensures { λ r. let b = board (now (ids .entry)) (now (flags .entry)) (now (planetary .entry)) (now (mixtures .entry)) (now (starts .entry)) (now (neighbours .entry)) (now («link_flags» .entry)) (now (immutable .entry)) gases in
-        ⌜ Answers equalizeNumbers b (equalizeResult b (askOf (now (hot .entry)) threshold limit allowance) (now (turns .entry)) (lentAt (amounts .entry) (events .entry) (words .entry) (floats .entry))) r (now (answer .exit)) (lentAt (amounts .exit) (events .exit) (words .exit) (floats .exit)) ⌝ }
+        ⌜ Answers equalizeNumbers b (equalizeResult b (askOf (now (hot .entry)) threshold limit allowance) (now (turns .entry))
+        (lentAt (amounts .entry) (events .entry) (words .entry) (floats .entry))) r (now (answer .exit)) (lentAt (amounts .exit) (events .exit) (words .exit) (floats .exit)) ⌝ }
 {
     let rows = [ids, mixtures, starts, neighbours];
     let marks = [flags, planetary, link_flags, immutable];
