@@ -13,7 +13,7 @@ use Rattle.rules_board.specs.Board.{Board, turfCount, linkCount, mixOf, linksOf
 use Rattle.turfs.specs.Tables.{Slices, boardOf, Parts, Accepted, source}
 use Rattle.turfs.proofs.Accepted.{sources}
 use Rattle.turfs.proofs.Tables.{accepted-parts}
-use Rattle.mixture.specs.Moves.{HoldsGas}
+use Rattle.mixture.specs.Held.{HoldsGas}
 use Rattle.mixture.proofs.Parts.{holds-of}
 use Rattle.fill_links.specs.Asked.{TablesFit}
 

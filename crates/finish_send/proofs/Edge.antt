@@ -19,8 +19,8 @@ use Rattle.rules_mixture.specs.Mixture.{moveAir, total, totalMix, amounts, sum}
 use Rattle.rules_events.specs.Events.{kindOf, encode, sizeOf}
 use Rattle.rules_events.specs.declared.Event.the-variants.{Pressure}
 use Rattle.events.proofs.Sizes.{encode-size}
-use Rattle.plan_state.specs.Steps.{ownedBy, backLink}
-use Rattle.plan_state.proofs.Weights.{found-more}
+use Rattle.plan_edges.specs.Steps.{ownedBy, backLink}
+use Rattle.plan_edges.proofs.Weights.{found-more}
 use Rattle.rules_finish.specs.Lifted.{above}
 use Rattle.finish_send.specs.Sending.{Next, liftAt, zeroAt, shared}
 

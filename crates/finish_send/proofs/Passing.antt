@@ -16,12 +16,12 @@ use Rattle.basics.proofs.Loops.{up-cons}
 use Rattle.rules_board.specs.Board.{Board, turfCount, linkCount, mixtureCount, mixOf, end}
 use Rattle.turfs.specs.Tables.{Accepted}
 use Rattle.rules_mixture.specs.Mixture.{total}
-use Rattle.mixture.specs.Moves.{HoldsGas}
+use Rattle.mixture.specs.Held.{HoldsGas}
 use Rattle.mixture.proofs.Parts.{holds-of}
 use Rattle.reverse_links.specs.Reverse.{InRow}
 use Rattle.rules_plan.specs.Edges.{owned}
 use Rattle.laws_plan.proofs.Sizes.{alter-size}
-use Rattle.plan_state.specs.Steps.{backLink}
+use Rattle.plan_edges.specs.Steps.{backLink}
 use Rattle.plan_state.proofs.Links.{reverse-within}
 use Rattle.rules_finish.specs.Lifted.{above, pending, Held, sendHeld, giversHeld}
 use Rattle.laws_finish.proofs.Weights.{Below, alter-below, alter-less}

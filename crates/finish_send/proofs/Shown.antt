@@ -26,7 +26,7 @@ use Rattle.events.proofs.Areas.{wrote-length, wrote-rest, adds-one, adds-adds}
 use Rattle.rules_plan.specs.Edges.{alter}
 use Rattle.laws_plan.proofs.Sizes.{alter-size}
 use Rattle.reverse_links.specs.Reverse.{InRow}
-use Rattle.plan_state.specs.Steps.{backLink}
+use Rattle.plan_edges.specs.Steps.{backLink}
 use Rattle.plan_state.proofs.Links.{edge-back, reverse-within}
 use Rattle.rules_finish.specs.Finish.{send}
 use Rattle.rules_finish.specs.Lifted.{Held, sendHeld}

@@ -11,12 +11,12 @@ use Rattle.basics.specs.Floats.{0f}
 use Rattle.basics.specs.Lists.{count}
 use Rattle.rules_board.specs.Board.{Board, turfCount, linkCount, mixtureCount, mixOf, end}
 use Rattle.rules_mixture.specs.Mixture.{total, moveAir}
-use Rattle.mixture.specs.Moves.{HoldsGas}
+use Rattle.mixture.specs.Held.{HoldsGas}
 use Rattle.rules_events.specs.Events.{encode}
 use Rattle.events.specs.Area.{Wrote}
 use Rattle.rules_events.specs.declared.Event.the-variants.{Pressure}
 use Rattle.rules_plan.specs.Edges.{alter, owned}
-use Rattle.plan_state.specs.Steps.{backLink}
+use Rattle.plan_edges.specs.Steps.{backLink}
 use Rattle.rules_finish.specs.Lifted.{Held, sendHeld, giversHeld, above}
 use Rattle.finish_send.specs.declared.Turf.{Turf}
 use Rattle.finish_send.specs.declared.Span.{Span}

@@ -175,7 +175,7 @@ fn move_between(turf: Turf, load: Load, to: usize, rows: &Rows, marks: &Marks, g
     if giver == taker {
         return;
     }
-    mixture::move_air(
+    mixture_moves::move_air(
         marks[IMMUTABLE],
         turf.gases,
         gas,
@@ -207,7 +207,7 @@ fn send(
     let row = turf.row;
     let k = load.link;
     let to = neighbours[k] as usize;
-    let back = plan_state::back_link(k, turf.zone, neighbours.len(), words);
+    let back = plan_edges::back_link(k, turf.zone, neighbours.len(), words);
     clear_at(back, floats);
     move_between(turf, load, to, rows, marks, gas);
     let record = Event::Pressure {

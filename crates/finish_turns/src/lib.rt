@@ -20,10 +20,10 @@ pub struct Left {
 // Finishes the zone's next node.
 fn finish_next(
     zone: usize,
-    gases: usize,
     used: usize,
     rows: &Rows,
     marks: &Marks,
+    gases: usize,
     gas: &mut [f32],
     words: &mut [u32],
     floats: &mut [f32],
@@ -49,9 +49,9 @@ fn finish_next(
 fn turn(
     c: u32,
     left: Left,
-    gases: usize,
     rows: &Rows,
     marks: &Marks,
+    gases: usize,
     gas: &mut [f32],
     words: &mut [u32],
     floats: &mut [f32],
@@ -69,16 +69,16 @@ fn turn(
     let zone = finish_zones::zone_at(p, count, n, e, words);
     let used = finish_next(
         zone,
-        gases,
         left.used,
         rows,
         marks,
+        gases,
         gas,
         words,
         floats,
         events,
     );
-    let live = finish_zones::settle(zone, p, count, n, e, words);
+    let live = finish_live::settle(zone, p, count, n, e, words);
     Left { live, used }
 }
 
@@ -99,7 +99,7 @@ fn by_turns(
     requires { let b = boardAt rows marks gases in ⌜ AllLaid (turfCount b) (linkCount b) zones (now words) ⌝ }
     ensures { λ r. ⌜ ByTurns (boardAt (rows .entry) (marks .entry) gases) zones (now (turns .entry)) (now (words .entry)) (now (words .exit)) (finishAreasAt (gas .entry) (floats .entry) (events .entry) used) (finishAreasAt (gas .exit) (floats .exit) (events .exit) r) ⌝ }
 {
-    let mut live = finish_zones::start(zones, rows[IDS].len(), rows[NEIGHBOURS].len(), words);
+    let mut live = finish_live::start(zones, rows[IDS].len(), rows[NEIGHBOURS].len(), words);
     let mut now = used;
     let mut i = 0;
     while i < turns.len() {
@@ -110,9 +110,9 @@ fn by_turns(
         let t = turn(
             turns[i],
             left,
-            gases,
             rows,
             marks,
+            gases,
             gas,
             words,
             floats,
@@ -128,10 +128,10 @@ fn by_turns(
 // The nodes that a zone has left.
 fn finish_zone(
     zone: usize,
-    gases: usize,
     used: usize,
     rows: &Rows,
     marks: &Marks,
+    gases: usize,
     gas: &mut [f32],
     words: &mut [u32],
     floats: &mut [f32],
@@ -147,7 +147,7 @@ fn finish_zone(
     let mut i = finish_zones::turns_of(zone, n, e, words);
     let mut now = used;
     while i < size {
-        now = finish_next(zone, gases, now, rows, marks, gas, words, floats, events);
+        now = finish_next(zone, now, rows, marks, gases, gas, words, floats, events);
         i += 1;
     }
     now
@@ -183,7 +183,7 @@ pub fn finish_all(
     );
     let mut z = 0;
     while z < zones {
-        now = finish_zone(z, gases, now, rows, marks, gas, words, floats, events);
+        now = finish_zone(z, now, rows, marks, gases, gas, words, floats, events);
         z += 1;
     }
     now

@@ -1,3 +1,1 @@
-pub mod Alike
 pub mod Words
-pub mod Starts

@@ -12,7 +12,7 @@ use Rattle.basics.proofs.Loops.{All-getD}
 use Rattle.basics.proofs.Parts.{part-front, drop-later}
 use Rattle.scratch.specs.Layout.{reverseAt, turnsAt, liveAt, startsAt, zoneNodesAt}
 use Rattle.scratch.specs.View.{ownerIn, reverseIn}
-use Rattle.finish_zones.specs.Zones.{startOf, nodeCountOf, zoneNodes, zonesIn, turnsOf, nextIn, liveIn, Laid, ZoneOpen, Beside, TakenOut}
+use Rattle.finish_zones.specs.Zones.{startOf, nodeCountOf, zoneNodes, zonesIn, turnsOf, nextIn, liveIn, Laid, ZoneOpen, Beside}
 
 module _ (n e : ℕ) where
   pub beside-none : (ws : List ℕ) → Beside n e ws ws
@@ -34,13 +34,6 @@ module _ (n e : ℕ) where
     size = length-set ws (liveAt n e + i) v;
     front = take-set-le (turnsAt n e) ws (liveAt n e + i) v (omega arith);
     rest = drop-set-lt (startsAt n e) ws (liveAt n e + i) v (omega arith);
-  }
-
-  pub beside-out : (p count : ℕ) (ws ws′ : List ℕ) → count ≤ n → TakenOut p count (liveAt n e) ws ws′ → Beside n e ws ws′
-  beside-out p count ws ws′ h t = record {
-    size = t .size;
-    front = sym (take-take (turnsAt n e) (liveAt n e) ws′ (omega arith)) ∙ ap (take (turnsAt n e)) (t .front) ∙ take-take (turnsAt n e) (liveAt n e) ws (omega arith);
-    rest = drop-later (liveAt n e + count) (startsAt n e) ws′ ws (omega arith) (t .rest);
   }
 
   module _ {ws ws′ : List ℕ} (q : Beside n e ws ws′) where
@@ -83,9 +76,6 @@ module _ (n e : ℕ) where
 
   pub live-next : (k : ℕ) (ws : List ℕ) (z v : ℕ) → z < n → liveIn (liveAt n e) k (set ws (turnsAt n e + z) v) ≡ liveIn (liveAt n e) k ws
   live-next k ws z v h = ap (take k) (drop-set-lt (liveAt n e) ws (turnsAt n e + z) v (omega arith))
-
-  pub next-out : (p count : ℕ) (ws ws′ : List ℕ) → startsAt n e ≤ length ws → TakenOut p count (liveAt n e) ws ws′ → nextIn n e n ws′ ≡ nextIn n e n ws
-  next-out p count ws ws′ l t = part-front (turnsAt n e) n ws′ (omega (arith, t .size)) ∙ ap (drop (turnsAt n e)) (t .front) ∙ sym (part-front (turnsAt n e) n ws (omega arith))
 
   -- ---- a zone's nodes
 

@@ -8,7 +8,7 @@ use lib.Ieee.{Float, nan}
 use Rattle.basics.proofs.Tests.{every-at}
 use Rattle.rules_board.specs.Board.{Board, turfCount, mixtureCount, mixOf}
 use Rattle.rules_mixture.specs.Mixture.{amountFits}
-use Rattle.mixture.specs.Moves.{HoldsGas}
+use Rattle.mixture.specs.Held.{HoldsGas}
 use Rattle.mixture.specs.Accepted.{GasAccepted}
 use Rattle.mixture.proofs.Parts.{holds-of}
 

@@ -14,7 +14,7 @@ use lib.Ieee.{Float}
 use Rattle.rules_board.specs.Board.{Board, mixtureCount, immutableMix}
 use Rattle.rules_mixture.specs.Mixture.{part, putPart, scale, plus, remove, amounts, change, moveAir}
 use Rattle.rules_mixture.specs.Worked as worked  -- checked before the laws
-use Rattle.mixture.specs.Moves.{HoldsGas}
+use Rattle.mixture.specs.Held.{HoldsGas}
 
 -- the end of a mixture that comes before another
 pub before : (g : ℕ) {m n : ℕ} → m < n → m * g + g ≤ n * g

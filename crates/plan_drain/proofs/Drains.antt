@@ -20,9 +20,10 @@ use Rattle.basics.proofs.Regions.{cut-length}
 use Rattle.rules_plan.specs.Plan.{Plan, load}
 use Rattle.rules_plan.specs.declared.MonstermosInfo.{MonstermosInfo}
 use Rattle.plan_state.specs.Held.{Area, area, PlanView, planView, PlanFits, PlanDoes}
-use Rattle.plan_state.specs.Steps.{backLink, adjustAt}
+use Rattle.plan_edges.specs.Steps.{backLink, adjustAt}
 use Rattle.plan_state.proofs.Stores.{does-as, does-then, does-none, amount-at, amount-set, via-at, queue-at, reverse-at}
-use Rattle.plan_state.proofs.Weights.{adjusted, back-found}
+use Rattle.plan_edges.proofs.Weights.{back-found}
+use Rattle.plan_state.proofs.Adjusts.{adjusted}
 use Rattle.plan_trade.specs.Search.{Within}
 use Rattle.plan_trade.specs.Steps.{handOn, drainVia}
 

@@ -8,8 +8,8 @@ ghost use Rattle.plan_state.specs.Held.{areaAt, planView, PlanFits, PlanDoes};
 ghost use Rattle.plan_trade.specs.Search.{Within, AllWithin};
 ghost use Rattle.plan_trade.specs.Steps.{handOn, drainVia};
 use basics::Spot;
-use plan_state::adjust_eq_movement;
-use plan_state::back_link;
+use plan_edges::adjust_eq_movement;
+use plan_edges::back_link;
 use plan_state::load;
 
 // The turf r hands its amount on to the turf d, over the edges at hand.

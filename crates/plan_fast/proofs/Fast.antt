@@ -22,7 +22,7 @@ use Rattle.rules_plan.specs.Plan.{Plan, load, store, reweigh, withDelta, countO
 use Rattle.rules_plan.specs.declared.MonstermosInfo.{MonstermosInfo}
 use Rattle.reverse_links.specs.Reverse.{InRow, Linked, Reverses}
 use Rattle.plan_state.specs.Held.{Area, area, PlanView, planView, PlanDoes}
-use Rattle.plan_state.specs.Steps.{backLink, adjustAt}
+use Rattle.plan_edges.specs.Steps.{backLink, adjustAt}
 use Rattle.plan_state.proofs.Stores.{setDelta, does-as, does-then, does-frame, store-delta}
 use Rattle.plan_state.proofs.Links.{edge-there, edge-back, reverse-within}
 use Rattle.plan_tests.specs.Sides.{marked}

@@ -17,9 +17,10 @@ use Rattle.basics.proofs.Regions.{cut-get}
 use Rattle.scratch.specs.Layout.{planWords, reverseAt, fastAt, deltaAt}
 use Rattle.scratch.specs.View.{ownerIn, reverseIn, fastIn}
 use Rattle.plan_state.specs.Held.{Area, area, PlanView, planView, PlanFits, PlanDoes}
-use Rattle.plan_state.specs.Steps.{backLink, adjustAt}
+use Rattle.plan_edges.specs.Steps.{backLink, adjustAt}
 use Rattle.plan_state.proofs.Stores.{does-as, does-then, does-none, delta-at, delta-set, fast-at, owner-at, reverse-at}
-use Rattle.plan_state.proofs.Weights.{adjusted, back-found}
+use Rattle.plan_edges.proofs.Weights.{back-found}
+use Rattle.plan_state.proofs.Adjusts.{adjusted}
 use Rattle.plan_fast.specs.Steps.{tallyStep, moveAt, fastVia}
 
 module _ (n e r a : ℕ) (there back : Spot) (x : Float) (w : List ℕ) (f f′ : List Float) (h : PlanFits n e (area w f)) (hr : r < n) (ha : a < n)

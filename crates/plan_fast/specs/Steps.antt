@@ -10,7 +10,7 @@ use Rattle.basics.specs.Floats.{_+f_, _-f_}
 use Rattle.basics.specs.declared.Spot.{Spot}
 use Rattle.basics.specs.declared.Spot.the-variants.{At}
 use Rattle.rules_plan.specs.Plan.{Plan}
-use Rattle.plan_state.specs.Steps.{backLink, adjustAt}
+use Rattle.plan_edges.specs.Steps.{backLink, adjustAt}
 use Rattle.plan_fast.specs.declared.Share.{Share}
 
 -- one more, if the zone owns the link k and the row a, where it ends, has no fast mark

@@ -27,7 +27,7 @@ use Rattle.index_set.specs.Line.{Below, Apart, Line}
 use Rattle.index_set.proofs.Queue.{take-more, line-more}
 use Rattle.reverse_links.specs.Reverse.{Linked, Reverses}
 use Rattle.plan_state.specs.Held.{Area, area, PlanView, planViewIn, planView, PlanFits, PlanDoes, Serves}
-use Rattle.plan_state.specs.Steps.{backLink, adjustAt}
+use Rattle.plan_edges.specs.Steps.{backLink, adjustAt}
 use Rattle.plan_state.proofs.Stores.{does-frame, store-amount, setAmount, direction-length, amount-length}
 use Rattle.plan_state.proofs.Links.{link-below, edge-there, edge-back, reverse-within}
 use Rattle.plan_trade.specs.Search.{Seeking, seekOf, Leaves, Searched, LeadsOver, MetOver, AllMet, Idle, Within}

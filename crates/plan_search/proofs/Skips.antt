@@ -13,7 +13,7 @@ use lib.Ieee.{Float, nan, ne}
 use borrow.Author.Tests.{ne-eqb}
 use Rattle.basics.specs.Floats.{0f, _+f_}
 use Rattle.basics.specs.declared.Spot.the-variants.{At}
-use Rattle.plan_state.specs.Steps.{backLink}
+use Rattle.plan_edges.specs.Steps.{backLink}
 use Rattle.basics.specs.Loops.{run}
 use Rattle.basics.specs.Lists.{All}
 use Rattle.basics.proofs.Loops.{All-imp, run-back, run-still}

@@ -1,5 +1,5 @@
 pub mod Pairs
 pub mod Stores
-pub mod Weights
 pub mod Links
 pub mod Nodes
+pub mod Adjusts

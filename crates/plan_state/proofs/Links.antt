@@ -16,7 +16,7 @@ use Rattle.rules_board.specs.Board.{Board, end, linksOf}
 use Rattle.rules_plan.specs.Edges.{owned, edge}
 use Rattle.reverse_links.proofs.Firsts.{first-none, first-only, first-nowhere, up-all}
 use Rattle.reverse_links.specs.Reverse.{InRow, Linked, reverseOf, wordFor, Reverses}
-use Rattle.plan_state.specs.Steps.{ownedBy, backLink}
+use Rattle.plan_edges.specs.Steps.{ownedBy, backLink}
 
 -- ---- the links of a turf
 

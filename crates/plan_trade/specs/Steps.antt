@@ -12,7 +12,7 @@ use Rattle.basics.specs.declared.Spot.the-variants.{At}
 use Rattle.rules_plan.specs.Plan.{Plan, Seek, load, withDelta, wants, more, seekTo}
 use Rattle.rules_plan.specs.declared.MonstermosInfo.{MonstermosInfo}
 use Rattle.rules_plan.specs.declared.Side.{Side}
-use Rattle.plan_state.specs.Steps.{backLink, adjustAt}
+use Rattle.plan_edges.specs.Steps.{backLink, adjustAt}
 use Rattle.plan_trade.specs.declared.Both.{Both}
 
 -- the lesser one

@@ -6,10 +6,8 @@ ghost use Prim.Native.Nat.{_<_};
 ghost use lib.ListN.{length};
 use libc::STDOUT_FILENO;
 use replay_one::replay;
-use vectors::count;
-use vectors::count::Total;
-use vectors::count::Tried;
-use vectors::text;
+use vectors_count::Total;
+use vectors_count::Tried;
 use vectors_same::Vector;
 
 // Prints a text.
@@ -84,7 +82,7 @@ fn change(vector: &mut [u32], at: usize, n: u32, t: Tried) -> Tried
     vector[at] = n;
     let r = replay(vector);
     vector[at] = was;
-    count::one_more(t, !r.met)
+    vectors_count::one_more(t, !r.met)
 }
 
 // Changes each hexadecimal digit of the number at a place, in its lowest bit.
@@ -120,7 +118,7 @@ fn tears(vector: &[u32], before: Tried) -> Tried {
     let mut n = 0;
     while n < vector.len() {
         let r = replay(&vector[..n]);
-        t = count::one_more(t, !r.met);
+        t = vectors_count::one_more(t, !r.met);
         n += 1;
     }
     t
@@ -129,23 +127,23 @@ fn tears(vector: &[u32], before: Tried) -> Tried {
 // One more vector with what came of it; where it is asked, it is changed and torn too.
 fn counted(vector: &mut [u32], r: Vector, thorough: bool, t: Total) -> Total {
     if !thorough {
-        return count::counted(t, r.met, t.changed, t.torn);
+        return vectors_count::counted(t, r.met, t.changed, t.torn);
     }
     let changed = changes(vector, r.expected, t.changed);
     let torn = tears(vector, t.torn);
-    count::counted(t, r.met, changed, torn)
+    vectors_count::counted(t, r.met, changed, torn)
 }
 
 // Replays every vector, and where it is asked changes and tears each, and prints what came of it; at one that isn't whole it stops.
 fn run(numbers: &mut [u32], thorough: bool) {
     let mut counts = [0u32; 32];
-    let mut t = count::none();
+    let mut t = vectors_count::none();
     let mut at = 0;
     while at < numbers.len() {
         let r = replay(&numbers[at..]);
         let next = vectors::past(at, r.next);
         if next <= numbers.len() {
-            count::tally(&mut counts, r.call, r.number);
+            vectors_count::tally(&mut counts, r.call, r.number);
             t = counted(&mut numbers[at..next], r, thorough, t);
         }
         at = next;
@@ -180,8 +178,8 @@ fn run_all(numbers: &mut [u32]) {
 
 // One number more than is taken tells that there are too many.
 fn main() {
-    let mut numbers = [0u32; 140_001];
-    let n = text::read(&mut numbers);
+    let mut numbers = vectors_text::room();
+    let n = vectors_text::read(&mut numbers);
     if 140_000 < n {
         show(b"too long\n");
         return;

@@ -4,9 +4,8 @@ use mathlib.Core.Path.{_≡_}
 use Prim.Native.Nat.{ℕ, _+_, _*_, _%_, _<_}
 use lib.ListN.{length, getD}
 use lib.Ieee.{Float, nan}
-use Rattle.vectors.specs.Vectors.{number, section, Reads}
+use Rattle.vectors.specs.Vectors.{number, section, gasOf}
 use Rattle.vectors.specs.Amounts.{amount}
-use Rattle.vectors.specs.declared.Case.{Case}
 
 -- what fills the scratch words, the floats by their bits, and the event area
 abbrev pub wordBefore : ℕ → ℕ
@@ -24,10 +23,8 @@ Follows l d rule = (i : ℕ) → i < length l → getD l i d ≡ rule i
 
 -- what a case lends before its call; its numbers are there as bytes too
 pub record CaseFilled (ns : List ℕ) (bs : List ℕ) (gs : List Float) (ws : List ℕ) (fs : List Float) (es : List ℕ) : Type 0 where
-  pub case : Case
-  pub reads : Reads ns case
   pub bytes : Follows bs 0 (λ i. number ns i % 256)
-  pub gas : Follows gs nan (λ i. amount (number (section ns (case .gas)) i))
+  pub gas : Follows gs nan (λ i. amount (number (section ns (gasOf ns)) i))
   pub words : Follows ws 0 wordBefore
   pub floats : Follows fs nan (λ i. amount (floatBefore i))
   pub events : Follows es 0 eventBefore

@@ -1,4 +1,3 @@
 pub mod Amounts
 pub mod Vectors
 pub mod Cells
-pub mod Count

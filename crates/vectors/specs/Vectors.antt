@@ -6,9 +6,8 @@ use Prim.Native.Nat.{ℕ, _+_, _-_, _≤_, min}
 use lib.Dec.{leb}
 use lib.ListN.{length, getD, take, drop}
 use Rattle.turfs.specs.Tables.{Slices, table}
-use Rattle.basics.specs.Loops.{if_then_else_}
+use Rattle.basics.specs.Loops.{times, if_then_else_}
 use Rattle.vectors.specs.declared.Span.{Span}
-use Rattle.vectors.specs.declared.Case.{Case}
 use Rattle.vectors.specs.declared.Room.{Room}
 use Rattle.vectors.specs.declared.Asked.{Asked}
 use Rattle.vectors.specs.declared.Walk.{Walk}
@@ -22,35 +21,31 @@ onward at by = min (at + by) 0xffff_ffff_ffff_ffff
 abbrev pub number : List ℕ → ℕ → ℕ
 number ns at = getD ns at 0
 
--- a list: its length at a place, then its elements
-pub record VectorStands (ns : List ℕ) (at : ℕ) (s : Span) : Type 0 where
-  pub first : s .from ≡ onward at 1
-  pub last : s .to ≡ onward (s .from) (number ns at)
-  pub after : at ≤ s .from
-  pub along : s .from ≤ s .to
+-- the list at a place: its length, then its elements
+abbrev pub spanAt : List ℕ → ℕ → Span
+spanAt ns at = record { from = onward at 1; to = onward (onward at 1) (number ns at) }
 
 -- the elements of a list, none where it goes beyond the numbers
 unfoldable pub section : List ℕ → Span → List ℕ
 section ns s = if leb (s .to) (length ns) && leb (s .from) (s .to) then take (s .to - s .from) (drop (s .from) ns) else []
 
--- the case that a vector begins with: the call, eight tables, gases, gas, the lengths of three areas
-pub record Reads (ns : List ℕ) (c : Case) : Type 0 where
-  pub call : c .call ≡ number ns 0
-  pub ids : VectorStands ns 1 (c .ids)
-  pub flags : VectorStands ns (c .ids .to) (c .flags)
-  pub planetary : VectorStands ns (c .flags .to) (c .planetary)
-  pub mixtures : VectorStands ns (c .planetary .to) (c .mixtures)
-  pub starts : VectorStands ns (c .mixtures .to) (c .starts)
-  pub neighbours : VectorStands ns (c .starts .to) (c .neighbours)
-  pub linkFlags : VectorStands ns (c .neighbours .to) (c .«link_flags»)
-  pub immutable : VectorStands ns (c .«link_flags» .to) (c .immutable)
-  pub gases : c .gases ≡ number ns (c .immutable .to)
-  pub below : c .immutable .to ≤ c .gas .from
-  pub gas : VectorStands ns (onward (c .immutable .to) 1) (c .gas)
-  pub events : c .events ≡ number ns (c .gas .to)
-  pub words : c .words ≡ number ns (onward (c .gas .to) 1)
-  pub floats : c .floats ≡ number ns (onward (c .gas .to) 2)
-  pub asked : c .asked ≡ onward (c .gas .to) 3
+-- where the list number k of a case stands: the first behind the call, each one behind the one before
+abbrev pub listAt : List ℕ → ℕ → ℕ
+listAt ns k = times (λ at. spanAt ns at .to) k 1
+
+-- its first eight lists are the tables: ids, flags, planetary, mixtures, starts, neighbours, link flags, immutable
+abbrev pub tableAt : List ℕ → ℕ → Span
+tableAt ns k = spanAt ns (listAt ns k)
+
+-- behind them the number of gases, the gas, the lengths of three areas, and what is asked
+abbrev pub gasesOf : List ℕ → ℕ
+gasesOf ns = number ns (listAt ns 8)
+
+abbrev pub gasOf : List ℕ → Span
+gasOf ns = spanAt ns (onward (listAt ns 8) 1)
+
+abbrev pub askedAt : List ℕ → ℕ
+askedAt ns = onward (gasOf ns .to) 3
 
 -- the room of the arrays of the program `replay`
 pub record Rooms (r : Room) : Type 0 where
@@ -61,28 +56,22 @@ pub record Rooms (r : Room) : Type 0 where
 
 -- its tables
 pub record RowsOf (ns : List ℕ) (rows : Slices) : Type 0 where
-  pub case : Case
-  pub reads : Reads ns case
-  pub ids : table rows 0 ≡ section ns (case .ids)
-  pub mixtures : table rows 1 ≡ section ns (case .mixtures)
-  pub starts : table rows 2 ≡ section ns (case .starts)
-  pub neighbours : table rows 3 ≡ section ns (case .neighbours)
+  pub ids : table rows 0 ≡ section ns (tableAt ns 0)
+  pub mixtures : table rows 1 ≡ section ns (tableAt ns 3)
+  pub starts : table rows 2 ≡ section ns (tableAt ns 4)
+  pub neighbours : table rows 3 ≡ section ns (tableAt ns 5)
 
 pub record MarksOf (ns : List ℕ) (bytes : List ℕ) (marks : Slices) : Type 0 where
-  pub case : Case
-  pub reads : Reads ns case
-  pub flags : table marks 0 ≡ section bytes (case .flags)
-  pub planetary : table marks 1 ≡ section bytes (case .planetary)
-  pub linkFlags : table marks 2 ≡ section bytes (case .«link_flags»)
-  pub immutable : table marks 3 ≡ section bytes (case .immutable)
+  pub flags : table marks 0 ≡ section bytes (tableAt ns 1)
+  pub planetary : table marks 1 ≡ section bytes (tableAt ns 2)
+  pub linkFlags : table marks 2 ≡ section bytes (tableAt ns 6)
+  pub immutable : table marks 3 ≡ section bytes (tableAt ns 7)
 
 -- what equalize is asked
 pub record CaseAsks (ns : List ℕ) (a : Asked) : Type 0 where
-  pub case : Case
-  pub reads : Reads ns case
-  pub gases : a .gases ≡ case .gases
-  pub hot : VectorStands ns (case .asked) (a .hot)
-  pub turns : VectorStands ns (a .hot .to) (a .turns)
+  pub gases : a .gases ≡ gasesOf ns
+  pub hot : a .hot ≡ spanAt ns (askedAt ns)
+  pub turns : a .turns ≡ spanAt ns (a .hot .to)
   pub threshold : a .threshold ≡ amount (number ns (a .turns .to))
   pub limit : a .limit ≡ number ns (onward (a .turns .to) 1)
   pub allowance : a .allowance ≡ number ns (onward (a .turns .to) 2)
@@ -90,9 +79,7 @@ pub record CaseAsks (ns : List ℕ) (a : Asked) : Type 0 where
 
 -- what a walk is
 pub record Walks (ns : List ℕ) (w : Walk) : Type 0 where
-  pub case : Case
-  pub reads : Reads ns case
-  pub gases : w .gases ≡ case .gases
-  pub id : w .id ≡ number ns (case .asked)
-  pub limit : w .limit ≡ number ns (onward (case .asked) 1)
-  pub due : w .due ≡ onward (case .asked) 2
+  pub gases : w .gases ≡ gasesOf ns
+  pub id : w .id ≡ number ns (askedAt ns)
+  pub limit : w .limit ≡ number ns (onward (askedAt ns) 1)
+  pub due : w .due ≡ onward (askedAt ns) 2

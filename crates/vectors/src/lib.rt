@@ -2,41 +2,22 @@
 // what the lent areas hold before a call.
 //
 // A place in a vector only grows, and one beyond the numbers stays beyond: one test of the last place shows that nothing is missing.
-pub mod count;
-pub mod text;
-
 use turfs::Marks;
 use turfs::Rows;
 ghost use mathlib.Core.Path.{_≡_};
 ghost use Prim.Native.Nat.{_%_, _≤_, _<_};
 ghost use lib.Ieee.{nan};
-ghost use Rattle.vectors.specs.Vectors.{onward, number, section, VectorStands, Reads, Rooms, CaseAsks, Walks, RowsOf, MarksOf};
+ghost use Rattle.vectors.specs.Vectors.{onward, number, section, spanAt, listAt, tableAt, gasesOf, gasOf, askedAt, Rooms, CaseAsks, Walks, RowsOf, MarksOf};
 ghost use Rattle.vectors.specs.Amounts.{nanPattern, amount};
 ghost use Rattle.vectors.specs.Cells.{wordBefore, floatBefore, eventBefore, Follows, CaseFilled};
+
+// How many tables a case begins with: ids, flags, planetary, mixtures, starts, neighbours, link flags, immutable.
+const TABLES: usize = 8;
 
 // A list's elements: the first one, and the place behind the last.
 pub struct Span {
     pub from: usize,
     pub to: usize,
-}
-
-// A case: the call, where its tables and its gas stand, how long the lent areas are, and where what is asked begins.
-struct Case {
-    pub call: u32,
-    pub ids: Span,
-    pub flags: Span,
-    pub planetary: Span,
-    pub mixtures: Span,
-    pub starts: Span,
-    pub neighbours: Span,
-    pub link_flags: Span,
-    pub immutable: Span,
-    pub gases: u32,
-    pub gas: Span,
-    pub events: usize,
-    pub words: usize,
-    pub floats: usize,
-    pub asked: usize,
 }
 
 // How many amounts, words, floats and bytes a case lends, if it is whole and the arrays of `replay` have room for it.
@@ -89,7 +70,7 @@ pub fn number_at(numbers: &[u32], at: usize) -> u32
 
 // The list that stands at a place: its length, then its elements.
 pub fn span_at(numbers: &[u32], at: usize) -> Span
-    ensures { λ r. ⌜ VectorStands (now (numbers .entry)) at r ⌝ }
+    ensures { λ r. ⌜ (r ≡ spanAt (now (numbers .entry)) at) × (r .from ≤ r .to) ⌝ }
 {
     let from = further(at, 1);
     let to = further(from, number_at(numbers, at) as usize);
@@ -107,36 +88,38 @@ pub fn past(at: usize, count: usize) -> usize
     further(at, count)
 }
 
-// The case that a vector begins with.
-fn case_of(numbers: &[u32]) -> Case
-    ensures { λ r. ⌜ Reads (now (numbers .entry)) r ⌝ }
+// Where the list number k of a case stands: the first behind the call, each one behind the one before.
+fn list_at(numbers: &[u32], k: usize) -> usize
+    ensures { λ r. ⌜ r ≡ listAt (now (numbers .entry)) k ⌝ }
 {
-    let ids = span_at(numbers, 1);
-    let flags = span_at(numbers, ids.to);
-    let planetary = span_at(numbers, flags.to);
-    let mixtures = span_at(numbers, planetary.to);
-    let starts = span_at(numbers, mixtures.to);
-    let neighbours = span_at(numbers, starts.to);
-    let link_flags = span_at(numbers, neighbours.to);
-    let immutable = span_at(numbers, link_flags.to);
-    let gas = span_at(numbers, further(immutable.to, 1));
-    Case {
-        call: number_at(numbers, 0),
-        ids,
-        flags,
-        planetary,
-        mixtures,
-        starts,
-        neighbours,
-        link_flags,
-        immutable,
-        gases: number_at(numbers, immutable.to),
-        gas,
-        events: number_at(numbers, gas.to) as usize,
-        words: number_at(numbers, further(gas.to, 1)) as usize,
-        floats: number_at(numbers, further(gas.to, 2)) as usize,
-        asked: further(gas.to, 3),
+    let mut at = 1;
+    let mut i = 0;
+    while i < k {
+        at = span_at(numbers, at).to;
+        i += 1;
     }
+    at
+}
+
+// How many gases a case has: the number behind its eight tables.
+fn gases_of(numbers: &[u32]) -> u32
+    ensures { λ r. ⌜ r ≡ gasesOf (now (numbers .entry)) ⌝ }
+{
+    number_at(numbers, list_at(numbers, TABLES))
+}
+
+// Where its gas stands.
+fn gas_of(numbers: &[u32]) -> Span
+    ensures { λ r. ⌜ (r ≡ gasOf (now (numbers .entry))) × (r .from ≤ r .to) ⌝ }
+{
+    span_at(numbers, further(list_at(numbers, TABLES), 1))
+}
+
+// Where what is asked begins: behind the lengths of the three lent areas.
+fn asked_at(numbers: &[u32]) -> usize
+    ensures { λ r. ⌜ r ≡ askedAt (now (numbers .entry)) ⌝ }
+{
+    further(gas_of(numbers).to, 3)
 }
 
 // No room.
@@ -152,28 +135,31 @@ fn no_room() -> Room
     }
 }
 
-// A case's room, if its gas is so much.
-fn case_room(c: Case, gas: usize) -> Room
+// The room of a case with so much gas, behind which the lengths of the other areas stand.
+fn case_room(numbers: &[u32], gas: usize, at: usize) -> Room
     ensures { λ r. ⌜ Rooms r ⌝ }
 {
+    let events = number_at(numbers, at) as usize;
+    let words = number_at(numbers, further(at, 1)) as usize;
+    let floats = number_at(numbers, further(at, 2)) as usize;
     if 192 < gas {
         return no_room();
     }
-    if 4_000 < c.words {
+    if 4_000 < words {
         return no_room();
     }
-    if 2_000 < c.floats {
+    if 2_000 < floats {
         return no_room();
     }
-    if 12_000 < c.events {
+    if 12_000 < events {
         return no_room();
     }
     Room {
-        fits: c.immutable.to <= 1_429,
+        fits: list_at(numbers, TABLES) <= 1_429,
         gas,
-        words: c.words,
-        floats: c.floats,
-        events: c.events,
+        words,
+        floats,
+        events,
     }
 }
 
@@ -181,22 +167,21 @@ fn case_room(c: Case, gas: usize) -> Room
 pub fn room_of(numbers: &[u32]) -> Room
     ensures { λ r. ⌜ Rooms r ⌝ }
 {
-    let c = case_of(numbers);
-    if numbers.len() < c.gas.to {
+    let gas = gas_of(numbers);
+    if numbers.len() < gas.to {
         return no_room();
     }
-    case_room(c, c.gas.to - c.gas.from)
+    case_room(numbers, gas.to - gas.from, gas.to)
 }
 
 // What equalize is asked in a vector.
 pub fn asked_of(numbers: &[u32]) -> Asked
     ensures { λ r. ⌜ CaseAsks (now (numbers .entry)) r ⌝ }
 {
-    let c = case_of(numbers);
-    let hot = span_at(numbers, c.asked);
+    let hot = span_at(numbers, asked_at(numbers));
     let turns = span_at(numbers, hot.to);
     Asked {
-        gases: c.gases,
+        gases: gases_of(numbers),
         hot,
         turns,
         threshold: amount_of(number_at(numbers, turns.to)),
@@ -210,12 +195,12 @@ pub fn asked_of(numbers: &[u32]) -> Asked
 pub fn walk_of(numbers: &[u32]) -> Walk
     ensures { λ r. ⌜ Walks (now (numbers .entry)) r ⌝ }
 {
-    let c = case_of(numbers);
+    let at = asked_at(numbers);
     Walk {
-        gases: c.gases,
-        id: number_at(numbers, c.asked),
-        limit: number_at(numbers, further(c.asked, 1)),
-        due: further(c.asked, 2),
+        gases: gases_of(numbers),
+        id: number_at(numbers, at),
+        limit: number_at(numbers, further(at, 1)),
+        due: further(at, 2),
     }
 }
 
@@ -249,15 +234,28 @@ fn byte_part(bytes: &[u8], s: Span) -> &[u8]
     &bytes[from..to]
 }
 
+// The table number k of a vector.
+fn table(numbers: &[u32], k: usize) -> &[u32]
+    ensures { λ r. ⌜ now r ≡ section (now (numbers .entry)) (tableAt (now (numbers .entry)) k) ⌝ }
+{
+    part(numbers, span_at(numbers, list_at(numbers, k)))
+}
+
+// The same as bytes.
+fn byte_table<'a>(numbers: &[u32], bytes: &'a [u8], k: usize) -> &'a [u8]
+    ensures { λ r. ⌜ now r ≡ section (now (bytes .entry)) (tableAt (now (numbers .entry)) k) ⌝ }
+{
+    byte_part(bytes, span_at(numbers, list_at(numbers, k)))
+}
+
 // The tables of numbers in a vector.
 pub fn rows_of<'a>(numbers: &'a [u32]) -> Rows<'a>
     ensures { λ r. ⌜ RowsOf (now (numbers .entry)) r ⌝ }
 {
-    let c = case_of(numbers);
-    let ids = part(numbers, c.ids);
-    let mixtures = part(numbers, c.mixtures);
-    let starts = part(numbers, c.starts);
-    let neighbours = part(numbers, c.neighbours);
+    let ids = table(numbers, 0);
+    let mixtures = table(numbers, 3);
+    let starts = table(numbers, 4);
+    let neighbours = table(numbers, 5);
     [ids, mixtures, starts, neighbours]
 }
 
@@ -265,11 +263,10 @@ pub fn rows_of<'a>(numbers: &'a [u32]) -> Rows<'a>
 pub fn marks_of<'a>(numbers: &[u32], bytes: &'a [u8]) -> Marks<'a>
     ensures { λ r. ⌜ MarksOf (now (numbers .entry)) (now (bytes .entry)) r ⌝ }
 {
-    let c = case_of(numbers);
-    let flags = byte_part(bytes, c.flags);
-    let planetary = byte_part(bytes, c.planetary);
-    let link_flags = byte_part(bytes, c.link_flags);
-    let immutable = byte_part(bytes, c.immutable);
+    let flags = byte_table(numbers, bytes, 1);
+    let planetary = byte_table(numbers, bytes, 2);
+    let link_flags = byte_table(numbers, bytes, 6);
+    let immutable = byte_table(numbers, bytes, 7);
     [flags, planetary, link_flags, immutable]
 }
 
@@ -377,9 +374,8 @@ pub fn fill(
 )
     ensures { λ _. ⌜ CaseFilled (now (numbers .entry)) (now (bytes .exit)) (now (gas .exit)) (now (words .exit)) (now (floats .exit)) (now (events .exit)) ⌝ }
 {
-    let c = case_of(numbers);
     put_bytes(numbers, bytes);
-    put_amounts(part(numbers, c.gas), gas);
+    put_amounts(part(numbers, gas_of(numbers)), gas);
     lend_words(words);
     lend_floats(floats);
     lend_events(events);

@@ -7,7 +7,7 @@ use lib.Dec.{eqb, leb, ltb}
 use lib.ListN.{length, getD}
 use lib.Ieee.{Float, nan}
 use Rattle.basics.specs.Loops.{every, upFrom, if_then_else_}
-use Rattle.vectors.specs.Vectors.{onward, number, section, VectorStands}
+use Rattle.vectors.specs.Vectors.{onward, number, section, spanAt}
 use Rattle.vectors.specs.Amounts.{sameBits}
 use Rattle.vectors.specs.Cells.{wordBefore, floatBefore, eventBefore}
 use Rattle.vectors_same.specs.declared.Answer.{Answer}
@@ -16,9 +16,9 @@ use Rattle.vectors_same.specs.declared.Vector.{Vector}
 
 -- what a vector expects from a place on: the answer, gas and event bytes, and how many words and floats are 0
 pub record Expects (ns : List ℕ) (at : ℕ) (d : Due) : Type 0 where
-  pub answer : VectorStands ns at (d .answer)
-  pub gas : VectorStands ns (d .answer .to) (d .gas)
-  pub events : VectorStands ns (d .gas .to) (d .events)
+  pub answer : d .answer ≡ spanAt ns at
+  pub gas : d .gas ≡ spanAt ns (d .answer .to)
+  pub events : d .events ≡ spanAt ns (d .gas .to)
   pub words : d .words ≡ number ns (d .events .to)
   pub floats : d .floats ≡ number ns (onward (d .events .to) 1)
   pub next : d .next ≡ onward (d .events .to) 2

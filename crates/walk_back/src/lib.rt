@@ -48,7 +48,7 @@ fn settle(
     ensures { λ r. let b = boardAt (rows .entry) (marks .entry) gases in ⌜ Settled b row d r (now (gas .entry)) (now (gas .exit)) (now (floats .entry)) (now (floats .exit)) ⌝ }
 {
     let mixtures = rows[MIXTURES];
-    mixture::clear_air(marks[IMMUTABLE], gases, gas, mixtures[row] as usize);
+    mixture_moves::clear_air(marks[IMMUTABLE], gases, gas, mixtures[row] as usize);
     let sum = mixture::total(mixtures, gases, gas, d);
     let mine = floats[row] + sum;
     floats[row] = mine;

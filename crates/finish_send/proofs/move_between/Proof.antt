@@ -10,7 +10,7 @@ use Rattle.finish_send.proofs.move_between.Tie as tie
 use Rattle.mixture.proofs.Parts.{holds-of}
 use Rattle.finish_send.proofs.move_between.Reads as reads
 use Rattle.finish_send.proofs.move_between.Lts as lts
-use Rattle.mixture.proofs.move_air.Reads as move-air-reads
+use Rattle.mixture_moves.proofs.move_air.Reads as move-air-reads
 
 element-copy-out-mixtures : tie.Need-element-copy-out-mixtures
 element-copy-out-mixtures c = search needs

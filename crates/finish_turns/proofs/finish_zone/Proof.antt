@@ -15,11 +15,11 @@ use Rattle.finish_zones.proofs.size_of.Reads as size-of-reads
 use Rattle.finish_zones.proofs.turns_of.Reads as turns-of-reads
 
 abbrev Inv-loop : tie.InvT-loop
-Inv-loop zone gases used rows marks gas₀ words₀ floats₀ events₀ n e size i₀ now₀ gas words floats events i now =
+Inv-loop zone used rows marks gases gas₀ words₀ floats₀ events₀ n e size i₀ now₀ gas words floats events i now =
     Zoning (boardOf rows marks gases) zone words₀ (finishAreas gas₀ floats₀ events₀ now₀) i words (finishAreas gas floats events now)
 
 abbrev μ-loop : tie.MeasureT-loop
-μ-loop zone gases used rows marks gas₀ words₀ floats₀ events₀ n e size i₀ now₀ gas words floats events i now =
+μ-loop zone used rows marks gases gas₀ words₀ floats₀ events₀ n e size i₀ now₀ gas words floats events i now =
     size - i
 
 element-copy-out-n : tie.Need-element-copy-out-n Inv-loop μ-loop

@@ -1,12 +1,12 @@
 -- The weights are adjusted, then two amounts stored. Assumes nothing.
 use native.Mathlib.Omega.{arith}
 use lib.ListN.{length-set}
-use Rattle.plan_state.proofs.Weights.{found-more}
+use Rattle.plan_edges.proofs.Weights.{found-more}
 use Rattle.plan_drain.proofs.Drains.{handed}
 use borrow.Author.Needs.{needs}
 use Rattle.plan_drain.proofs.hand_on.Statement.{statement}
 use Rattle.plan_drain.proofs.hand_on.Tie as tie
-use Rattle.plan_state.proofs.adjust_eq_movement.Reads as adjust-eq-movement-reads
+use Rattle.plan_edges.proofs.adjust_eq_movement.Reads as adjust-eq-movement-reads
 
 amount-at-requires : tie.Need-amount-at-requires
 amount-at-requires c κs = (omega (arith, c .before .before .pre .0 .turfs, c .before .before .pre .1 .0), c .before .before .pre .0 .links)

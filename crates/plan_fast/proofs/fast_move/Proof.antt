@@ -1,7 +1,7 @@
 -- The weights are adjusted, then two deltas stored. Assumes nothing.
 use native.Mathlib.Omega.{arith}
 use lib.ListN.{length-set}
-use Rattle.plan_state.proofs.Weights.{found-more}
+use Rattle.plan_edges.proofs.Weights.{found-more}
 use Rattle.plan_fast.proofs.Moves.{moved}
 use borrow.Author.Needs.{needs}
 use Rattle.plan_fast.proofs.fast_move.Statement.{statement}

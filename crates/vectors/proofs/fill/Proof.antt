@@ -1,18 +1,18 @@
 -- Each part is filled by its own loop. Assumes nothing.
 use mathlib.Core.Path.{_∙_, ap}
-use Rattle.vectors.specs.Vectors.{number}
-use Rattle.vectors.specs.Amounts.{amount}
 use mathlib.Core.List.{List}
 use Prim.Native.Nat.{ℕ}
+use Rattle.vectors.specs.Vectors.{number, section}
+use Rattle.vectors.specs.Amounts.{amount}
 use borrow.Author.Needs.{needs}
 use Rattle.vectors.proofs.fill.Statement.{statement}
 use Rattle.vectors.proofs.fill.Tie as tie
 
-case-of-requires : tie.Need-case-of-requires
-case-of-requires c κs = search needs
-
 put-bytes-requires : tie.Need-put-bytes-requires
 put-bytes-requires c κs = search needs
+
+gas-of-requires : tie.Need-gas-of-requires
+gas-of-requires c κs = search needs
 
 part-requires : tie.Need-part-requires
 part-requires c κs = search needs
@@ -46,11 +46,10 @@ same-length-5 c = search needs
 
 returns : tie.Need-returns
 returns c =
+    let ns = c .before .before .before .before .before .before .before .before .before .before .before .before .before .before .before .before .before .before .before .before .before .before .before .before .before .before .before .before .args .numbers .now in
     record {
-      case = c .before .before .before .before .before .before .before .before .before .before .before .before .before .before .before .before .before .before .before .before .before .case-of .result;
-      reads = c .before .before .before .before .before .before .before .before .before .before .before .before .before .before .before .before .before .before .before .before .before .case-of .ensures;
-      bytes = c .before .before .before .before .before .before .before .before .before .before .before .before .before .before .before .before .before .before .before .put-bytes .ensures;
-      gas = λ i h. c .before .before .before .before .before .before .before .before .before .before .before .before .before .before .put-amounts .ensures i h ∙ ap (λ (l : List ℕ). amount (number l i)) (c .before .before .before .before .before .before .before .before .before .before .before .before .before .before .before .before .part .ensures);
+      bytes = c .before .before .before .before .before .before .before .before .before .before .before .before .before .before .before .before .before .before .before .before .put-bytes .ensures;
+      gas = λ i h. c .before .before .before .before .before .before .before .before .before .before .before .before .before .before .put-amounts .ensures i h ∙ ap (λ (l : List ℕ). amount (number l i)) (c .before .before .before .before .before .before .before .before .before .before .before .before .before .before .before .before .part .ensures ∙ ap (section ns) (c .before .before .before .before .before .before .before .before .before .before .before .before .before .before .before .before .before .gas-of .ensures .0));
       words = c .before .before .before .before .before .before .before .before .before .before .lend-words .ensures;
       floats = c .before .before .before .before .before .before .lend-floats .ensures;
       events = c .before .before .lend-events .ensures;
@@ -60,8 +59,8 @@ pub fill-spec : {M : Type 1} → statement M
 fill-spec =
     tie.close
     (tie.spec
-    case-of-requires
     put-bytes-requires
+    gas-of-requires
     part-requires
     put-amounts-requires
     lend-words-requires

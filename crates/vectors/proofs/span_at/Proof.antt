@@ -1,6 +1,5 @@
 -- A place only grows. Assumes nothing.
-use mathlib.Core.Path.{_∙_, ap}
-use Rattle.vectors.specs.Vectors.{onward}
+use Rattle.vectors.proofs.Places.{spans}
 use borrow.Author.Needs.{needs}
 use Rattle.vectors.proofs.span_at.Statement.{statement}
 use Rattle.vectors.proofs.span_at.Tie as tie
@@ -18,7 +17,7 @@ further-requires-2 : tie.Need-further-requires-2
 further-requires-2 c κs = search needs
 
 returns : tie.Need-returns
-returns c = record { first = c .before .before .further .ensures .0; last = c .further2 .ensures .0 ∙ ap (onward (c .before .before .further .result)) (c .before .number-at .ensures); after = c .before .before .further .ensures .1; along = c .further2 .ensures .1 }
+returns c = (spans (c .before .before .before .before .args .numbers .now) (c .before .before .before .before .args .at) (c .before .before .further .ensures .0) (c .before .number-at .ensures) (c .further2 .ensures .0), c .further2 .ensures .1)
 
 pub span-at-spec : {M : Type 1} → statement M
 span-at-spec =

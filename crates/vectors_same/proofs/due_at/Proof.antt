@@ -36,9 +36,9 @@ returns : tie.Need-returns
 returns c =
     let ns = c .before .before .before .before .before .before .before .before .args .numbers .now in
     record {
-      answer = c .before .before .before .before .before .before .span-at .ensures;
-      gas = c .before .before .before .before .before .span-at2 .ensures;
-      events = c .before .before .before .before .span-at3 .ensures;
+      answer = c .before .before .before .before .before .before .span-at .ensures .0;
+      gas = c .before .before .before .before .before .span-at2 .ensures .0;
+      events = c .before .before .before .before .span-at3 .ensures .0;
       words = c .before .before .before .number-at .ensures;
       floats = c .before .number-at2 .ensures ∙ ap (number ns) (c .before .before .further .ensures .0);
       next = c .further2 .ensures .0;
