@@ -1,13 +1,13 @@
 // Replays stored vectors of the public calls: each is a case with what a call of the Rust answered and left, as oracle/boards/src/vectors.rs
 // writes them. What is found is printed. To show that a replay can fail, each vector is changed and torn, and how many of these are found is
 // printed too.
-ghost use mathlib.Core.Path.{_≡_};
-ghost use Prim.Native.Nat.{_<_};
+ghost use Prim.Native.Nat.{_≤_, _<_};
 ghost use lib.ListN.{length};
 use libc::STDOUT_FILENO;
 use replay_one::replay;
-use vectors_count::Total;
-use vectors_count::Tried;
+use vectors_count::CHANGED;
+use vectors_count::TORN;
+use vectors_count::VECTORS;
 use vectors_same::Vector;
 
 // Prints a text.
@@ -15,143 +15,127 @@ fn show(text: &[u8]) {
     io::write_all(STDOUT_FILENO, text);
 }
 
-// Prints a number and a text.
-fn show_count(n: u32, what: &[u8]) {
+// A number behind a space.
+fn show_number(n: u32) {
+    show(b" ");
     io::print_decimal(STDOUT_FILENO, n as u64);
-    show(what);
 }
 
-// A line for a call: how many were done, and how many refused by each number.
-fn show_call(name: &[u8], counts: &[u32; 32], call: usize)
-    requires { ⌜ call < 4 ⌝ }
+// A line with the counts from one place to another.
+fn show_row(what: &[u8], counts: &[u32; 39], from: usize, to: usize)
+    requires { ⌜ to ≤ 39 ⌝ }
 {
-    show(name);
-    show_count(counts[call * 8], b" done, refused by 1 to 7:");
-    let mut i = 1;
-    while i < 8 {
-        show(b" ");
-        show_count(counts[call * 8 + i], b"");
-        i += 1;
+    show(what);
+    let mut k = from;
+    while k < to {
+        show_number(counts[k]);
+        k += 1;
     }
     show(b"\n");
 }
 
-// The lines about each call.
-fn show_calls(counts: &[u32; 32]) {
-    show_call(b"equalize: ", counts, 1);
-    show_call(b"depressurize: ", counts, 2);
-    show_call(b"planet walk: ", counts, 3);
-}
-
-// A line about what was tried.
-fn show_tried(t: Tried, what: &[u8]) {
-    show_count(t.tried, what);
-    show_count(t.found, b" found\n");
-}
-
-// The lines about all vectors.
-fn show_total(t: Total) {
-    show_count(t.vectors, b" vectors, ");
-    show_count(t.differ, b" differ\n");
-    if t.changed.tried != 0 {
-        show_tried(t.changed, b" digits changed, ");
-        show_tried(t.torn, b" times torn, ");
-    }
-    if t.differ != 0 {
-        show(b"the first that differs is vector ");
-        show_count(t.first, b"\n");
-    }
-}
-
-// A line about a vector that isn't whole.
-fn show_lost() {
-    show(b"the next vector is torn or too long\n");
+// All counts.
+fn report(counts: &[u32; 39]) {
+    show_row(b"equalize done, refused by 1 to 7:", counts, 8, 16);
+    show_row(b"depressurize:", counts, 16, 24);
+    show_row(b"planet walk:", counts, 24, 32);
+    show_row(
+        b"vectors, those that differ, the first of these:",
+        counts,
+        32,
+        35,
+    );
+    show_row(b"digits changed, found:", counts, 35, 37);
+    show_row(b"times torn, found:", counts, 37, 39);
 }
 
 // Replays a vector with another number at a place, which it must notice, and puts the number back. A NaN for a NaN isn't tried: one is as good
 // as another.
-fn change(vector: &mut [u32], at: usize, n: u32, t: Tried) -> Tried
+fn change(vector: &mut [u32], at: usize, n: u32, counts: &mut [u32; 39])
     requires { ⌜ at < length (now vector) ⌝ }
 {
     let was = vector[at];
     if vectors::nan_bits(was) {
         if vectors::nan_bits(n) {
-            return t;
+            return;
         }
     }
     vector[at] = n;
     let r = replay(vector);
     vector[at] = was;
-    vectors_count::one_more(t, !r.met)
+    vectors_count::count_tried(counts, CHANGED, !r.met);
 }
 
 // Changes each hexadecimal digit of the number at a place, in its lowest bit.
-fn change_digits(vector: &mut [u32], at: usize, before: Tried) -> Tried
+fn change_digits(vector: &mut [u32], at: usize, counts: &mut [u32; 39])
     requires { ⌜ at < length (now vector) ⌝ }
 {
     let n = vector[at];
-    let mut t = change(vector, at, n ^ 1, before);
+    change(vector, at, n ^ 1, counts);
     let mut power = 1;
     let mut rest = n / 16;
     while 0 < rest {
         power = power % 0x1000_0000 * 16;
-        t = change(vector, at, n ^ power, t);
+        change(vector, at, n ^ power, counts);
         rest = rest / 16;
     }
-    t
 }
 
 // Changes each digit of the numbers from a place on.
-fn changes(vector: &mut [u32], from: usize, before: Tried) -> Tried {
-    let mut t = before;
+fn changes(vector: &mut [u32], from: usize, counts: &mut [u32; 39]) {
     let mut at = from;
     while at < vector.len() {
-        t = change_digits(vector, at, t);
+        change_digits(vector, at, counts);
         at += 1;
     }
-    t
 }
 
 // Tears a vector in front of each of its numbers.
-fn tears(vector: &[u32], before: Tried) -> Tried {
-    let mut t = before;
+fn tears(vector: &[u32], counts: &mut [u32; 39]) {
     let mut n = 0;
     while n < vector.len() {
         let r = replay(&vector[..n]);
-        t = vectors_count::one_more(t, !r.met);
+        vectors_count::count_tried(counts, TORN, !r.met);
         n += 1;
     }
-    t
 }
 
 // One more vector with what came of it; where it is asked, it is changed and torn too.
-fn counted(vector: &mut [u32], r: Vector, thorough: bool, t: Total) -> Total {
-    if !thorough {
-        return vectors_count::counted(t, r.met, t.changed, t.torn);
+fn count_one(vector: &mut [u32], r: Vector, thorough: bool, counts: &mut [u32; 39]) {
+    vectors_count::tally(counts, r.call, r.number);
+    vectors_count::count(counts, VECTORS);
+    if !r.met {
+        vectors_count::count_differing(counts);
     }
-    let changed = changes(vector, r.expected, t.changed);
-    let torn = tears(vector, t.torn);
-    vectors_count::counted(t, r.met, changed, torn)
+    if thorough {
+        changes(vector, r.expected, counts);
+        tears(vector, counts);
+    }
+}
+
+// The vector at a place, with what came of it if it is whole; the place of the next.
+fn run_at(numbers: &mut [u32], at: usize, thorough: bool, counts: &mut [u32; 39]) -> usize
+    requires { ⌜ at < length (now numbers) ⌝ }
+    ensures { λ r. ⌜ at < r ⌝ }
+{
+    let r = replay(&numbers[at..]);
+    let next = vectors::past(at, r.next);
+    if next <= numbers.len() {
+        count_one(&mut numbers[at..next], r, thorough, counts);
+    }
+    next
 }
 
 // Replays every vector, and where it is asked changes and tears each, and prints what came of it; at one that isn't whole it stops.
 fn run(numbers: &mut [u32], thorough: bool) {
-    let mut counts = [0u32; 32];
-    let mut t = vectors_count::none();
+    let mut counts = [0u32; 39];
     let mut at = 0;
     while at < numbers.len() {
-        let r = replay(&numbers[at..]);
-        let next = vectors::past(at, r.next);
-        if next <= numbers.len() {
-            vectors_count::tally(&mut counts, r.call, r.number);
-            t = counted(&mut numbers[at..next], r, thorough, t);
-        }
-        at = next;
+        at = run_at(numbers, at, thorough, &mut counts);
     }
-    show_calls(&counts);
-    show_total(t);
+    report(&counts);
     if numbers.len() < at {
-        show_lost();
+        show(b"the next vector is torn or too long\n");
     }
 }
 
@@ -165,14 +149,12 @@ fn spoil(numbers: &mut [u32]) {
     numbers[at] = numbers[at] ^ 1;
 }
 
-// All runs: the vectors as they are, with one number changed, and the first half of that.
+// Both runs: the vectors as they are, changed and torn; and the first half of them, with one number changed.
 fn run_all(numbers: &mut [u32]) {
     run(numbers, true);
     spoil(numbers);
-    show(b"with one number changed:\n");
-    run(numbers, false);
     let half = numbers.len() / 2;
-    show(b"the first half:\n");
+    show(b"the first half, with one number changed:\n");
     run(&mut numbers[..half], false);
 }
 

@@ -1,90 +1,54 @@
-// What came of vectors, and of vectors changed and torn.
+// What came of vectors, and of vectors changed and torn: an array of counts, each at its place.
 ghost use mathlib.Core.Path.{_≡_};
-ghost use Rattle.vectors_count.specs.Count.{noTotal, counting, trying, tallied};
+ghost use Prim.Native.Nat.{_<_, _+_};
+ghost use Rattle.vectors_count.specs.Count.{counting, trying, differing, tallied};
 
-// How many were tried, and how many of them found.
-pub struct Tried {
-    pub tried: u32,
-    pub found: u32,
-}
+// Places 0 to 31 are the numbers that calls answered, eight a call. Then: the vectors, those that differ, and the first of these.
+pub const VECTORS: usize = 32;
 
-// How many vectors there were, how many of them differ, the first that does, and what came of changing and tearing them.
-pub struct Total {
-    pub vectors: u32,
-    pub differ: u32,
-    pub first: u32,
-    pub changed: Tried,
-    pub torn: Tried,
-}
+pub const DIFFER: usize = 33;
 
-// None yet.
-pub fn none() -> Total
-    ensures { λ r. ⌜ r ≡ noTotal ⌝ }
+pub const FIRST: usize = 34;
+
+// Digits changed, and how many of these changes were found; vectors torn, and how many of these were found.
+pub const CHANGED: usize = 35;
+
+pub const TORN: usize = 37;
+
+// One more at a place.
+pub fn count(counts: &mut [u32; 39], k: usize)
+    requires { ⌜ k < 39 ⌝ }
+    ensures { λ _. ⌜ now (counts .exit) ≡ counting (now (counts .entry)) k ⌝ }
 {
-    let none = Tried { tried: 0, found: 0 };
-    Total {
-        vectors: 0,
-        differ: 0,
-        first: 0,
-        changed: none,
-        torn: none,
-    }
+    counts[k] = std::num::wrapping_add_u32(counts[k], 1);
 }
 
-// One more was tried.
-pub fn one_more(t: Tried, found: bool) -> Tried
-    ensures { λ r. ⌜ r ≡ trying t found ⌝ }
+// One more was tried, which is counted at a place, and may have been found, which is counted behind it.
+pub fn count_tried(counts: &mut [u32; 39], k: usize, found: bool)
+    requires { ⌜ k + 1 < 39 ⌝ }
+    ensures { λ _. ⌜ now (counts .exit) ≡ trying (now (counts .entry)) k found ⌝ }
 {
-    let tried = std::num::wrapping_add_u32(t.tried, 1);
+    count(counts, k);
     if found {
-        return Tried {
-            tried,
-            found: std::num::wrapping_add_u32(t.found, 1),
-        };
-    }
-    Tried {
-        tried,
-        found: t.found,
+        count(counts, k + 1);
     }
 }
 
-// One more vector, with what came so far of changing and tearing.
-pub fn counted(t: Total, met: bool, changed: Tried, torn: Tried) -> Total
-    ensures { λ r. ⌜ r ≡ counting t met changed torn ⌝ }
+// One more vector differs: the last one that was counted.
+pub fn count_differing(counts: &mut [u32; 39])
+    ensures { λ _. ⌜ now (counts .exit) ≡ differing (now (counts .entry)) ⌝ }
 {
-    let vectors = std::num::wrapping_add_u32(t.vectors, 1);
-    if met {
-        return Total {
-            vectors,
-            differ: t.differ,
-            first: t.first,
-            changed,
-            torn,
-        };
+    if counts[DIFFER] != 0 {
+        count(counts, DIFFER);
+        return;
     }
-    let differ = std::num::wrapping_add_u32(t.differ, 1);
-    if t.differ == 0 {
-        return Total {
-            vectors,
-            differ,
-            first: vectors,
-            changed,
-            torn,
-        };
-    }
-    Total {
-        vectors,
-        differ,
-        first: t.first,
-        changed,
-        torn,
-    }
+    counts[FIRST] = counts[VECTORS];
+    count(counts, DIFFER);
 }
 
-// Counts a call with the number that it answered: eight numbers a call, and four calls.
-pub fn tally(counts: &mut [u32; 32], call: u32, number: u32)
+// A call with the number that it answered.
+pub fn tally(counts: &mut [u32; 39], call: u32, number: u32)
     ensures { λ _. ⌜ now (counts .exit) ≡ tallied (now (counts .entry)) call number ⌝ }
 {
-    let k = (call % 4 * 8 + number % 8) as usize;
-    counts[k] = std::num::wrapping_add_u32(counts[k], 1);
+    count(counts, (call % 4 * 8 + number % 8) as usize);
 }

@@ -7,10 +7,10 @@ use Rattle.replay.proofs.change_digits.Statement.{statement}
 use Rattle.replay.proofs.change_digits.Tie as tie
 
 abbrev Inv-loop : tie.InvT-loop
-Inv-loop vector₀ at n t₀ power₀ rest₀ vector t power rest = (length vector ≡ length vector₀) × (at < length vector₀)
+Inv-loop vector₀ at counts₀ n power₀ rest₀ vector counts power rest = (length vector ≡ length vector₀) × (at < length vector₀)
 
 abbrev μ-loop : tie.MeasureT-loop
-μ-loop vector₀ at n t₀ power₀ rest₀ vector t power rest = rest
+μ-loop vector₀ at counts₀ n power₀ rest₀ vector counts power rest = rest
 
 mul-n : tie.Need-mul-n Inv-loop μ-loop
 mul-n c = search needs

@@ -7,10 +7,10 @@ use Rattle.replay.proofs.changes.Statement.{statement}
 use Rattle.replay.proofs.changes.Tie as tie
 
 abbrev Inv-loop : tie.InvT-loop
-Inv-loop vector₀ from t₀ at₀ vector t at = length vector ≡ length vector₀
+Inv-loop vector₀ from counts₀ at₀ vector counts at = length vector ≡ length vector₀
 
 abbrev μ-loop : tie.MeasureT-loop
-μ-loop vector₀ from t₀ at₀ vector t at = length vector₀ - at
+μ-loop vector₀ from counts₀ at₀ vector counts at = length vector₀ - at
 
 loop-holds : tie.Need-loop-holds Inv-loop μ-loop
 loop-holds c = search needs

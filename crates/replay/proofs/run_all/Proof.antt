@@ -17,23 +17,14 @@ slice-aggregate-show c = search needs
 show-requires : tie.Need-show-requires
 show-requires c κs = search needs
 
-run-requires-2 : tie.Need-run-requires-2
-run-requires-2 c κs = search needs
-
-slice-aggregate-show-2 : tie.Need-slice-aggregate-show-2
-slice-aggregate-show-2 c = search needs
-
-show-requires-2 : tie.Need-show-requires-2
-show-requires-2 c κs = search needs
-
 slice-relend-prefix-run : tie.Need-slice-relend-prefix-run
 slice-relend-prefix-run c = search needs
 
 slice-aggregate-run : tie.Need-slice-aggregate-run
 slice-aggregate-run c = sym (length-take-le _ _ (search needs))
 
-run-requires-3 : tie.Need-run-requires-3
-run-requires-3 c κs = search needs
+run-requires-2 : tie.Need-run-requires-2
+run-requires-2 c κs = search needs
 
 same-length : tie.Need-same-length
 same-length c = search needs
@@ -49,11 +40,8 @@ run-all-spec =
     spoil-requires
     slice-aggregate-show
     show-requires
-    run-requires-2
-    slice-aggregate-show-2
-    show-requires-2
     slice-relend-prefix-run
     slice-aggregate-run
-    run-requires-3
+    run-requires-2
     same-length
     returns)

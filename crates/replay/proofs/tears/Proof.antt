@@ -8,10 +8,10 @@ use Rattle.replay.proofs.tears.Statement.{statement}
 use Rattle.replay.proofs.tears.Tie as tie
 
 abbrev Inv-loop : tie.InvT-loop
-Inv-loop vector t₀ n₀ t n = Unit {0}
+Inv-loop vector counts₀ n₀ counts n = Unit {0}
 
 abbrev μ-loop : tie.MeasureT-loop
-μ-loop vector t₀ n₀ t n = length vector - n
+μ-loop vector counts₀ n₀ counts n = length vector - n
 
 loop-holds : tie.Need-loop-holds Inv-loop μ-loop
 loop-holds c = search needs
@@ -22,8 +22,8 @@ slice-aggregate-replay c = sym (length-take-le _ _ (search needs))
 replay-requires : tie.Need-replay-requires Inv-loop μ-loop
 replay-requires c κs = search needs
 
-one-more-requires : tie.Need-one-more-requires Inv-loop μ-loop
-one-more-requires c κs = search needs
+count-tried-requires : tie.Need-count-tried-requires Inv-loop μ-loop
+count-tried-requires c κs = search needs
 
 add-n : tie.Need-add-n Inv-loop μ-loop
 add-n c = search needs
@@ -46,7 +46,7 @@ tears-spec =
     loop-holds
     slice-aggregate-replay
     replay-requires
-    one-more-requires
+    count-tried-requires
     add-n
     loop-less
     loop-again

@@ -1,19 +1,9 @@
 -- The count that is stored is one more. Assumes nothing.
 use mathlib.Core.Path.{ap}
-use Prim.Native.Nat.{ℕ}
 use lib.ListN.{set}
 use borrow.Author.Needs.{needs}
-use Rattle.vectors_count.proofs.tally.Statement.{statement}
-use Rattle.vectors_count.proofs.tally.Tie as tie
-
-mul-k : tie.Need-mul-k
-mul-k c = search needs
-
-add-k : tie.Need-add-k
-add-k c = search needs
-
-cast-k : tie.Need-cast-k
-cast-k c = search needs
+use Rattle.vectors_count.proofs.count.Statement.{statement}
+use Rattle.vectors_count.proofs.count.Tie as tie
 
 mul-wrapping-add-u32 : tie.Need-mul-wrapping-add-u32
 mul-wrapping-add-u32 c = search needs
@@ -33,13 +23,10 @@ element-write-counts c = search needs
 returns : tie.Need-returns
 returns c = ap (set (c .before .before .args .counts .now) _) (c .wrapping-add-u32 .ensures)
 
-pub tally-spec : {M : Type 1} → statement M
-tally-spec =
+pub count-spec : {M : Type 1} → statement M
+count-spec =
     tie.close
     (tie.spec
-    mul-k
-    add-k
-    cast-k
     mul-wrapping-add-u32
     element-copy-out-wrapping-add-u32
     wrapping-add-u32-requires
