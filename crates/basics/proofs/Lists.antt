@@ -8,7 +8,7 @@ use native.Mathlib.Nat.{le-refl}
 use native.Mathlib.Decide.{ℕ-discrete}
 use native.Mathlib.Omega.{arith}
 use lib.Dec.{T, eqb, eqb→eq, eqb-refl}
-use lib.ListN.{length, getD, set, drop, replicate}
+use lib.ListN.{length, getD, set, take, drop, replicate}
 use borrow.Author.Tests.{eqb-false, eq-eqb, ne-eqb}
 use Rattle.basics.specs.Lists.{All, one, count}
 use Rattle.basics.specs.Loops.{keep, every, consIf, upFrom, member, snoc}
@@ -28,6 +28,27 @@ module _ {A : Type 0} (P : A → Type 0) where
   All-drop zero xs a = a
   All-drop (suc n) [] a = tt
   All-drop (suc n) (x ∷ xs) a = All-drop n xs (a .1)
+
+  -- all from each
+  pub All-each : (xs : List A) (d : A) → ((k : ℕ) → k < length xs → P (getD xs k d)) → All P xs
+  All-each [] d f = tt
+  All-each (x ∷ xs) d f = (f 0 (omega arith), All-each xs d (λ k l. f (suc k) (omega arith)))
+
+  pub All-take : (n : ℕ) (xs : List A) → All P xs → All P (take n xs)
+  All-take zero xs a = tt
+  All-take (suc n) [] a = tt
+  All-take (suc n) (x ∷ xs) a = (a .0, All-take n xs (a .1))
+
+  pub All-back : (xs : List A) → All P xs → All P (reverse xs)
+  All-back xs a = onto xs [] a tt
+    where
+      onto : (xs ys : List A) → All P xs → All P ys → All P (reverseAux xs ys)
+      onto [] ys a c = c
+      onto (x ∷ xs) ys a c = onto xs (x ∷ ys) (a .1) (a .0, c)
+
+  pub All-both : (Q : A → Type 0) (xs : List A) → All P xs → All Q xs → All (λ x. P x × Q x) xs
+  All-both Q [] a c = tt
+  All-both Q (x ∷ xs) a c = ((a .0, c .0), All-both Q xs (a .1) (c .1))
 
   pub All-keep : (p : A → Bool) (xs : List A) → All P xs → All P (keep p xs)
   All-keep p xs h = All-imp _ P (keep p xs) (λ x i. i .1) (keep-all p P xs h)

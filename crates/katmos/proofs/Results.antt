@@ -7,7 +7,7 @@ use mir.Syntax.{w32}
 use mir.Val.{Fits}
 use lib.ListN.{getD}
 use Rattle.rules_board.specs.Board.{Board}
-use Rattle.laws_finite.proofs.Lists.{All-each}
+use Rattle.basics.proofs.Lists.{All-each}
 use Rattle.rules_lent.specs.Lent.{Lent, Result}
 use Rattle.call_answers.specs.Answers.{Answers, Words}
 

@@ -13,7 +13,7 @@ use Rattle.basics.specs.declared.Spot.{Spot}
 use Rattle.basics.specs.declared.Spot.the-variants.{At, Nowhere}
 use Rattle.basics.specs.Lists.{All, Found}
 use Rattle.basics.proofs.Loops.{All-any, All-imp, All-getD, run-keeps, times-keeps, cond-both}
-use Rattle.basics.proofs.Lists.{All-append, All-snoc, replicate-at}
+use Rattle.basics.proofs.Lists.{All-append, All-snoc, replicate-at, All-back}
 use Rattle.rules_board.specs.Board.{Board, turfCount, idOf, end, immutable, linksOf, rowOf}
 use Rattle.turfs.specs.Tables.{Accepted}
 use Rattle.turfs.proofs.Accepted.{row-below}
@@ -34,7 +34,7 @@ use Rattle.laws_finite.proofs.Totals.{accepted-within}
 use Rattle.laws_finite.proofs.EachKind.{Word, Fin, target-readable}
 use Rattle.laws_finite.proofs.Walked.{walk-told}
 use Rattle.laws_finite.proofs.Backs.{all-passed}
-use Rattle.laws_finite.proofs.Lists.{reverse-all, reverse-apart, set-most}
+use Rattle.laws_finite.proofs.Lists.{reverse-apart, set-most}
 
 -- what a depressurization leaves: its records are read back, and its gas is within its bound
 record Fine (e : Depressurized) : Type 0 where
@@ -90,7 +90,7 @@ module _ (b : Board) {n : ℕ} (h : Accepted b n) (ids : (r : ℕ) → Word (idO
     unfolding wayBack
     back-fine o a l =
         let t = run (back b (o .direction)) (reverse (o .order)) (record { gas = gas; amount = replicate (turfCount b) 0f; events = o .events; rips = [] }) in
-        let g = all-passed b (h .gases .1) (h .turfs .1) ids (o .direction) (a .near) (reverse (o .order)) _ (reverse-apart (o .order) (l .apart)) (reverse-all (λ x. x < turfCount b) (o .order) (l .rows)) (record {
+        let g = all-passed b (h .gases .1) (h .turfs .1) ids (o .direction) (a .near) (reverse (o .order)) _ (reverse-apart (o .order) (l .apart)) (All-back (λ x. x < turfCount b) (o .order) (l .rows)) (record {
           gas = amounts;
           size = length-replicate (turfCount b) 0f;
           ms = replicate (turfCount b) 0;

@@ -12,7 +12,7 @@ use Rattle.basics.specs.Loops.{run, every}
 use Rattle.basics.specs.Floats.{0f, _+f_, finite, finiteSignClear}
 use Rattle.basics.specs.Lists.{All, count}
 use Rattle.basics.proofs.Loops.{All-any, All-map, every-all, keep-all, run-keeps, cond-both}
-use Rattle.basics.proofs.Lists.{All-drop, count-length}
+use Rattle.basics.proofs.Lists.{All-drop, count-length, All-take}
 use Rattle.basics.proofs.Tests.{differ}
 use lib.Ieee.Bits.{is-true}
 use Rattle.rules_board.specs.Board.{Board, linkCount, mixtureCount, mixOf, immutableMix}
@@ -34,7 +34,6 @@ use Rattle.laws_finite.proofs.Air.{all-split, Ranked, ranked-take, rank
 use Rattle.laws_finite.proofs.EachKind.{Fin, Amount}
 use Rattle.laws_finite.proofs.Sends.{Sendable, lift-sendable, alter-sendable, pairs-amount, planned-sendable}
 use Rattle.rules_equalize.specs.Equalize.{Ask, Equalized, fillAll, planAll, planned, cancel, played, equalize}
-use Rattle.laws_finite.proofs.Lists.{All-take}
 
 zero-clear : (B : ℕ) → Clear B 0f
 unfolding ofBits ofFields odd

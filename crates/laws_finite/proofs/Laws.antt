@@ -87,7 +87,8 @@ round-within s num den B D x h =
 
 -- ---- the operations
 
-weigh : (x u v m n A B : ℕ) → m ≤ A * u → n ≤ B * v → A + B ≤ x → m * v + n * u ≤ x * (u * v)
+-- two fractions that come to at most a number together
+pub weigh : (x u v m n A B : ℕ) → m ≤ A * u → n ≤ B * v → A + B ≤ x → m * v + n * u ≤ x * (u * v)
 weigh x u v m n A B p q h =
     let i = mul-le-mul-right v p in
     let j = mul-le-mul-right u q in

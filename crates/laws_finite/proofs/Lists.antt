@@ -9,25 +9,10 @@ use Rattle.basics.specs.Lists.{All}
 use Rattle.basics.proofs.Loops.{All-any}
 use Rattle.basics.proofs.Lists.{Apart}
 
-pub All-take : {A : Type 0} (P : A → Type 0) (n : ℕ) (xs : List A) → All P xs → All P (take n xs)
-All-take P zero xs h = tt
-All-take P (suc n) [] h = tt
-All-take P (suc n) (x ∷ xs) h = (h .0, All-take P n xs (h .1))
-
 pub All-set : {A : Type 0} (P : A → Type 0) (xs : List A) (i : ℕ) (v : A) → (i < length xs → P v) → All P xs → All P (set xs i v)
 All-set P [] i v h a = tt
 All-set P (x ∷ xs) zero v h a = (h (omega arith), a .1)
 All-set P (x ∷ xs) (suc i) v h a = (a .0, All-set P xs i v (λ l. h (omega arith)) (a .1))
-
--- all from each
-pub All-each : {A : Type 0} (P : A → Type 0) (xs : List A) (d : A) → ((k : ℕ) → k < length xs → P (getD xs k d)) → All P xs
-All-each P [] d f = tt
-All-each P (x ∷ xs) d f = (f 0 (omega arith), All-each P xs d (λ k l. f (suc k) (omega arith)))
-
--- all of both
-pub both-all : {A : Type 0} (P Q : A → Type 0) (xs : List A) → All P xs → All Q xs → All (λ x. P x × Q x) xs
-both-all P Q [] a c = tt
-both-all P Q (x ∷ xs) a c = ((a .0, c .0), both-all P Q xs (a .1) (c .1))
 
 -- a list of one value
 pub replicate-all : {A : Type 0} (P : A → Type 0) (n : ℕ) (x : A) → P x → All P (replicate n x)
@@ -52,12 +37,5 @@ rev-apart (x ∷ xs) ys a b c = rev-apart xs (x ∷ ys) (a .1) (c .0, b) (join x
     join [] p q = tt
     join (z ∷ zs) p q = ((λ e. p .0 (sym e), q .0), join zs (p .1) (q .1))
 
-rev-all : (P : ℕ → Type 0) (xs ys : List ℕ) → All P xs → All P ys → All P (reverseAux xs ys)
-rev-all P [] ys a b = b
-rev-all P (x ∷ xs) ys a b = rev-all P xs (x ∷ ys) (a .1) (a .0, b)
-
 pub reverse-apart : (xs : List ℕ) → Apart xs → Apart (reverse xs)
 reverse-apart xs a = rev-apart xs [] a tt (All-any _ (λ x. tt) xs)
-
-pub reverse-all : (P : ℕ → Type 0) (xs : List ℕ) → All P xs → All P (reverse xs)
-reverse-all P xs a = rev-all P xs [] a tt

@@ -20,7 +20,7 @@ use Rattle.basics.specs.Floats.{0f, 1f, _+f_, _-f_, _*f_, finite}
 use Rattle.rules_mixture.specs.Mixture.{ratio}
 use Rattle.basics.proofs.Loops.{and-left}
 use Rattle.basics.proofs.Lists.{or-cases}
-use Rattle.laws_finite.proofs.Laws.{Under, under, Exact, exact, round-within, under-finite, Up, up-fin}
+use Rattle.laws_finite.proofs.Laws.{Under, under, Exact, exact, round-within, weigh, under-finite, Up, up-fin}
 
 -- q is not negative, and no more than A of 2 ^ -24
 pub data Frac (A : ℕ) : Float → Type 0 where
@@ -154,13 +154,6 @@ module _ (k : ℕ) (fits : k ≤ 104) where
   unfolding mul
   mul-frac M A g h l (clear {m} {e} p) (frac {m = n} {e = d} r) =
       round-clear (m * up e * (n * up d)) (down e * down d) (g * 2 ^ k) (mul-pos (down-pos e) (down-pos d)) (exact g k l fits) (scaled M A g (m * up e) (n * up d) (down e) (down d) (2 ^ k) p r h)
-
-weigh : (x u v m n A B : ℕ) → m ≤ A * u → n ≤ B * v → A + B ≤ x → m * v + n * u ≤ x * (u * v)
-weigh x u v m n A B p q h =
-    let i = mul-le-mul-right v p in
-    let j = mul-le-mul-right u q in
-    let k = mul-le-mul-right (u * v) h in
-    omega arith
 
 pub add-clear : {x y : Float} {A B : ℕ} (C : ℕ) → Exact C → A + B ≤ C → Clear A x → Clear B y → Clear C (x +f y)
 unfolding add sum

@@ -11,7 +11,7 @@ use Rattle.basics.specs.declared.Spot.{Spot}
 use Rattle.basics.specs.declared.Spot.the-variants.{At, Nowhere}
 use Rattle.basics.specs.Lists.{All}
 use Rattle.basics.proofs.Loops.{All-any, All-imp, All-map, All-getD, run-keeps}
-use Rattle.basics.proofs.Lists.{All-keep}
+use Rattle.basics.proofs.Lists.{All-keep, All-both, All-each}
 use Rattle.rules_board.specs.Board.{Board, linkCount, end, linksOf}
 use Rattle.turfs.specs.Tables.{Accepted}
 use Rattle.turfs.proofs.Accepted.{links-below}
@@ -24,7 +24,7 @@ use Rattle.laws_finite.proofs.Whole.{weights-finite}
 use Rattle.laws_finite.proofs.Laws.{zero-under, under-finite}
 use Rattle.laws_finite.proofs.EachKind.{Fin, Fit, Amount, zero-fit}
 use Rattle.laws_finite.proofs.Fitted.{plan-all-fit}
-use Rattle.laws_finite.proofs.Lists.{All-each, All-set, both-all}
+use Rattle.laws_finite.proofs.Lists.{All-set}
 
 zero-amount : Amount 0f
 zero-amount = (under-finite zero-under, zero-fit)
@@ -59,4 +59,4 @@ module _ (b : Board) where
       let s = fillAll b gas q in
       let w = planAll b gas s .weight in
       let n = weights-sized b gas s in
-      record { count = n; amounts = both-all Fin Fit w (All-each Fin w nan (λ k l. weights-finite b h gas e q k (subst (λ m. k < m) n l))) (plan-all-fit b gas s) }
+      record { count = n; amounts = All-both Fin Fit w (All-each Fin w nan (λ k l. weights-finite b h gas e q k (subst (λ m. k < m) n l))) (plan-all-fit b gas s) }

@@ -17,7 +17,7 @@ use Rattle.basics.specs.Loops.{run, member, snoc}
 use Rattle.basics.specs.Floats.{0f, _+f_, _-f_}
 use Rattle.basics.specs.Lists.{All}
 use Rattle.basics.proofs.Loops.{All-getD, All-any, run-keeps, times-keeps, cond-both}
-use Rattle.basics.proofs.Lists.{or-left, or-right, or-cases, members}
+use Rattle.basics.proofs.Lists.{or-left, or-right, or-cases, members, All-back}
 use Rattle.basics.proofs.Tests.{differ}
 use Rattle.rules_board.specs.Board.{Board, turfCount, end}
 use Rattle.turfs.proofs.Line.{line-short}
@@ -30,7 +30,7 @@ use Rattle.laws_finite.proofs.Laws.{Under, under, Exact, exact, Within,
 use Rattle.laws_finite.proofs.Shares.{all, all-at, all-replicate, hand, all-hand}
 use Rattle.laws_finite.proofs.Caps.{most-changes}
 use Rattle.laws_finite.proofs.Weights.{set-keeps, Weighed, weighed-more, adjust-weighed}
-use Rattle.laws_finite.proofs.Lists.{All-set, reverse-all}
+use Rattle.laws_finite.proofs.Lists.{All-set}
 
 -- ---- signs
 
@@ -355,7 +355,7 @@ module _ (b : Board) (ends : (k : ℕ) → end b k < turfCount b) (owner : List 
       }) in
       let n = line-short b (u .queue) line in
       let len = length-reverse (u .queue) in
-      let d = all-drains (u .queue) (reverse (u .queue)) t (omega arith) (reverse-all (λ r. (r < turfCount b) × T (member r (u .queue))) (u .queue) (pair (u .queue) (u .queue) (line .rows) (members (u .queue)))) (u .plan) (record {
+      let d = all-drains (u .queue) (reverse (u .queue)) t (omega arith) (All-back (λ r. (r < turfCount b) × T (member r (u .queue))) (u .queue) (pair (u .queue) (u .queue) (line .rows) (members (u .queue)))) (u .plan) (record {
         steady = k .steady;
         ms = replicate (turfCount b) 1;
         sized = length-replicate (turfCount b) 1;

@@ -14,11 +14,10 @@ use Rattle.basics.specs.Loops.{run, every}
 use Rattle.basics.specs.Floats.{0f, _+f_, finiteSignClear}
 use Rattle.basics.specs.Lists.{All}
 use Rattle.basics.proofs.Loops.{All-imp, All-any, All-map, every-all, cond-both}
-use Rattle.basics.proofs.Lists.{All-append, All-drop}
+use Rattle.basics.proofs.Lists.{All-append, All-drop, All-take}
 use Rattle.rules_board.specs.Board.{Board, mixOf, immutableMix}
 use Rattle.rules_mixture.specs.Mixture.{sum, part, putPart, amounts, change, totalMix, total, clearAir, most, amountFits}
 use Rattle.laws_finite.proofs.Laws.{under, Within, from-le, within-add, within-more, within-zero}
-use Rattle.laws_finite.proofs.Lists.{All-take}
 
 module _ (k : ℕ) (fits : k ≤ 104) (a : ℕ) where
   sum-from : (xs : List Float) (t : Float) (m : ℕ) → m + length xs * a < 2 ^ 24 → All (Within k a) xs → Within k m t → Within k (m + length xs * a) (run (λ x t. t +f x) xs t)

@@ -1,4 +1,4 @@
--- Planning keeps the number of weights: it only stores at their places. Assumes nothing.
+-- What planning keeps of the weights: it stores sums and differences at their places, and no other. Assumes nothing.
 use mathlib.Core.Path.{_≡_, refl, _∙_}
 use mathlib.Core.List.{List}
 use mathlib.Core.Bool.{not, _&&_, _||_}
@@ -22,61 +22,67 @@ pub alter-size : (o : Spot) (f : Float → Float) (w : List Float) → length (a
 alter-size (At k) f w = length-set w k (f (getD w k nan))
 alter-size Nowhere f w = refl
 
-module _ (b : Board) (owner : List ℕ) (z n : ℕ) where
-  abbrev Sized : Plan → Type 0
-  Sized s = length (s .weight) ≡ n
+-- planning alters a weight by a sum or a difference, so it keeps what these keep of the weights
+module _ (Q : List Float → Type 0) (gains : (o : Spot) (x : Float) (w : List Float) → Q w → Q (alter o (λ y. y +f x) w))
+    (loses : (o : Spot) (x : Float) (w : List Float) → Q w → Q (alter o (λ y. y -f x) w)) (b : Board) (owner : List ℕ) (z : ℕ) where
+  abbrev Keeps : Plan → Type 0
+  Keeps s = Q (s .weight)
 
-  run-sized : {A : Type 0} (f : A → Plan → Plan) → ((x : A) (s : Plan) → Sized s → Sized (f x s)) → (xs : List A) (s : Plan) → Sized s → Sized (run f xs s)
-  run-sized f h xs s q = run-keeps (λ x. Unit {0}) Sized f (λ x t u i. h x t i) xs s (All-any _ (λ x. tt) xs) q
+  run-keep : {A : Type 0} (f : A → Plan → Plan) → ((x : A) (s : Plan) → Keeps s → Keeps (f x s)) → (xs : List A) (s : Plan) → Keeps s → Keeps (run f xs s)
+  run-keep f h xs s q = run-keeps (λ x. Unit {0}) Keeps f (λ x t u i. h x t i) xs s (All-any _ (λ x. tt) xs) q
 
-  adjust-sized : (r a : ℕ) (x : Float) (w : List Float) → length w ≡ n → length (adjust b owner z r a x w) ≡ n
+  adjust-keep : (r a : ℕ) (x : Float) (w : List Float) → Q w → Q (adjust b owner z r a x w)
   unfolding adjust
-  adjust-sized r a x w h = alter-size (edge b owner z a r) (λ y. y -f x) (alter (edge b owner z r a) (λ y. y +f x) w) ∙ alter-size (edge b owner z r a) (λ y. y +f x) w ∙ h
+  adjust-keep r a x w h = loses (edge b owner z a r) x (alter (edge b owner z r a) (λ y. y +f x) w) (gains (edge b owner z r a) x w h)
 
-  move-sized : (r : ℕ) (x : Float) (a : ℕ) (s : Plan) → Sized s → Sized (fastMove b owner z r x a s)
+  move-keep : (r : ℕ) (x : Float) (a : ℕ) (s : Plan) → Keeps s → Keeps (fastMove b owner z r x a s)
   unfolding fastMove
-  move-sized r x a s q = adjust-sized r a x (s .weight) q
+  move-keep r x a s q = adjust-keep r a x (s .weight) q
 
-  fast-sized : (r : ℕ) (s : Plan) → Sized s → Sized (fastTurf b owner z r s)
+  fast-keep : (r : ℕ) (s : Plan) → Keeps s → Keeps (fastTurf b owner z r s)
   unfolding fastTurf
-  fast-sized r s q = run-sized _ (λ k t i. move-sized r _ (end b k) t i) _ _ q
+  fast-keep r s q = run-keep _ (λ k t i. move-keep r _ (end b k) t i) _ _ q
 
   -- a search stores in the planning state alone
-  abbrev SeekSized : Seek → Type 0
-  SeekSized s = Sized (s .plan)
+  abbrev SeekKeeps : Seek → Type 0
+  SeekKeeps s = Keeps (s .plan)
 
-  link-sized : (side : Side) (g r k : ℕ) (s : Seek) → SeekSized s → SeekSized (seekLink b owner z side g r k s)
+  link-keep : (side : Side) (g r k : ℕ) (s : Seek) → SeekKeeps s → SeekKeeps (seekLink b owner z side g r k s)
   unfolding seekLink seekTo meet trade
-  link-sized side g r k s q = cond-both SeekSized (stopped side g s || member (end b k) (s .queue)) s _ q q
+  link-keep side g r k s q = cond-both SeekKeeps (stopped side g s || member (end b k) (s .queue)) s _ q q
 
-  row-sized : (side : Side) (g r : ℕ) (s : Seek) → SeekSized s → SeekSized (seekRow b owner z side g r s)
+  row-keep : (side : Side) (g r : ℕ) (s : Seek) → SeekKeeps s → SeekKeeps (seekRow b owner z side g r s)
   unfolding seekRow
-  row-sized side g r s q =
-      run-keeps (λ k. Unit {0}) SeekSized (seekLink b owner z side g r) (λ k t u i. link-sized side g r k t i) (edgesOf b owner z r) s (All-any _ (λ k. tt) (edgesOf b owner z r)) q
+  row-keep side g r s q =
+      run-keeps (λ k. Unit {0}) SeekKeeps (seekLink b owner z side g r) (λ k t u i. link-keep side g r k t i) (edgesOf b owner z r) s (All-any _ (λ k. tt) (edgesOf b owner z r)) q
 
-  next-sized : (side : Side) (g : ℕ) (s : Seek) → SeekSized s → SeekSized (seekNext b owner z side g s)
+  next-keep : (side : Side) (g : ℕ) (s : Seek) → SeekKeeps s → SeekKeeps (seekNext b owner z side g s)
   unfolding seekNext
-  next-sized side g s q =
+  next-keep side g s q =
       let r = getD (s .queue) (s .looked) 0 in
-      cond-both SeekSized (ltb (s .looked) (length (s .queue)) && not (stopped side g s)) (seekRow b owner z side g r s) s (row-sized side g r s q) q
+      cond-both SeekKeeps (ltb (s .looked) (length (s .queue)) && not (stopped side g s)) (seekRow b owner z side g r s) s (row-keep side g r s q) q
 
-  drain-sized : (r : ℕ) (s : Plan) → Sized s → Sized (drain b owner z r s)
+  drain-keep : (r : ℕ) (s : Plan) → Keeps s → Keeps (drain b owner z r s)
   unfolding drain drainTo
-  drain-sized r s q = cond-both Sized (ne (load s r .amount) 0f && not (eqb (load s r .direction) 0)) _ s (adjust-sized r (load s r .direction - 1) (load s r .amount) (s .weight) q) q
+  drain-keep r s q = cond-both Keeps (ne (load s r .amount) 0f && not (eqb (load s r .direction) 0)) _ s (adjust-keep r (load s r .direction - 1) (load s r .amount) (s .weight) q) q
 
-  serve-sized : (side : Side) (g : ℕ) (s : Plan) → Sized s → Sized (serve b owner z side g s)
+  serve-keep : (side : Side) (g : ℕ) (s : Plan) → Keeps s → Keeps (serve b owner z side g s)
   unfolding serve
-  serve-sized side g s q = run-sized (drain b owner z) drain-sized _ _ (times-keeps SeekSized (seekNext b owner z side g) (next-sized side g) (turfCount b) _ q)
+  serve-keep side g s q = run-keep (drain b owner z) drain-keep _ _ (times-keeps SeekKeeps (seekNext b owner z side g) (next-keep side g) (turfCount b) _ q)
 
-  pass-sized : (nodes : List ℕ) (s : Plan) → Sized s → Sized (fastPass b owner z nodes s)
+  pass-keep : (nodes : List ℕ) (s : Plan) → Keeps s → Keeps (fastPass b owner z nodes s)
   unfolding fastPass
-  pass-sized nodes s q =
+  pass-keep nodes s q =
       let k = log2 (length nodes) in
-      cond-both Sized (ltb k (length (chosen Giving nodes s)) && ltb k (length (chosen Taking nodes s))) (run (fastTurf b owner z) nodes s) s
-      (run-sized (fastTurf b owner z) fast-sized nodes s q) q
+      cond-both Keeps (ltb k (length (chosen Giving nodes s)) && ltb k (length (chosen Taking nodes s))) (run (fastTurf b owner z) nodes s) s
+      (run-keep (fastTurf b owner z) fast-keep nodes s q) q
 
-  pub plan-sized : (gas : List Float) (nodes : List ℕ) (moles : Float) (s : Plan) → Sized s → Sized (planZone b owner z gas nodes moles s)
+  pub plan-keep : (gas : List Float) (nodes : List ℕ) (moles : Float) (s : Plan) → Keeps s → Keeps (planZone b owner z gas nodes moles s)
   unfolding planZone shareOut deltas
-  plan-sized gas nodes moles s q =
-      run-sized (serve b owner z _) (λ g t i. serve-sized _ g t i) _ _
-      (pass-sized nodes (deltas b owner z gas nodes (moles /f countOf nodes) s) (run-sized _ (λ r t i. i) nodes s q))
+  plan-keep gas nodes moles s q =
+      run-keep (serve b owner z _) (λ g t i. serve-keep _ g t i) _ _
+      (pass-keep nodes (deltas b owner z gas nodes (moles /f countOf nodes) s) (run-keep _ (λ r t i. i) nodes s q))
+
+-- it keeps how many weights there are
+pub plan-sized : (b : Board) (owner : List ℕ) (z n : ℕ) (gas : List Float) (nodes : List ℕ) (moles : Float) (s : Plan) → length (s .weight) ≡ n → length (planZone b owner z gas nodes moles s .weight) ≡ n
+plan-sized b owner z n = plan-keep (λ w. length w ≡ n) (λ o x w h. alter-size o _ w ∙ h) (λ o x w h. alter-size o _ w ∙ h) b owner z

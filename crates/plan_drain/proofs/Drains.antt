@@ -133,14 +133,3 @@ unfolding planView
 drained-same n e z r w f f₀ d = d
 
 -- ---- all rows of the queue, from its end
-
-pub all-of-rows : (P : ℕ → Type 0) (xs : List ℕ) → ((i : ℕ) → i < length xs → P (getD xs i 0)) → All P xs
-all-of-rows P [] h = tt
-all-of-rows P (x ∷ xs) h = (h 0 (omega arith), all-of-rows P xs (λ i l. h (suc i) (omega arith)))
-
-all-aux : (P : ℕ → Type 0) (xs ys : List ℕ) → All P xs → All P ys → All P (reverseAux xs ys)
-all-aux P [] ys a b = b
-all-aux P (x ∷ xs) ys a b = all-aux P xs (x ∷ ys) (a .1) (a .0, b)
-
-pub all-back : (P : ℕ → Type 0) (xs : List ℕ) → All P xs → All P (reverse xs)
-all-back P xs a = all-aux P xs [] a tt

@@ -16,6 +16,7 @@ use Rattle.basics.specs.declared.Spot.{Spot}
 use Rattle.basics.specs.declared.Spot.the-variants.{At}
 use Rattle.basics.specs.Lists.{All}
 use Rattle.basics.proofs.Loops.{run-both}
+use Rattle.basics.proofs.Lists.{All-back, All-each}
 use Rattle.basics.proofs.Regions.{cut-set, cut-length}
 use Rattle.scratch.specs.Layout.{planWords, planFloats, queueAt, placesAt}
 use Rattle.rules_board.specs.Board.{Board, turfCount}
@@ -32,7 +33,6 @@ use Rattle.plan_state.proofs.Stores.{does-frame, store-amount, setAmount, direc
 use Rattle.plan_state.proofs.Links.{link-below, edge-there, edge-back, reverse-within}
 use Rattle.plan_trade.specs.Search.{Seeking, seekOf, Leaves, Searched, LeadsOver, MetOver, AllMet, Idle, Within}
 use Rattle.plan_trade.specs.Steps.{handOn, drainVia}
-use Rattle.plan_drain.proofs.Drains.{all-of-rows, all-back}
 use Rattle.plan_trade.proofs.Seeks.{none-left}
 use Rattle.plan_search.proofs.Rows.{leaves-then}
 use Rattle.plan_search.proofs.Search.{queue-below}
@@ -258,5 +258,5 @@ module _ (n e z count : ℕ) (b : Board) (t : Linked n (b .starts) (b .neighbour
       Rattle.plan_state.proofs.Stores.does-as d
       (drain-by-via b n t (planView n e C .reverse) (planView n e C .via) (planView n e C .owner) (planView n e C .plan .direction) v z
       (reverse (take count (planView n e C .queue))) (planView n e C .plan) refl
-      (all-back _ (take count (planView n e C .queue))
-      (all-of-rows _ (take count (planView n e C .queue)) (λ i l. let k : i < count = omega (arith, long, l) in rw (getD-take count (planView n e C .queue) i 0 k) (m i k .over)))))
+      (All-back _ (take count (planView n e C .queue))
+      (All-each _ (take count (planView n e C .queue)) 0 (λ i l. let k : i < count = omega (arith, long, l) in rw (getD-take count (planView n e C .queue) i 0 k) (m i k .over)))))

@@ -17,13 +17,14 @@ use Rattle.plan_edges.specs.Steps.{backLink}
 use Rattle.basics.specs.Loops.{run}
 use Rattle.basics.specs.Lists.{All}
 use Rattle.basics.proofs.Loops.{All-imp, run-back, run-still}
+use Rattle.basics.proofs.Lists.{All-back, All-each}
 use Rattle.rules_plan.specs.Plan.{Plan, load}
 use Rattle.plan_state.specs.Held.{Area, area, PlanView, planView, PlanDoes}
 use Rattle.plan_state.proofs.Stores.{does-as, does-then}
 use Rattle.plan_trade.specs.Search.{Seeking, seekOf, Idle, Within}
 use Rattle.plan_trade.specs.Steps.{lesser, handOn, drainVia}
 use Rattle.plan_trade.proofs.Lessers.{lesser-left, lesser-right, lesser-is}
-use Rattle.plan_drain.proofs.Drains.{take-few, all-of-rows, all-back}
+use Rattle.plan_drain.proofs.Drains.{take-few}
 use Rattle.plan_trade.proofs.Nears.{Among, Near}
 
 -- a queue from its end, in two parts
@@ -117,12 +118,12 @@ module _ (rev via : List ℕ) (z : ℕ) (o : List ℕ) where
     passed : run D (reverse (take (first - low) (drop low q))) after ≡ after
     passed =
         run-still D (reverse (take (first - low) (drop low q))) after
-        (All-imp (λ r. ne (getD (after .amount) r nan) 0f ≡ false) (λ r. D r after ≡ after) (reverse (take (first - low) (drop low q))) (λ r t. idle-stays r after t) (all-back (λ r. ne (getD (after .amount) r nan) 0f ≡ false) (take (first - low) (drop low q)) (all-of-rows (λ r. ne (getD (after .amount) r nan) 0f ≡ false) (take (first - low) (drop low q)) (λ i l.
+        (All-imp (λ r. ne (getD (after .amount) r nan) 0f ≡ false) (λ r. D r after ≡ after) (reverse (take (first - low) (drop low q))) (λ r t. idle-stays r after t) (All-back (λ r. ne (getD (after .amount) r nan) 0f ≡ false) (take (first - low) (drop low q)) (All-each (λ r. ne (getD (after .amount) r nan) 0f ≡ false) (take (first - low) (drop low q)) 0 (λ i l.
         let k : i < first - low = span-long low (first - low) i l in
         let hi : low + i < first = omega (arith, k) in
         let keeps : getD (after .amount) (getD q (low + i) 0) nan ≡ getD (s .amount) (getD q (low + i) 0) nan =
         run-amount (getD q (low + i) 0) (reverse (take (count - first) (drop first q))) s
-        (all-back _ (take (count - first) (drop first q)) (all-of-rows _ (take (count - first) (drop first q)) (λ j m.
+        (All-back _ (take (count - first) (drop first q)) (All-each _ (take (count - first) (drop first q)) 0 (λ j m.
         rw (span-at first (count - first) j m) (far (low + i) (omega arith) hi (first + j) (omega arith) (omega (arith, span-long first (count - first) j m)))))) in
         rw (span-at low (first - low) i l) (ap (λ (x : Float). ne x 0f) keeps ∙ idle (low + i) hi)))))
 

@@ -12,7 +12,7 @@ use borrow.Author.Tests.{le-leb, lt-leb}
 use Rattle.basics.specs.Loops.{every, upFrom, first}
 use Rattle.basics.specs.Lists.{All, Found, one, count}
 use Rattle.basics.proofs.Loops.{All-imp, All-getD, every-all, and-left, and-right, all-of, first-found}
-use Rattle.basics.proofs.Lists.{upFrom-above, upFrom-below, upFrom-apart, Apart}
+use Rattle.basics.proofs.Lists.{upFrom-above, upFrom-below, upFrom-apart, Apart, All-both}
 use Rattle.rules_board.specs.Board.{Board, turfCount, linkCount, mixtureCount, idOf, mixOf, end, linksOf, rowOf}
 use Rattle.rules_board.specs.Refuse.{within, pairwise, ascending, rising, rowFits, sizesFit, tablesFit, idsFit, linksFit}
 use Rattle.turfs.specs.Tables.{Accepted, source}
@@ -90,10 +90,6 @@ source-at s (t ∷ ss) (suc r) k h l a c =
     let o : one (leb t k) ≡ 1 = ap one (le-leb t k (omega (arith, low, a))) in
     omega (arith, o, source-at t ss r k (i .1) (omega arith) a c)
 
-all-both : {A : Type 0} (P Q : A → Type 0) (xs : List A) → All P xs → All Q xs → All (λ x. P x × Q x) xs
-all-both P Q [] a c = tt
-all-both P Q (x ∷ xs) a c = ((a .0, c .0), all-both P Q xs (a .1) (c .1))
-
 -- a row's links are the places from its start up to the next
 pub links-in : (b : Board) (r : ℕ) → All (λ k. (getD (b .starts) r 0 ≤ k) × (k < getD (b .starts) (r + 1) 0)) (linksOf b r)
 unfolding linksOf
@@ -101,7 +97,7 @@ links-in b r =
     let A = getD (b .starts) r 0 in
     let E = getD (b .starts) (r + 1) 0 in
     All-imp (λ k. (A ≤ k) × (k < A + (E - A))) _ (upFrom A (E - A)) (λ k h. (h .0, omega (arith, h .0, h .1)))
-    (all-both (λ k. A ≤ k) (λ k. k < A + (E - A)) (upFrom A (E - A)) (upFrom-above A (E - A)) (upFrom-below A (E - A)))
+    (All-both (λ k. A ≤ k) (λ k. k < A + (E - A)) (upFrom A (E - A)) (upFrom-above A (E - A)) (upFrom-below A (E - A)))
 
 pub links-apart : (b : Board) (r : ℕ) → Apart (linksOf b r)
 unfolding linksOf

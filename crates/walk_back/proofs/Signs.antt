@@ -10,7 +10,7 @@ use Rattle.basics.specs.Loops.{every, snoc}
 use Rattle.basics.specs.Floats.{0f, _+f_, finiteSignClear}
 use Rattle.basics.specs.Lists.{All}
 use Rattle.basics.proofs.Loops.{All-imp, All-getD, every-all, run-keeps, cond-both, and-left}
-use Rattle.basics.proofs.Lists.{All-append, All-drop, all-every}
+use Rattle.basics.proofs.Lists.{All-append, All-drop, all-every, All-take}
 use Rattle.rules_board.specs.Board.{Board, mixOf, immutableMix}
 use Rattle.rules_mixture.specs.Mixture.{sum, amounts, change, totalMix, total, clearAir, amountFits}
 use Rattle.walk_back.specs.Backed.{notNegative}
@@ -70,11 +70,6 @@ fits-clear x p = clear x (and-left (finiteSignClear x) _ p)
 abbrev Clear : Float → Type 0
 Clear x = T (notNegative x)
 
-all-take : {A : Type 0} (P : A → Type 0) (n : ℕ) (xs : List A) → All P xs → All P (take n xs)
-all-take P zero xs a = tt
-all-take P (suc n) [] a = tt
-all-take P (suc n) (x ∷ xs) a = (a .0, all-take P n xs (a .1))
-
 module _ (xs : List Float) (a : T (every notNegative xs)) where
   pub every-at : (i : ℕ) → i < length xs → T (notNegative (getD xs i nan))
   every-at i h = All-getD Clear xs i nan (every-all notNegative xs a) h
@@ -109,7 +104,7 @@ module _ (b : Board) (gas : List Float) (a : T (every notNegative gas)) where
   unfolding total totalMix amounts sum
   total-clear r =
       run-keeps Clear Clear (λ x t. t +f x) (λ x t p q. add-clear t x q p) _ 0f
-      (all-take Clear (b .gases) (drop (mixOf b r * b .gases) gas) (All-drop Clear (mixOf b r * b .gases) gas (every-all notNegative gas a))) zero-clear
+      (All-take Clear (b .gases) (drop (mixOf b r * b .gases) gas) (All-drop Clear (mixOf b r * b .gases) gas (every-all notNegative gas a))) zero-clear
 
   pub cleared-clear : (m : ℕ) → T (every notNegative (clearAir b m gas))
   unfolding clearAir change amounts
@@ -119,5 +114,5 @@ module _ (b : Board) (gas : List Float) (a : T (every notNegative gas)) where
       let past = drop (m * b .gases + b .gases) gas in
       all-every notNegative _
       (cond-both (All Clear) (immutableMix b m) gas (take (m * b .gases) gas ++ (none ++ past)) all
-      (All-append Clear (take (m * b .gases) gas) (none ++ past) (all-take Clear (m * b .gases) gas all)
+      (All-append Clear (take (m * b .gases) gas) (none ++ past) (All-take Clear (m * b .gases) gas all)
       (All-append Clear none past (zeros-clear (amounts b gas m)) (All-drop Clear (m * b .gases + b .gases) gas all))))

@@ -30,7 +30,9 @@ element-copy-out-neighbours : tie.Need-element-copy-out-neighbours Inv-loop μ-l
 element-copy-out-neighbours c = search needs
 
 begin-requires : tie.Need-begin-requires Inv-loop μ-loop
-begin-requires c κs = (record { turfs = c .before .before .before .before .before .before .before .before .pre .0 .turfs .1; links = c .before .before .before .before .before .before .before .before .pre .0 .links }, c .before .before .before .before .before .before .before .before .pre .1 .1 .words)
+begin-requires c κs =
+    let pre = c .before .before .before .before .before .before .before .before .pre in
+    (record { turfs = pre .0 .turfs .1; links = pre .0 .links }, pre .1 .1 .words)
 
 loop-holds : tie.Need-loop-holds Inv-loop μ-loop
 loop-holds c =

@@ -5,22 +5,32 @@ use Rattle.fill_all.proofs.keep_zone.Statement.{statement}
 use Rattle.fill_all.proofs.keep_zone.Tie as tie
 
 add-nodes : tie.Need-add-nodes
-add-nodes c = omega (arith, c .before .before .before .before .before .pre .sizes .turfs, c .before .before .before .before .before .pre .sizes .links, c .before .before .before .before .before .pre .zones, c .before .before .before .before .before .pre .nodes)
+add-nodes c =
+    let pre = c .before .before .before .before .before .pre in
+    omega (arith, pre .sizes .turfs, pre .sizes .links, pre .zones, pre .nodes)
 
 cast-words : tie.Need-cast-words
-cast-words c = omega (arith, c .before .before .before .before .before .pre .sizes .turfs, c .before .before .before .before .before .pre .sizes .links, c .before .before .before .before .before .pre .zones, c .before .before .before .before .before .pre .nodes)
+cast-words c =
+    let pre = c .before .before .before .before .before .pre in
+    omega (arith, pre .sizes .turfs, pre .sizes .links, pre .zones, pre .nodes)
 
 starts-at-requires : tie.Need-starts-at-requires
 starts-at-requires c κs = c .before .before .before .before .before .pre .sizes
 
 add-words : tie.Need-add-words
-add-words c = omega (arith, c .before .before .before .before .before .before .pre .sizes .turfs, c .before .before .before .before .before .before .pre .sizes .links, c .before .before .before .before .before .before .pre .zones, c .before .before .before .before .before .before .pre .nodes, c .starts-at .ensures)
+add-words c =
+    let pre = c .before .before .before .before .before .before .pre in
+    omega (arith, pre .sizes .turfs, pre .sizes .links, pre .zones, pre .nodes, c .starts-at .ensures)
 
 add-words-2 : tie.Need-add-words-2
-add-words-2 c = omega (arith, c .before .before .before .before .before .before .pre .sizes .turfs, c .before .before .before .before .before .before .pre .sizes .links, c .before .before .before .before .before .before .pre .zones, c .before .before .before .before .before .before .pre .nodes, c .starts-at .ensures)
+add-words-2 c =
+    let pre = c .before .before .before .before .before .before .pre in
+    omega (arith, pre .sizes .turfs, pre .sizes .links, pre .zones, pre .nodes, c .starts-at .ensures)
 
 mul-words : tie.Need-mul-words
-mul-words c = omega (arith, c .before .before .before .before .before .before .pre .sizes .turfs, c .before .before .before .before .before .before .pre .sizes .links, c .before .before .before .before .before .before .pre .zones, c .before .before .before .before .before .before .pre .nodes, c .starts-at .ensures)
+mul-words c =
+    let pre = c .before .before .before .before .before .before .pre in
+    omega (arith, pre .sizes .turfs, pre .sizes .links, pre .zones, pre .nodes, c .starts-at .ensures)
 
 slice-write-words : tie.Need-slice-write-words
 slice-write-words c = omega (arith, c .starts-at .ensures, c .before .before .before .before .before .before .pre .words, c .before .before .before .before .before .before .pre .zones)
@@ -29,10 +39,14 @@ moles-at-requires : tie.Need-moles-at-requires
 moles-at-requires c κs = c .before .before .before .before .before .before .pre .sizes
 
 add-floats : tie.Need-add-floats
-add-floats c = omega (arith, c .before .before .before .before .before .before .before .pre .sizes .turfs, c .before .before .before .before .before .before .before .pre .sizes .links, c .before .before .before .before .before .before .before .pre .zones, c .before .before .before .before .before .before .before .pre .nodes, c .moles-at .ensures)
+add-floats c =
+    let pre = c .before .before .before .before .before .before .before .pre in
+    omega (arith, pre .sizes .turfs, pre .sizes .links, pre .zones, pre .nodes, c .moles-at .ensures)
 
 mul-floats : tie.Need-mul-floats
-mul-floats c = omega (arith, c .before .before .before .before .before .before .before .pre .sizes .turfs, c .before .before .before .before .before .before .before .pre .sizes .links, c .before .before .before .before .before .before .before .pre .zones, c .before .before .before .before .before .before .before .pre .nodes, c .moles-at .ensures)
+mul-floats c =
+    let pre = c .before .before .before .before .before .before .before .pre in
+    omega (arith, pre .sizes .turfs, pre .sizes .links, pre .zones, pre .nodes, c .moles-at .ensures)
 
 slice-write-floats : tie.Need-slice-write-floats
 slice-write-floats c = omega (arith, c .moles-at .ensures, c .before .before .before .before .before .before .before .pre .floats, c .before .before .before .before .before .before .before .pre .zones)

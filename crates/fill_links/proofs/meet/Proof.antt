@@ -22,7 +22,9 @@ element-copy-out-is-immutable-2 : tie.Need-element-copy-out-is-immutable-2
 element-copy-out-is-immutable-2 c = search needs
 
 is-immutable-requires : tie.Need-is-immutable-requires
-is-immutable-requires c κs = (rw (c .before .before .before .before .before .pre .0 .mixtures) (c .before .before .before .before .before .pre .1 .0), c .before .before .before .before .before .pre .0 .mixed _ (c .before .before .before .before .before .pre .1 .0))
+is-immutable-requires c κs =
+    let pre = c .before .before .before .before .before .pre in
+    (rw (pre .0 .mixtures) (pre .1 .0), pre .0 .mixed _ (pre .1 .0))
 
 element-copy-out-across-firelock : tie.Need-element-copy-out-across-firelock
 element-copy-out-across-firelock c = search needs
@@ -31,7 +33,9 @@ element-copy-out-across-firelock-2 : tie.Need-element-copy-out-across-firelock-2
 element-copy-out-across-firelock-2 c = search needs
 
 across-firelock-requires : tie.Need-across-firelock-requires
-across-firelock-requires c κs = (rw (c .before .before .before .before .before .before .before .before .pre .0 .planetary) (c .before .before .before .before .before .before .before .before .pre .1 .0), rw (c .before .before .before .before .before .before .before .before .pre .0 .linkFlags) (c .before .before .before .before .before .before .before .before .pre .1 .1))
+across-firelock-requires c κs =
+    let pre = c .before .before .before .before .before .before .before .before .pre in
+    (rw (pre .0 .planetary) (pre .1 .0), rw (pre .0 .linkFlags) (pre .1 .1))
 
 returns : tie.Need-returns
 unfolding enabled planetary firelock

@@ -56,7 +56,9 @@ returns-2 c = λ q et.
     is-off (boardAt (entry .args .rows) (entry .args .marks) (entry .args .gases)) _ q _ _ (sym mark ∙ by-if1 .left) (sym (c .before .enabled .ensures) ∙ not-true _ (c .if2 .taken))
 
 unshareable-requires : tie.Need-unshareable-requires
-unshareable-requires c κs = (c .before .before .before .before .before .before .before .before .before .before .before .pre .0, (c .before .before .before .before .before .before .before .before .before .before .before .pre .1 .0, c .before .before .before .before .before .before .before .before .before .before .before .pre .1 .1 .row))
+unshareable-requires c κs =
+    let pre = c .before .before .before .before .before .before .before .before .before .before .before .pre in
+    (pre .0, (pre .1 .0, pre .1 .1 .row))
 
 returns-3 : tie.Need-returns-3
 returns-3 c = λ q et.

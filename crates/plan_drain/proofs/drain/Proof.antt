@@ -33,7 +33,9 @@ sub-i : tie.Need-sub-i Inv-loop μ-loop
 sub-i c = omega arith
 
 add-drain-turf : tie.Need-add-drain-turf Inv-loop μ-loop
-add-drain-turf c = omega (arith, c .before .before .queue-at .ensures, c .before .before .before .before .before .pre .0 .links, c .before .before .before .before .before .pre .0 .turfs, c .before .before .before .before .before .pre .1 .1 .0, c .before .loop .inv .0, c .loop-test .taken)
+add-drain-turf c =
+    let pre = c .before .before .before .before .before .pre in
+    omega (arith, c .before .before .queue-at .ensures, pre .0 .links, pre .0 .turfs, pre .1 .1 .0, c .before .loop .inv .0, c .loop-test .taken)
 
 mul-drain-turf : tie.Need-mul-drain-turf Inv-loop μ-loop
 mul-drain-turf c = omega (arith, c .before .before .queue-at .ensures, c .before .before .before .before .before .pre .0 .words, c .before .before .before .before .before .pre .1 .1 .0, c .before .loop .inv .0, c .before .before .before .before .before .good, c .loop-test .taken)

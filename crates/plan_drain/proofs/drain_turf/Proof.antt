@@ -15,10 +15,14 @@ cast-direction : tie.Need-cast-direction
 cast-direction c = search needs
 
 via-at-requires : tie.Need-via-at-requires
-via-at-requires c κs = (omega (arith, c .before .before .before .before .before .before .before .pre .0 .turfs, c .before .before .before .before .before .before .before .pre .1 .1 .0), c .before .before .before .before .before .before .before .pre .0 .links)
+via-at-requires c κs =
+    let pre = c .before .before .before .before .before .before .before .pre in
+    (omega (arith, pre .0 .turfs, pre .1 .1 .0), pre .0 .links)
 
 mul-k : tie.Need-mul-k
-mul-k c = omega (arith, c .via-at .ensures, c .before .before .before .before .before .before .before .before .pre .0 .turfs, c .before .before .before .before .before .before .before .before .pre .0 .links, c .before .before .before .before .before .before .before .before .pre .1 .1 .0)
+mul-k c =
+    let pre = c .before .before .before .before .before .before .before .before .pre in
+    omega (arith, c .via-at .ensures, pre .0 .turfs, pre .0 .links, pre .1 .1 .0)
 
 shared-slice-read-k : tie.Need-shared-slice-read-k
 shared-slice-read-k c = omega (arith, c .before .via-at .ensures, c .before .before .before .before .before .before .before .before .before .pre .0 .words, c .before .before .before .before .before .before .before .before .before .pre .1 .1 .0)

@@ -29,7 +29,9 @@ mul-if2 : tie.Need-mul-if2
 mul-if2 c = omega (arith, ap (λ (i : ℕ). getD (c .before .before .before .before .args .words .now) i 0) (c .before .before .reverse-at .ensures), c .before .before .before .before .pre .1 .1 .0, c .before .before .before .before .pre .1 .1 .1 .1)
 
 shared-slice-read-if2 : tie.Need-shared-slice-read-if2
-shared-slice-read-if2 c = omega (arith, ap (λ (i : ℕ). getD (c .before .before .before .before .before .args .words .now) i 0) (c .before .before .before .reverse-at .ensures), c .before .if1 .left, c .before .before .before .before .before .pre .0, c .before .before .before .before .before .pre .1 .0, c .before .before .before .before .before .pre .1 .1 .0)
+shared-slice-read-if2 c =
+    let pre = c .before .before .before .before .before .pre in
+    omega (arith, ap (λ (i : ℕ). getD (c .before .before .before .before .before .args .words .now) i 0) (c .before .before .before .reverse-at .ensures), c .before .if1 .left, pre .0, pre .1 .0, pre .1 .1 .0)
 
 add-if2 : tie.Need-add-if2
 add-if2 c = omega (arith, c .before .before .before .before .before .pre .1 .1 .1 .0)

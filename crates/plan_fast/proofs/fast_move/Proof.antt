@@ -13,10 +13,14 @@ adjust-eq-movement-requires c κs =
     (found-more _ _ (entry .args .there) (omega (arith, entry .pre .0 .floats)) (entry .pre .1 .1 .1 .0), found-more _ _ (entry .args .back) (omega (arith, entry .pre .0 .floats)) (entry .pre .1 .1 .1 .1))
 
 delta-at-requires : tie.Need-delta-at-requires
-delta-at-requires c κs = (omega (arith, c .before .before .before .before .before .before .pre .0 .turfs, c .before .before .before .before .before .before .pre .1 .0), c .before .before .before .before .before .before .pre .0 .links)
+delta-at-requires c κs =
+    let pre = c .before .before .before .before .before .before .pre in
+    (omega (arith, pre .0 .turfs, pre .1 .0), pre .0 .links)
 
 delta-at-requires-2 : tie.Need-delta-at-requires-2
-delta-at-requires-2 c κs = (omega (arith, c .before .before .before .before .before .before .before .pre .0 .turfs, c .before .before .before .before .before .before .before .pre .1 .1 .0), c .before .before .before .before .before .before .before .pre .0 .links)
+delta-at-requires-2 c κs =
+    let pre = c .before .before .before .before .before .before .before .pre in
+    (omega (arith, pre .0 .turfs, pre .1 .1 .0), pre .0 .links)
 
 mul-floats : tie.Need-mul-floats
 mul-floats c = omega (arith, c .before .delta-at .ensures, c .before .before .before .before .before .before .before .before .pre .0, c .before .before .before .before .before .before .before .before .pre .1 .0)

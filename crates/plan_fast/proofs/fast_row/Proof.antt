@@ -44,10 +44,11 @@ loop-less : tie.Need-loop-less Inv-loop μ-loop
 loop-less c = omega (arith, c .before .before .before .before .loop-test .taken)
 
 loop-again : tie.Need-loop-again Inv-loop μ-loop
-loop-again c = (
-  (omega (arith, c .before .before .before .before .before .loop .inv .0 .0), (omega (arith, c .before .before .before .before .loop-test .taken), c .before .before .fast-link .kept .1 .1 .1 .1 .0 ∙ c .before .before .before .before .before .loop .inv .0 .1 .1)),
-  onto-next _ _ (c .before .before .before .before .before .loop .inv .1) (fast-same _ _ _ _ _ _ _ _ _ _ (c .before .before .fast-link .ensures)) (λ o p. run-up _ _ _ _ (c .before .before .before .before .loop-test .taken)),
-)
+loop-again c =
+    let loop = c .before .before .before .before .before .loop in (
+      (omega (arith, loop .inv .0 .0), (omega (arith, c .before .before .before .before .loop-test .taken), c .before .before .fast-link .kept .1 .1 .1 .1 .0 ∙ loop .inv .0 .1 .1)),
+      onto-next _ _ (loop .inv .1) (fast-same _ _ _ _ _ _ _ _ _ _ (c .before .before .fast-link .ensures)) (λ o p. run-up _ _ _ _ (c .before .before .before .before .loop-test .taken)),
+    )
 
 same-length : tie.Need-same-length Inv-loop μ-loop
 same-length c = c .before .loop .inv .0 .1 .1

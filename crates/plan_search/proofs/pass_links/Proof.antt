@@ -32,7 +32,9 @@ same-length-2 : tie.Need-same-length-2 Inv-loop μ-loop
 same-length-2 c = c .before .before .before .before .before .pass-link .kept .1 .1 .1 .1 .1 .1 .0 ∙ c .before .before .before .before .before .before .before .before .before .loop .inv .0 .1 .1 .1
 
 returns : tie.Need-returns Inv-loop μ-loop
-returns c = (c .before .before .before .before .before .before .before .before .before .loop .inv .0 .0, (c .before .before .before .before .before .before .before .before .before .loop .inv .0 .1 .0, passes-still (c .before .before .before .before .before .before .before .before .before .loop .inv .1) (c .before .before .before .before .before .pass-link .ensures .0 (c .if1 .taken))))
+returns c =
+    let loop = c .before .before .before .before .before .before .before .before .before .loop in
+    (loop .inv .0 .0, (loop .inv .0 .1 .0, passes-still (loop .inv .1) (c .before .before .before .before .before .pass-link .ensures .0 (c .if1 .taken))))
 
 add-k : tie.Need-add-k Inv-loop μ-loop
 add-k c = omega (arith, c .before .before .before .before .before .before .before .before .loop-test .taken, c .before .before .before .before .before .before .before .before .before .before .before .before .before .pre .1 .0 .within, c .before .before .before .before .before .before .before .before .before .before .before .before .before .pre .0 .seeking .fit .links)

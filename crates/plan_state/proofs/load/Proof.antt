@@ -32,7 +32,9 @@ shared-slice-read-t17 : tie.Need-shared-slice-read-t17
 shared-slice-read-t17 c = omega (arith, c .before .direction-at .ensures, c .before .before .before .before .before .before .before .before .pre)
 
 fast-at-requires : tie.Need-fast-at-requires
-fast-at-requires c κs = (omega (arith, c .before .before .before .before .before .before .before .before .pre), record { turfs = c .before .before .before .before .before .before .before .before .pre .0 .turfs; links = c .before .before .before .before .before .before .before .before .pre .0 .links })
+fast-at-requires c κs =
+    let pre = c .before .before .before .before .before .before .before .before .pre in
+    (omega (arith, pre), record { turfs = pre .0 .turfs; links = pre .0 .links })
 
 mul-t19 : tie.Need-mul-t19
 mul-t19 c = omega (arith, c .fast-at .ensures, c .before .before .before .before .before .before .before .before .before .pre)

@@ -34,7 +34,9 @@ slice-write-words : tie.Need-slice-write-words
 slice-write-words c = (omega (arith, c .direction-at .ensures, c .before .before .before .before .before .pre))
 
 fast-at-requires : tie.Need-fast-at-requires
-fast-at-requires c κs = (omega (arith, c .before .before .before .before .before .pre), record { turfs = c .before .before .before .before .before .pre .0 .turfs; links = c .before .before .before .before .before .pre .0 .links })
+fast-at-requires c κs =
+    let pre = c .before .before .before .before .before .pre in
+    (omega (arith, pre), record { turfs = pre .0 .turfs; links = pre .0 .links })
 
 mul-words-2 : tie.Need-mul-words-2
 mul-words-2 c = omega (arith, c .fast-at .ensures, c .before .before .before .before .before .before .pre)

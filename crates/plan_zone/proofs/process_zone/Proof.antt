@@ -12,14 +12,15 @@ all-deltas-requires c κs = search needs
 
 fast-pass-requires : tie.Need-fast-pass-requires
 fast-pass-requires c κs =
+    let deltas = c .before .before .before .before .before .before .all-deltas in
     let entry = c .before .before .before .before .before .before .before .before .before .before .before .before in (
       record {
         sized = entry .pre .1 .0 .sized;
-        fit = c .before .before .before .before .before .before .all-deltas .ensures .fit;
+        fit = deltas .ensures .fit;
         zone = entry .pre .1 .0 .zone;
-        reverses = reverses-kept (entry .pre .1 .0 .reverses) (does-frame (c .before .before .before .before .before .before .all-deltas .ensures));
+        reverses = reverses-kept (entry .pre .1 .0 .reverses) (does-frame (deltas .ensures));
       },
-      nodes-kept (entry .pre .1 .1) (does-frame (c .before .before .before .before .before .before .all-deltas .ensures)) (c .before .before .before .before .before .before .all-deltas .kept .1 .1 .1 .1 .1 .0),
+      nodes-kept (entry .pre .1 .1) (does-frame (deltas .ensures)) (deltas .kept .1 .1 .1 .1 .1 .0),
     )
 
 share-out-requires : tie.Need-share-out-requires

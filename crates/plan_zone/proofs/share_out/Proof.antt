@@ -21,14 +21,15 @@ gather-requires c κs = search needs
 
 serve-all-requires : tie.Need-serve-all-requires
 serve-all-requires c κs =
+    let gather = c .before .before .before .before .gather in
     let entry = c .before .before .before .before .before .before .before .before .before .before .before .before .before in (
       record {
         sized = entry .pre .0 .sized;
-        fit = c .before .before .before .before .gather .ensures .fit;
+        fit = gather .ensures .fit;
         zone = entry .pre .0 .zone;
-        reverses = reverses-kept (entry .pre .0 .reverses) (c .before .before .before .before .gather .ensures .frame);
+        reverses = reverses-kept (entry .pre .0 .reverses) (gather .ensures .frame);
       },
-      (c .before .before .before .before .gather .ensures .few, chosen-below _ _ (entry .pre .1) (c .before .before .before .before .gather .ensures)),
+      (gather .ensures .few, chosen-below _ _ (entry .pre .1) (gather .ensures)),
     )
 
 same-length : tie.Need-same-length

@@ -32,24 +32,34 @@ returns c = let entry = c .before .before .before .before .before .before in (
 )
 
 mul-a : tie.Need-mul-a
-mul-a c = omega (arith, link-below (c .before .before .before .before .before .before .pre .0 .linked) _ _ (c .before .before .before .before .before .before .pre .1 .0 .row) (c .before .before .before .before .before .before .pre .1 .0 .link), c .before .before .before .before .before .before .pre .0)
+mul-a c =
+    let pre = c .before .before .before .before .before .before .pre in
+    omega (arith, link-below (pre .0 .linked) _ _ (pre .1 .0 .row) (pre .1 .0 .link), pre .0)
 
 shared-slice-read-a : tie.Need-shared-slice-read-a
-shared-slice-read-a c = link-below (c .before .before .before .before .before .before .before .pre .0 .linked) _ _ (c .before .before .before .before .before .before .before .pre .1 .0 .row) (c .before .before .before .before .before .before .before .pre .1 .0 .link)
+shared-slice-read-a c =
+    let pre = c .before .before .before .before .before .before .before .pre in
+    link-below (pre .0 .linked) _ _ (pre .1 .0 .row) (pre .1 .0 .link)
 
 cast-a : tie.Need-cast-a
-cast-a c = omega (arith, end-below (c .before .before .before .before .before .before .before .pre .0 .linked) _ _ (c .before .before .before .before .before .before .before .pre .1 .0 .row) (c .before .before .before .before .before .before .before .pre .1 .0 .link), c .before .before .before .before .before .before .before .pre .0)
+cast-a c =
+    let pre = c .before .before .before .before .before .before .before .pre in
+    omega (arith, end-below (pre .0 .linked) _ _ (pre .1 .0 .row) (pre .1 .0 .link), pre .0)
 
 mul-from : tie.Need-mul-from
-mul-from c = omega (arith, end-below (c .before .before .before .before .before .before .before .pre .0 .linked) _ _ (c .before .before .before .before .before .before .before .pre .1 .0 .row) (c .before .before .before .before .before .before .before .pre .1 .0 .link), c .before .before .before .before .before .before .before .pre .0)
+mul-from c =
+    let pre = c .before .before .before .before .before .before .before .pre in
+    omega (arith, end-below (pre .0 .linked) _ _ (pre .1 .0 .row) (pre .1 .0 .link), pre .0)
 
 shared-slice-read-from : tie.Need-shared-slice-read-from
-shared-slice-read-from c = omega (
-  arith,
-  end-below (c .before .before .before .before .before .before .before .before .pre .0 .linked) _ _ (c .before .before .before .before .before .before .before .before .pre .1 .0 .row)
-      (c .before .before .before .before .before .before .before .before .pre .1 .0 .link),
-  c .before .before .before .before .before .before .before .before .pre .0 .linked .starts-n,
-)
+shared-slice-read-from c =
+    let pre = c .before .before .before .before .before .before .before .before .pre in
+    omega (
+      arith,
+      end-below (pre .0 .linked) _ _ (pre .1 .0 .row)
+          (pre .1 .0 .link),
+      pre .0 .linked .starts-n,
+    )
 
 cast-from : tie.Need-cast-from
 cast-from c =
@@ -64,18 +74,24 @@ cast-from c =
     )
 
 add-to : tie.Need-add-to
-add-to c = omega (arith, end-below (c .before .before .before .before .before .before .before .before .pre .0 .linked) _ _ (c .before .before .before .before .before .before .before .before .pre .1 .0 .row) (c .before .before .before .before .before .before .before .before .pre .1 .0 .link), c .before .before .before .before .before .before .before .before .pre .0)
+add-to c =
+    let pre = c .before .before .before .before .before .before .before .before .pre in
+    omega (arith, end-below (pre .0 .linked) _ _ (pre .1 .0 .row) (pre .1 .0 .link), pre .0)
 
 mul-to : tie.Need-mul-to
-mul-to c = omega (arith, end-below (c .before .before .before .before .before .before .before .before .pre .0 .linked) _ _ (c .before .before .before .before .before .before .before .before .pre .1 .0 .row) (c .before .before .before .before .before .before .before .before .pre .1 .0 .link), c .before .before .before .before .before .before .before .before .pre .0)
+mul-to c =
+    let pre = c .before .before .before .before .before .before .before .before .pre in
+    omega (arith, end-below (pre .0 .linked) _ _ (pre .1 .0 .row) (pre .1 .0 .link), pre .0)
 
 shared-slice-read-to : tie.Need-shared-slice-read-to
-shared-slice-read-to c = omega (
-  arith,
-  end-below (c .before .before .before .before .before .before .before .before .before .pre .0 .linked) _ _ (c .before .before .before .before .before .before .before .before .before .pre .1 .0 .row)
-      (c .before .before .before .before .before .before .before .before .before .pre .1 .0 .link),
-  c .before .before .before .before .before .before .before .before .before .pre .0 .linked .starts-n,
-)
+shared-slice-read-to c =
+    let pre = c .before .before .before .before .before .before .before .before .before .pre in
+    omega (
+      arith,
+      end-below (pre .0 .linked) _ _ (pre .1 .0 .row)
+          (pre .1 .0 .link),
+      pre .0 .linked .starts-n,
+    )
 
 cast-to : tie.Need-cast-to
 cast-to c =

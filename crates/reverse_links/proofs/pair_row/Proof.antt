@@ -35,10 +35,14 @@ shared-slice-read-to : tie.Need-shared-slice-read-to Inv-loop μ-loop
 shared-slice-read-to c = omega (arith, c .before .before .before .before .before .pre .1 .0, c .before .before .before .before .before .pre .0 .linked .starts-n)
 
 cast-to : tie.Need-cast-to Inv-loop μ-loop
-cast-to c = omega (arith, c .before .before .before .before .before .pre .0 .linked .within _ (c .before .before .before .before .before .pre .1 .0), c .before .before .before .before .before .pre .0)
+cast-to c =
+    let pre = c .before .before .before .before .before .pre in
+    omega (arith, pre .0 .linked .within _ (pre .1 .0), pre .0)
 
 loop-holds : tie.Need-loop-holds Inv-loop μ-loop
-loop-holds c = ((omega arith, c .before .before .before .before .before .pre .0 .linked .rise _ (c .before .before .before .before .before .pre .1 .0)), (but-none, c .before .before .before .before .before .pre .1 .1))
+loop-holds c =
+    let pre = c .before .before .before .before .before .pre in
+    ((omega arith, pre .0 .linked .rise _ (pre .1 .0)), (but-none, pre .1 .1))
 
 cast-pair : tie.Need-cast-pair Inv-loop μ-loop
 cast-pair c = omega (arith, c .before .before .before .before .before .before .before .pre .1 .0, c .before .before .before .before .before .before .before .pre .0)
@@ -54,13 +58,15 @@ pair-requires c κs =
     )
 
 add-k : tie.Need-add-k Inv-loop μ-loop
-add-k c = omega (
-  arith,
-  c .before .before .before .before .loop-test .taken,
-  c .before .before .before .before .before .before .before .before .before .before .before .pre .0 .linked .within _
-      (c .before .before .before .before .before .before .before .before .before .before .before .pre .1 .0),
-  c .before .before .before .before .before .before .before .before .before .before .before .pre .0,
-)
+add-k c =
+    let pre = c .before .before .before .before .before .before .before .before .before .before .before .pre in
+    omega (
+      arith,
+      c .before .before .before .before .loop-test .taken,
+      pre .0 .linked .within _
+          (pre .1 .0),
+      pre .0,
+    )
 
 loop-less : tie.Need-loop-less Inv-loop μ-loop
 loop-less c = omega (arith, c .before .before .before .before .loop-test .taken)

@@ -26,12 +26,13 @@ further-requires-2 c κs = search needs
 
 returns : tie.Need-returns
 returns c =
+    let asked = c .before .before .before .before .before .asked-at in
     let ns = c .before .before .before .before .before .before .before .args .numbers .now in
     record {
       gases = c .before .before .before .before .gases-of .ensures;
-      id = c .before .before .before .number-at .ensures ∙ ap (number ns) (c .before .before .before .before .before .asked-at .ensures);
-      limit = c .before .number-at2 .ensures ∙ ap (number ns) (c .before .before .further .ensures .0 ∙ ap (λ (x : ℕ). onward x 1) (c .before .before .before .before .before .asked-at .ensures));
-      due = c .further2 .ensures .0 ∙ ap (λ (x : ℕ). onward x 2) (c .before .before .before .before .before .asked-at .ensures);
+      id = c .before .before .before .number-at .ensures ∙ ap (number ns) (asked .ensures);
+      limit = c .before .number-at2 .ensures ∙ ap (number ns) (c .before .before .further .ensures .0 ∙ ap (λ (x : ℕ). onward x 1) (asked .ensures));
+      due = c .further2 .ensures .0 ∙ ap (λ (x : ℕ). onward x 2) (asked .ensures);
     }
 
 pub walk-of-spec : {M : Type 1} → statement M
