@@ -81,3 +81,10 @@ module _ (b : Board) (zs : List Zone) where
 pub record ApartTells (b : Board) (zones first base at : ℕ) (r : Bool) (w w′ : List ℕ) : Type 0 where
   pub words : But at (at + mixtureCount b) w w′
   pub answer : (zs : List Zone) → length zs ≡ zones → ZonesStand first base zs w → r ≡ apart b zs
+
+-- what a pass over the nodes of one zone is asked, which stand from one place up to another
+pub record ZonePassFits (b : Board) (zone from to at : ℕ) (w : List ℕ) : Type 0 where
+  pub pass : PassFits b at w
+  pub before : to ≤ at
+  pub number : zone < 4096
+  pub rows : (j : ℕ) → from ≤ j → j < to → getD w j 0 < turfCount b

@@ -7,14 +7,14 @@ use turfs::NEIGHBOURS;
 use turfs::Rows;
 ghost use mathlib.Core.Path.{_≡_};
 ghost use mathlib.Core.List.{List};
-ghost use Prim.Native.Nat.{ℕ, _+_, _≤_, _<_};
+ghost use Prim.Native.Nat.{ℕ, _+_, _<_};
 ghost use lib.ListN.{getD};
 ghost use Rattle.rules_board.specs.Board.{turfCount, linkCount, mixtureCount, mixOf, immutableMix};
 ghost use Rattle.turfs.specs.Tables.{boardAt};
 ghost use Rattle.reverse_links.specs.Words.{But};
 ghost use Rattle.scratch.specs.Layout.{startsAt, zoneNodesAt, marksAt};
 ghost use Rattle.rules_finish.specs.Turns.{Zone};
-ghost use Rattle.apart.specs.Marks.{Marked, ZonesLaid, PassFits, ApartFits, Passed, ApartTells};
+ghost use Rattle.apart.specs.Marks.{Marked, ZonesLaid, PassFits, ApartFits, Passed, ApartTells, ZonePassFits};
 
 // A node of the zone: its mixture is marked with it, unless it is immutable or marked already. False: another zone has it.
 fn node_apart(
@@ -55,10 +55,7 @@ fn zone_apart(
     marks: &Marks,
     words: &mut [u32],
 ) -> bool
-    requires { ⌜ PassFits (boardAt rows marks 0) at (now words) ⌝ }
-    requires { ⌜ to ≤ at ⌝ }
-    requires { ⌜ zone < 4096 ⌝ }
-    requires { ⌜ ((j : ℕ) → from ≤ j → j < to → getD (now words) j 0 < turfCount (boardAt rows marks 0)) ⌝ }
+    requires { ⌜ ZonePassFits (boardAt rows marks 0) zone from to at (now words) ⌝ }
     ensures { λ r. ⌜ But at (at + mixtureCount (boardAt (rows .entry) (marks .entry) 0)) (now (words .entry)) (now (words .exit)) ⌝ }
     ensures { λ r. ⌜ ((zs : List Zone) → Passed (boardAt (rows .entry) (marks .entry) 0) zs zone from to at r (now (words .entry)) (now (words .exit))) ⌝ }
 {

@@ -91,3 +91,11 @@ pub record PlansAll (n e zones : ℕ) (b : Board) (gas : List Float) (w w′ : L
   pub floats : (length f′ ≡ length f) × (drop (liftedAt n e) f′ ≡ drop (liftedAt n e) f)
   pub reverses : Reverses b n (reverseIn e w′)
   pub plan : planView n e (area w′ f′) .plan ≡ planAll b gas (filledOf n e zones w f)
+
+-- what planning the zone z is asked
+pub record ZoneAtFits (b : Board) (z : ℕ) (gas : List Float) (a : Area) : Type 0 where
+  pub tables : Plannable b gas
+  pub room : PlanRoom (turfCount b) (linkCount b) (a .words) (a .floats)
+  pub zone : z < turfCount b
+  pub reverses : Reverses b (turfCount b) (planView (turfCount b) (linkCount b) a .reverse)
+  pub ready : ZoneReady (turfCount b) (linkCount b) z (a .words) (a .floats)

@@ -7,7 +7,7 @@ ghost use Rattle.rules_plan.specs.Plan.{planZone};
 ghost use Rattle.reverse_links.specs.Reverse.{Reverses};
 ghost use Rattle.plan_state.specs.Held.{areaAt, planView, PlanFits};
 ghost use Rattle.plan_zone.specs.Zone.{Plans};
-ghost use Rattle.plan_all.specs.Zones.{zoneHeld, Plannable, PlanRoom, ZoneReady, Zoned, Blanks, planZones, PlansAll};
+ghost use Rattle.plan_all.specs.Zones.{zoneHeld, Plannable, Zoned, Blanks, planZones, PlansAll, ZoneAtFits};
 use plan_state::ZoneAt;
 use turfs::IDS;
 use turfs::Marks;
@@ -38,11 +38,7 @@ fn plan_zone_at(
     words: &mut [u32],
     floats: &mut [f32],
 )
-    requires { ⌜ Plannable (boardAt rows marks gases) (now gas) ⌝ }
-    requires { let b = boardAt rows marks gases in ⌜ PlanRoom (turfCount b) (linkCount b) (now words) (now floats) ⌝ }
-    requires { ⌜ z < turfCount (boardAt rows marks gases) ⌝ }
-    requires { let b = boardAt rows marks gases in ⌜ Reverses b (turfCount b) (planView (turfCount b) (linkCount b) (areaAt words floats) .reverse) ⌝ }
-    requires { let b = boardAt rows marks gases in ⌜ ZoneReady (turfCount b) (linkCount b) z (now words) (now floats) ⌝ }
+    requires { ⌜ ZoneAtFits (boardAt rows marks gases) z (now gas) (areaAt words floats) ⌝ }
     ensures { λ _. let b = boardAt (rows .entry) (marks .entry) gases in let a = areaAt (words .entry) (floats .entry) in ⌜ Plans (turfCount b) (linkCount b) (λ o p. planZone b o z (now (gas .entry)) (zoneHeld b a z .nodes) (zoneHeld b a z .moles) p) a (areaAt (words .exit) (floats .exit)) ⌝ }
 {
     let ids = rows[IDS];

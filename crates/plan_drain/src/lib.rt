@@ -1,12 +1,11 @@
 // The way back of a search: each turf hands its amount on to the turf from which it was met.
 ghost use mathlib.Core.List.{reverse};
-ghost use Prim.Native.Nat.{_-_, _≤_, _<_};
+ghost use Prim.Native.Nat.{_-_};
 ghost use lib.ListN.{take, drop};
-ghost use Rattle.basics.specs.Lists.{Found};
 ghost use Rattle.basics.specs.Loops.{run};
-ghost use Rattle.plan_state.specs.Held.{areaAt, planView, PlanFits, PlanDoes};
-ghost use Rattle.plan_trade.specs.Search.{Within, AllWithin};
+ghost use Rattle.plan_state.specs.Held.{areaAt, planView, PlanDoes, EdgeMoveFits};
 ghost use Rattle.plan_trade.specs.Steps.{handOn, drainVia};
+ghost use Rattle.plan_drain.specs.Drain.{DrainTurfFits, DrainFits};
 use basics::Spot;
 use plan_edges::adjust_eq_movement;
 use plan_edges::back_link;
@@ -23,11 +22,7 @@ fn hand_on(
     words: &[u32],
     floats: &mut [f32],
 )
-    requires { ⌜ PlanFits n e (areaAt words floats) ⌝ }
-    requires { ⌜ r < n ⌝ }
-    requires { ⌜ d < n ⌝ }
-    requires { ⌜ Found (λ k. k < e) there ⌝ }
-    requires { ⌜ Found (λ k. k < e) back ⌝ }
+    requires { ⌜ EdgeMoveFits n e r d there back (areaAt words floats) ⌝ }
     ensures { λ _. ⌜ PlanDoes n e (λ o p. handOn there back r d p) (areaAt (words .entry) (floats .entry)) (areaAt (words .exit) (floats .exit)) ⌝ }
 {
     let from = scratch::amount_at(r, e);
@@ -40,10 +35,7 @@ fn hand_on(
 
 // The turf r of the queue, on the way back.
 fn drain_turf(r: u32, z: u32, n: usize, e: usize, words: &[u32], floats: &mut [f32])
-    requires { ⌜ PlanFits n e (areaAt words floats) ⌝ }
-    requires { ⌜ z < 4096 ⌝ }
-    requires { ⌜ r < n ⌝ }
-    requires { ⌜ Within n e (planView n e (areaAt words floats)) r ⌝ }
+    requires { ⌜ DrainTurfFits r z n e (areaAt words floats) ⌝ }
     ensures { λ _. let v = planView n e (areaAt (words .entry) (floats .entry)) in ⌜ PlanDoes n e (λ o p. drainVia (v .reverse) (v .via) z o r p) (areaAt (words .entry) (floats .entry)) (areaAt (words .exit) (floats .exit)) ⌝ }
 {
     let row = r as usize;
@@ -61,10 +53,7 @@ fn drain_turf(r: u32, z: u32, n: usize, e: usize, words: &[u32], floats: &mut [f
 
 // The rows of the queue from the place `to` back to the place `from`.
 pub fn drain(from: usize, to: usize, z: u32, n: usize, e: usize, words: &[u32], floats: &mut [f32])
-    requires { ⌜ PlanFits n e (areaAt words floats) ⌝ }
-    requires { ⌜ z < 4096 ⌝ }
-    requires { ⌜ to ≤ n ⌝ }
-    requires { ⌜ AllWithin n e (planView n e (areaAt words floats)) to ⌝ }
+    requires { ⌜ DrainFits to z n e (areaAt words floats) ⌝ }
     ensures { λ _. let v = planView n e (areaAt (words .entry) (floats .entry)) in ⌜ PlanDoes n e (λ o p. run (drainVia (v .reverse) (v .via) z o) (reverse (take (to - from) (drop from (v .queue)))) p) (areaAt (words .entry) (floats .entry)) (areaAt (words .exit) (floats .exit)) ⌝ }
 {
     let queue = scratch::queue_at(n, e);

@@ -1,22 +1,17 @@
 // The edges of a zone, by link: the reverse of a link, and what an edge gains and its reverse loses.
 ghost use mathlib.Core.Path.{_≡_};
-ghost use Prim.Native.Nat.{_≤_, _<_};
-ghost use lib.ListN.{length, getD};
+ghost use Prim.Native.Nat.{_<_};
+ghost use lib.ListN.{length};
 ghost use Rattle.basics.specs.Lists.{Found};
 ghost use Rattle.basics.specs.Floats.{_+f_, _-f_};
-ghost use Rattle.scratch.specs.Layout.{reverseAt};
 ghost use Rattle.scratch.specs.View.{ownerIn, reverseIn};
 ghost use Rattle.rules_plan.specs.Edges.{alter};
-ghost use Rattle.plan_edges.specs.Steps.{backLink, adjustAt};
+ghost use Rattle.plan_edges.specs.Steps.{backLink, adjustAt, BackLinkFits};
 use basics::Spot;
 
 // The reverse of the link k, where zone z owns it.
 pub fn back_link(k: usize, z: u32, e: usize, words: &[u32]) -> Spot
-    requires { ⌜ reverseAt e e ≤ length (now words) ⌝ }
-    requires { ⌜ k < e ⌝ }
-    requires { ⌜ getD (now words) (reverseAt k e) 0 ≤ e ⌝ }
-    requires { ⌜ z < 4096 ⌝ }
-    requires { ⌜ e ≤ 24576 ⌝ }
+    requires { ⌜ BackLinkFits k z e (now words) ⌝ }
     ensures { λ r. ⌜ r ≡ backLink (reverseIn e (now (words .entry))) (ownerIn e (now (words .entry))) z k ⌝ }
 {
     let p = words[scratch::reverse_at(k, e)] as usize;

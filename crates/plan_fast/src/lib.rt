@@ -1,15 +1,14 @@
 // `monstermos_fast_process`: the fast pass over the nodes of a zone.
 ghost use mathlib.Core.Path.{_≡_};
-ghost use Prim.Native.Nat.{ℕ, _+_, _-_, _≤_, _<_};
-ghost use lib.ListN.{length, getD};
-ghost use Rattle.basics.specs.Lists.{Found};
+ghost use Prim.Native.Nat.{_+_, _-_, _<_};
+ghost use lib.ListN.{getD};
 ghost use Rattle.basics.specs.Loops.{run, upFrom};
-ghost use Rattle.scratch.specs.Layout.{Sizes, queueAt};
 ghost use Rattle.scratch.specs.View.{ownerIn, fastIn};
 ghost use Rattle.turfs.specs.Tables.{boardAt};
 ghost use Rattle.rules_plan.specs.Plan.{fastTurf};
-ghost use Rattle.plan_state.specs.Held.{areaAt, planView, PlanFits, Ends, Planning, PlanDoes, Nodes, nodesInHand};
+ghost use Rattle.plan_state.specs.Held.{areaAt, planView, Planning, PlanDoes, Nodes, nodesInHand, EdgeMoveFits};
 ghost use Rattle.plan_fast.specs.Steps.{tallyStep, moveAt, shareOver};
+ghost use Rattle.plan_fast.specs.Fits.{TallyFits, EligibleFits, FastLinkFits, FastRowFits};
 use basics::Spot;
 use plan_edges::adjust_eq_movement;
 use plan_edges::back_link;
@@ -24,12 +23,7 @@ use turfs::STARTS;
 
 // Counts the link k, which ends at the row a, if it is the zone's and that turf has no fast mark.
 fn tally(k: usize, a: u32, z: u32, n: usize, e: usize, c: u16, words: &[u32]) -> u16
-    requires { ⌜ queueAt n e ≤ length (now words) ⌝ }
-    requires { ⌜ k < e ⌝ }
-    requires { ⌜ a < n ⌝ }
-    requires { ⌜ z < 4096 ⌝ }
-    requires { ⌜ c < 24576 ⌝ }
-    requires { ⌜ Sizes n e ⌝ }
+    requires { ⌜ TallyFits k a z n e c (now words) ⌝ }
     ensures { λ r. ⌜ r ≡ tallyStep (ownerIn e (now (words .entry))) (fastIn n e (now (words .entry))) z k a c ⌝ }
 {
     if words[k] != z + 1 {
@@ -51,13 +45,7 @@ fn count_eligible(
     neighbours: &[u32],
     words: &[u32],
 ) -> u16
-    requires { ⌜ queueAt n e ≤ length (now words) ⌝ }
-    requires { ⌜ z < 4096 ⌝ }
-    requires { ⌜ Sizes n e ⌝ }
-    requires { ⌜ from ≤ to ⌝ }
-    requires { ⌜ to ≤ e ⌝ }
-    requires { ⌜ length (now neighbours) ≡ e ⌝ }
-    requires { ⌜ ((k : ℕ) → k < e → getD (now neighbours) k 0 < n) ⌝ }
+    requires { ⌜ EligibleFits from to z n e (now neighbours) (now words) ⌝ }
     ensures { λ r. let w = now (words .entry) in ⌜ r ≡ run (λ k c. tallyStep (ownerIn e w) (fastIn n e w) z k (getD (now (neighbours .entry)) k 0) c) (upFrom from (to - from)) 0 ⌝ }
 {
     let mut c = 0;
@@ -80,11 +68,7 @@ pub struct Share {
 
 // The share moves to the neighbour a, over the edges at hand.
 fn fast_move(share: Share, there: Spot, back: Spot, a: usize, words: &[u32], floats: &mut [f32])
-    requires { ⌜ PlanFits (share .n) (share .e) (areaAt words floats) ⌝ }
-    requires { ⌜ share .r < share .n ⌝ }
-    requires { ⌜ a < share .n ⌝ }
-    requires { ⌜ Found (λ k. k < share .e) there ⌝ }
-    requires { ⌜ Found (λ k. k < share .e) back ⌝ }
+    requires { ⌜ EdgeMoveFits (share .n) (share .e) (share .r) a there back (areaAt words floats) ⌝ }
     ensures { λ _. ⌜ PlanDoes (share .n) (share .e) (λ o p. moveAt there back (share .r) (share .x) a p) (areaAt (words .entry) (floats .entry)) (areaAt (words .exit) (floats .exit)) ⌝ }
 {
     let r = share.r;
@@ -99,10 +83,7 @@ fn fast_move(share: Share, there: Spot, back: Spot, a: usize, words: &[u32], flo
 
 // The link k of the giver: its share moves if the turf at the end has no fast mark.
 fn fast_link(share: Share, k: usize, neighbours: &[u32], words: &[u32], floats: &mut [f32])
-    requires { ⌜ PlanFits (share .n) (share .e) (areaAt words floats) ⌝ }
-    requires { ⌜ share .z < 4096 ⌝ }
-    requires { ⌜ Ends (share .n) (share .e) (share .r) (k + 1) (now neighbours) ⌝ }
-    requires { ⌜ getD (planView (share .n) (share .e) (areaAt words floats) .reverse) k 0 ≤ share .e ⌝ }
+    requires { ⌜ FastLinkFits share k (now neighbours) (areaAt words floats) ⌝ }
     ensures { λ _. let a = areaAt (words .entry) (floats .entry) in let rev = planView (share .n) (share .e) a .reverse in ⌜ PlanDoes (share .n) (share .e) (λ o p. shareOver share (now (neighbours .entry)) rev o k p) a (areaAt (words .exit) (floats .exit)) ⌝ }
 {
     let z = share.z;
@@ -128,11 +109,7 @@ fn fast_row(
     words: &[u32],
     floats: &mut [f32],
 )
-    requires { ⌜ PlanFits (share .n) (share .e) (areaAt words floats) ⌝ }
-    requires { ⌜ share .z < 4096 ⌝ }
-    requires { ⌜ Ends (share .n) (share .e) (share .r) to (now neighbours) ⌝ }
-    requires { ⌜ from ≤ to ⌝ }
-    requires { ⌜ ((k : ℕ) → from ≤ k → k < to → getD (planView (share .n) (share .e) (areaAt words floats) .reverse) k 0 ≤ share .e) ⌝ }
+    requires { ⌜ FastRowFits share from to (now neighbours) (areaAt words floats) ⌝ }
     ensures { λ _. let a = areaAt (words .entry) (floats .entry) in let rev = planView (share .n) (share .e) a .reverse in ⌜ PlanDoes (share .n) (share .e) (λ o p. run (shareOver share (now (neighbours .entry)) rev o) (upFrom from (to - from)) p) a (areaAt (words .exit) (floats .exit)) ⌝ }
 {
     let mut k = from;

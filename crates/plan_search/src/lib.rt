@@ -1,16 +1,14 @@
 // `give_to_takers` and `take_from_givers` for one turf: a search from it through the zone, then the way back. One body serves both; what differs
 // is the tests.
-ghost use mathlib.Core.Path.{_≡_};
 ghost use Prim.Native.Nat.{_-_, _≤_, _<_};
-ghost use lib.ListN.{length};
 ghost use Rattle.basics.specs.Loops.{run, times, upFrom};
 ghost use Rattle.turfs.specs.Tables.{boardAt};
 ghost use Rattle.rules_plan.specs.Plan.{seekNext, serve};
-ghost use Rattle.reverse_links.specs.Reverse.{Linked};
-ghost use Rattle.plan_state.specs.Held.{areaAt, planView, Sized, Ends, Planning, Serves};
+ghost use Rattle.plan_state.specs.Held.{areaAt, planView, Ends, Planning, Serves};
 ghost use Rattle.plan_trade.specs.Search.{Searched, AllMet, Idle};
 ghost use Rattle.plan_trade.specs.Steps.{along};
-ghost use Rattle.plan_trade.specs.Hands.{Searching, Unsettled, alongAll, SearchGoes, GoesTurf, PassesBy};
+ghost use Rattle.plan_trade.specs.Hands.{Searching, alongAll, SearchGoes, GoesTurf, PassesBy};
+ghost use Rattle.plan_search.specs.Fits.{SeekRowFits, SeekTurfFits, SeekFits};
 use index_set::insert;
 use plan_drain::drain;
 use plan_state::load;
@@ -75,10 +73,7 @@ fn seek_row(
     words: &mut [u32],
     floats: &mut [f32],
 ) -> Reach
-    requires { ⌜ Searching hand (reach .count) (areaAt words floats) ⌝ }
-    requires { ⌜ Unsettled hand (areaAt words floats) ⌝ }
-    requires { ⌜ Ends (hand .n) (hand .e) r to (now neighbours) ⌝ }
-    requires { ⌜ from ≤ to ⌝ }
+    requires { ⌜ SeekRowFits hand r from to (reach .count) (now neighbours) (areaAt words floats) ⌝ }
     ensures { λ c. let ends = now (neighbours .entry) in ⌜ SearchGoes hand r from to ends (alongAll hand r ends from to) (reach .count) (reach .first) (c .count) (c .first) (areaAt (words .entry) (floats .entry)) (areaAt (words .exit) (floats .exit)) ⌝ }
 {
     let mut c = reach.count;
@@ -112,11 +107,7 @@ fn seek_turf(
     words: &mut [u32],
     floats: &mut [f32],
 ) -> Reach
-    requires { ⌜ Searching hand (reach .count) (areaAt words floats) ⌝ }
-    requires { ⌜ Unsettled hand (areaAt words floats) ⌝ }
-    requires { ⌜ r < hand .n ⌝ }
-    requires { ⌜ Linked (hand .n) (now starts) (now neighbours) ⌝ }
-    requires { ⌜ length (now neighbours) ≡ hand .e ⌝ }
+    requires { ⌜ SeekTurfFits hand r (reach .count) (now starts) (now neighbours) (areaAt words floats) ⌝ }
     ensures { λ c. ⌜ GoesTurf hand r (now (starts .entry)) (now (neighbours .entry)) (reach .count) (reach .first) (c .count) (c .first) (areaAt (words .entry) (floats .entry)) (areaAt (words .exit) (floats .exit)) ⌝ }
 {
     let row = r as usize;
@@ -141,10 +132,7 @@ fn seek(
     words: &mut [u32],
     floats: &mut [f32],
 ) -> Sweep
-    requires { ⌜ Searching hand 1 (areaAt words floats) ⌝ }
-    requires { ⌜ Sized (boardAt rows marks gases) (hand .n) (hand .e) ⌝ }
-    requires { let b = boardAt rows marks gases in ⌜ AllMet (hand .n) (hand .z) (b .starts) (b .neighbours) (planView (hand .n) (hand .e) (areaAt words floats)) 1 ⌝ }
-    requires { ⌜ Idle (planView (hand .n) (hand .e) (areaAt words floats)) 1 (hand .n) ⌝ }
+    requires { ⌜ SeekFits (boardAt rows marks gases) hand (areaAt words floats) ⌝ }
     ensures { λ c. let b = boardAt (rows .entry) (marks .entry) gases in ⌜ Searched (hand .n) (hand .e) (λ o s. times (seekNext b o (hand .z) (hand .side) (hand .g)) (hand .n) s) 1 (c .count) (c .looked) (areaAt (words .entry) (floats .entry)) (areaAt (words .exit) (floats .exit)) ⌝ }
     ensures { λ c. let b = boardAt (rows .entry) (marks .entry) gases in ⌜ AllMet (hand .n) (hand .z) (b .starts) (b .neighbours) (planView (hand .n) (hand .e) (areaAt (words .exit) (floats .exit))) (c .count) ⌝ }
     ensures { λ c. ⌜ Idle (planView (hand .n) (hand .e) (areaAt (words .exit) (floats .exit))) (c .count) (c .first) ⌝ }

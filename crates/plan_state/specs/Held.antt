@@ -13,6 +13,8 @@ use Rattle.index_set.specs.Line.{Below}
 use Rattle.reverse_links.specs.Reverse.{Linked, Reverses}
 use Rattle.plan_state.specs.Pairs.{firsts, seconds}
 use Rattle.plan_state.specs.declared.ZoneAt.{ZoneAt}
+use Rattle.basics.specs.Lists.{Found}
+use Rattle.basics.specs.declared.Spot.{Spot}
 
 -- everything that a function of planning may change, before or after it
 pub record Area : Type 0 where
@@ -130,3 +132,11 @@ pub record Nodes (n e first count : ℕ) (a : Area) : Type 0 where
 -- the nodes of the zone in hand
 abbrev pub nodesInHand : ZoneAt → Area → List ℕ
 nodesInHand zone a = nodesOf (zone .n) (zone .e) (planView (zone .n) (zone .e) a) (zone .first) (zone .count)
+
+-- what a move from the turf r to the turf d is asked, over the edge there and the one back
+pub record EdgeMoveFits (n e r d : ℕ) (s t : Spot) (a : Area) : Type 0 where
+  pub fit : PlanFits n e a
+  pub row : r < n
+  pub to : d < n
+  pub there : Found (λ k. k < e) s
+  pub back : Found (λ k. k < e) t

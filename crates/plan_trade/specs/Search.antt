@@ -87,3 +87,10 @@ pub record Within (n e : ℕ) (v : PlanView) (a : ℕ) : Type 0 where
 -- and so for the first `to` rows of the queue, which are turfs
 abbrev pub AllWithin : ℕ → ℕ → PlanView → ℕ → Type 0
 AllWithin n e v to = (i : ℕ) → i < to → (getD (v .queue) i 0 < n) × Within n e v (getD (v .queue) i 0)
+
+-- what a turf that is met is asked: it, the turf in hand and the one that it is met from are turfs
+pub record MeetFits (g r x n e : ℕ) (a : Area) : Type 0 where
+  pub fit : PlanFits n e a
+  pub hand : g < n
+  pub met : x < n
+  pub row : r < n

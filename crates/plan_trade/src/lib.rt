@@ -9,6 +9,7 @@ ghost use Rattle.rules_plan.specs.Plan.{settled, wants, trade, meet};
 ghost use Rattle.plan_state.specs.Held.{areaAt, planView, PlanFits, Ends, PlanDoes};
 ghost use Rattle.plan_trade.specs.Steps.{lesser, bargain, point, along};
 ghost use Rattle.plan_trade.specs.Hands.{Searching, Unsettled, SearchGoes, PassesBy};
+ghost use Rattle.plan_trade.specs.Search.{MeetFits};
 use index_set::contains;
 use index_set::insert;
 use plan_state::load;
@@ -117,10 +118,7 @@ pub fn meet(
     words: &mut [u32],
     floats: &mut [f32],
 ) -> bool
-    requires { ⌜ PlanFits n e (areaAt words floats) ⌝ }
-    requires { ⌜ g < n ⌝ }
-    requires { ⌜ a < n ⌝ }
-    requires { ⌜ r < n ⌝ }
+    requires { ⌜ MeetFits g r a n e (areaAt words floats) ⌝ }
     ensures { λ _. ⌜ PlanDoes n e (λ o p. meet side g r a p) (areaAt (words .entry) (floats .entry)) (areaAt (words .exit) (floats .exit)) ⌝ }
     ensures { λ t. ⌜ t ≡ wants side (getD (planView n e (areaAt (words .entry) (floats .entry)) .plan .delta) a nan) ⌝ }
 {

@@ -8,6 +8,7 @@ use Rattle.basics.specs.Floats.{_/f_, ofCount}
 use Rattle.rules_plan.specs.Plan.{Plan}
 use Rattle.plan_state.specs.Held.{Area, planView, PlanFits, Frame}
 use Rattle.plan_state.specs.declared.ZoneAt.{ZoneAt}
+use Rattle.scratch.specs.Layout.{Sizes, deltaAt}
 
 -- every turf's mixture lies in the gas
 pub record Gassed (n : ℕ) (mixtures : List ℕ) (gases : ℕ) (gas : List Float) : Type 0 where
@@ -31,3 +32,18 @@ pub record Plans (n e : ℕ) (h : List ℕ → Plan → Plan) (a a′ : Area) : 
 -- what each node of the zone in hand would have, if all had the same
 abbrev pub averageOf : ZoneAt → Float
 averageOf zone = zone .moles /f ofCount (zone .count)
+
+-- what it takes to look at the delta of the turf r, with c turfs counted before it
+pub record CountFits (r c : ℕ) (zone : ZoneAt) (floats : List Float) : Type 0 where
+  pub room : deltaAt r (zone .e) < length floats
+  pub count : c < 4096
+  pub row : r < zone .n
+  pub sizes : Sizes (zone .n) (zone .e)
+
+-- and to put it into the list
+pub record ChooseFits (r c list : ℕ) (zone : ZoneAt) (words : List ℕ) (floats : List Float) : Type 0 where
+  pub listed : list + c < length words
+  pub room : deltaAt r (zone .e) < length floats
+  pub count : c < 4096
+  pub row : r < zone .n
+  pub sizes : Sizes (zone .n) (zone .e)

@@ -6,13 +6,13 @@ ghost use lib.Ieee.{nan};
 ghost use lib.ListN.{length, getD, take, set};
 ghost use Rattle.basics.specs.Loops.{run};
 ghost use Rattle.basics.specs.Floats.{0f};
-ghost use Rattle.scratch.specs.Layout.{Sizes, deltaAt};
+ghost use Rattle.scratch.specs.Layout.{deltaAt};
 ghost use Rattle.turfs.specs.Tables.{boardAt};
 ghost use Rattle.rules_plan.specs.Plan.{store, picks, chosen, serve, fastPass, shareOut, deltas, planZone};
 ghost use Rattle.rules_plan.specs.declared.Side.the-variants.{Giving};
 ghost use Rattle.index_set.specs.Line.{Below};
 ghost use Rattle.plan_state.specs.Held.{areaAt, planView, PlanFits, Planning, PlanDoes, Serves, Nodes, nodesInHand};
-ghost use Rattle.plan_zone.specs.Zone.{Gassed, Picked, Plans, averageOf};
+ghost use Rattle.plan_zone.specs.Zone.{Gassed, Picked, Plans, averageOf, CountFits, ChooseFits};
 use plan_fast::fast_all;
 use plan_search::serve;
 use plan_state::ZoneAt;
@@ -29,10 +29,7 @@ use turfs::Rows;
 
 // One more, if the turf r gives.
 fn count_one(r: u32, c: usize, zone: ZoneAt, floats: &[f32]) -> usize
-    requires { ⌜ deltaAt r (zone .e) < length (now floats) ⌝ }
-    requires { ⌜ c < 4096 ⌝ }
-    requires { ⌜ r < zone .n ⌝ }
-    requires { ⌜ Sizes (zone .n) (zone .e) ⌝ }
+    requires { ⌜ CountFits r c zone (now floats) ⌝ }
     ensures { λ k. ⌜ k ≡ cond (picks Giving (getD (now (floats .entry)) (deltaAt r (zone .e)) nan)) (c + 1) c ⌝ }
 {
     let e = zone.e;
@@ -71,11 +68,7 @@ fn choose(
     words: &mut [u32],
     floats: &[f32],
 ) -> usize
-    requires { ⌜ list + c < length (now words) ⌝ }
-    requires { ⌜ deltaAt r (zone .e) < length (now floats) ⌝ }
-    requires { ⌜ c < 4096 ⌝ }
-    requires { ⌜ r < zone .n ⌝ }
-    requires { ⌜ Sizes (zone .n) (zone .e) ⌝ }
+    requires { ⌜ ChooseFits r c list zone (now words) (now floats) ⌝ }
     ensures { λ k. ⌜ k ≡ cond (picks side (getD (now (floats .entry)) (deltaAt r (zone .e)) nan)) (c + 1) c ⌝ }
     ensures { λ _. ⌜ now (words .exit) ≡ cond (picks side (getD (now (floats .entry)) (deltaAt r (zone .e)) nan)) (set (now (words .entry)) (list + c) r) (now (words .entry)) ⌝ }
 {

@@ -4,7 +4,7 @@ use native.Mathlib.Omega.{arith}
 use mathlib.Core.Path.{_≡_, ap, ap₂, sym, _∙_}
 use mathlib.Core.List.{List}
 use Rattle.basics.specs.Loops.{times}
-use Rattle.vectors.specs.Vectors.{onward, number, spanAt, listAt}
+use Rattle.vectors.specs.Vectors.{onward, number, spanAt, tableAt}
 use Rattle.vectors.specs.declared.Span.{Span}
 
 abbrev span : ℕ → ℕ → Span
@@ -16,7 +16,7 @@ spans ns at a b c = ap₂ span a (c ∙ ap₂ onward a b)
 
 -- the lists that are left to go through lead from here to the place that is looked for
 pub record Through (ns : List ℕ) (k i at : ℕ) : Type 0 where
-  pub leads : times (λ p. spanAt ns p .to) (k - i) at ≡ listAt ns k
+  pub leads : times (λ p. spanAt ns p .to) (k - i) at ≡ tableAt ns k
 
 pub through-none : (ns : List ℕ) (k : ℕ) → Through ns k 0 1
 through-none ns k = record { leads = ap (λ (n : ℕ). times (λ p. spanAt ns p .to) n 1) (omega arith) }
@@ -27,7 +27,7 @@ through-next ns k i at s h e q =
     let one : k - i ≡ suc (k - (i + 1)) = omega arith in
     record { leads = ap (λ (x : Span). times (λ p. spanAt ns p .to) (k - (i + 1)) (x .to)) e ∙ ap (λ (n : ℕ). times (λ p. spanAt ns p .to) n at) (sym one) ∙ q .leads }
 
-pub through-all : (ns : List ℕ) (k i at : ℕ) → k ≤ i → Through ns k i at → at ≡ listAt ns k
+pub through-all : (ns : List ℕ) (k i at : ℕ) → k ≤ i → Through ns k i at → at ≡ tableAt ns k
 unfolding times
 through-all ns k i at h q =
     let none : k - i ≡ 0 = omega arith in

@@ -29,20 +29,20 @@ spanAt ns at = record { from = onward at 1; to = onward (onward at 1) (number ns
 unfoldable pub section : List ℕ → Span → List ℕ
 section ns s = if leb (s .to) (length ns) && leb (s .from) (s .to) then take (s .to - s .from) (drop (s .from) ns) else []
 
--- where the list number k of a case stands: the first behind the call, each one behind the one before
-abbrev pub listAt : List ℕ → ℕ → ℕ
-listAt ns k = times (λ at. spanAt ns at .to) k 1
+-- where the table number k of a case stands: the first behind the call, each one behind the one before
+abbrev pub tableAt : List ℕ → ℕ → ℕ
+tableAt ns k = times (λ at. spanAt ns at .to) k 1
 
 -- its first eight lists are the tables: ids, flags, planetary, mixtures, starts, neighbours, link flags, immutable
-abbrev pub tableAt : List ℕ → ℕ → Span
-tableAt ns k = spanAt ns (listAt ns k)
+abbrev pub tableSpan : List ℕ → ℕ → Span
+tableSpan ns k = spanAt ns (tableAt ns k)
 
 -- behind them the number of gases, the gas, the lengths of three areas, and what is asked
 abbrev pub gasesOf : List ℕ → ℕ
-gasesOf ns = number ns (listAt ns 8)
+gasesOf ns = number ns (tableAt ns 8)
 
 abbrev pub gasOf : List ℕ → Span
-gasOf ns = spanAt ns (onward (listAt ns 8) 1)
+gasOf ns = spanAt ns (onward (tableAt ns 8) 1)
 
 abbrev pub askedAt : List ℕ → ℕ
 askedAt ns = onward (gasOf ns .to) 3
@@ -56,16 +56,16 @@ pub record Rooms (r : Room) : Type 0 where
 
 -- its tables
 pub record RowsOf (ns : List ℕ) (rows : Slices) : Type 0 where
-  pub ids : table rows 0 ≡ section ns (tableAt ns 0)
-  pub mixtures : table rows 1 ≡ section ns (tableAt ns 3)
-  pub starts : table rows 2 ≡ section ns (tableAt ns 4)
-  pub neighbours : table rows 3 ≡ section ns (tableAt ns 5)
+  pub ids : table rows 0 ≡ section ns (tableSpan ns 0)
+  pub mixtures : table rows 1 ≡ section ns (tableSpan ns 3)
+  pub starts : table rows 2 ≡ section ns (tableSpan ns 4)
+  pub neighbours : table rows 3 ≡ section ns (tableSpan ns 5)
 
 pub record MarksOf (ns : List ℕ) (bytes : List ℕ) (marks : Slices) : Type 0 where
-  pub flags : table marks 0 ≡ section bytes (tableAt ns 1)
-  pub planetary : table marks 1 ≡ section bytes (tableAt ns 2)
-  pub linkFlags : table marks 2 ≡ section bytes (tableAt ns 6)
-  pub immutable : table marks 3 ≡ section bytes (tableAt ns 7)
+  pub flags : table marks 0 ≡ section bytes (tableSpan ns 1)
+  pub planetary : table marks 1 ≡ section bytes (tableSpan ns 2)
+  pub linkFlags : table marks 2 ≡ section bytes (tableSpan ns 6)
+  pub immutable : table marks 3 ≡ section bytes (tableSpan ns 7)
 
 -- what equalize is asked
 pub record CaseAsks (ns : List ℕ) (a : Asked) : Type 0 where

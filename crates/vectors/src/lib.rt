@@ -7,7 +7,7 @@ use turfs::Rows;
 ghost use mathlib.Core.Path.{_≡_};
 ghost use Prim.Native.Nat.{_%_, _≤_, _<_};
 ghost use lib.Ieee.{nan};
-ghost use Rattle.vectors.specs.Vectors.{onward, number, section, spanAt, listAt, tableAt, gasesOf, gasOf, askedAt, Rooms, CaseAsks, Walks, RowsOf, MarksOf};
+ghost use Rattle.vectors.specs.Vectors.{onward, number, section, spanAt, tableAt, tableSpan, gasesOf, gasOf, askedAt, Rooms, CaseAsks, Walks, RowsOf, MarksOf};
 ghost use Rattle.vectors.specs.Amounts.{nanPattern, amount};
 ghost use Rattle.vectors.specs.Cells.{wordBefore, floatBefore, eventBefore, Follows, CaseFilled};
 
@@ -88,9 +88,9 @@ pub fn past(at: usize, count: usize) -> usize
     further(at, count)
 }
 
-// Where the list number k of a case stands: the first behind the call, each one behind the one before.
-fn list_at(numbers: &[u32], k: usize) -> usize
-    ensures { λ r. ⌜ r ≡ listAt (now (numbers .entry)) k ⌝ }
+// Where the table number k of a case stands: the first behind the call, each one behind the one before.
+fn table_at(numbers: &[u32], k: usize) -> usize
+    ensures { λ r. ⌜ r ≡ tableAt (now (numbers .entry)) k ⌝ }
 {
     let mut at = 1;
     let mut i = 0;
@@ -105,14 +105,14 @@ fn list_at(numbers: &[u32], k: usize) -> usize
 fn gases_of(numbers: &[u32]) -> u32
     ensures { λ r. ⌜ r ≡ gasesOf (now (numbers .entry)) ⌝ }
 {
-    number_at(numbers, list_at(numbers, TABLES))
+    number_at(numbers, table_at(numbers, TABLES))
 }
 
 // Where its gas stands.
 fn gas_of(numbers: &[u32]) -> Span
     ensures { λ r. ⌜ (r ≡ gasOf (now (numbers .entry))) × (r .from ≤ r .to) ⌝ }
 {
-    span_at(numbers, further(list_at(numbers, TABLES), 1))
+    span_at(numbers, further(table_at(numbers, TABLES), 1))
 }
 
 // Where what is asked begins: behind the lengths of the three lent areas.
@@ -155,7 +155,7 @@ fn case_room(numbers: &[u32], gas: usize, at: usize) -> Room
         return no_room();
     }
     Room {
-        fits: list_at(numbers, TABLES) <= 1_429,
+        fits: table_at(numbers, TABLES) <= 1_429,
         gas,
         words,
         floats,
@@ -236,16 +236,16 @@ fn byte_part(bytes: &[u8], s: Span) -> &[u8]
 
 // The table number k of a vector.
 fn table(numbers: &[u32], k: usize) -> &[u32]
-    ensures { λ r. ⌜ now r ≡ section (now (numbers .entry)) (tableAt (now (numbers .entry)) k) ⌝ }
+    ensures { λ r. ⌜ now r ≡ section (now (numbers .entry)) (tableSpan (now (numbers .entry)) k) ⌝ }
 {
-    part(numbers, span_at(numbers, list_at(numbers, k)))
+    part(numbers, span_at(numbers, table_at(numbers, k)))
 }
 
 // The same as bytes.
 fn byte_table<'a>(numbers: &[u32], bytes: &'a [u8], k: usize) -> &'a [u8]
-    ensures { λ r. ⌜ now r ≡ section (now (bytes .entry)) (tableAt (now (numbers .entry)) k) ⌝ }
+    ensures { λ r. ⌜ now r ≡ section (now (bytes .entry)) (tableSpan (now (numbers .entry)) k) ⌝ }
 {
-    byte_part(bytes, span_at(numbers, list_at(numbers, k)))
+    byte_part(bytes, span_at(numbers, table_at(numbers, k)))
 }
 
 // The tables of numbers in a vector.

@@ -27,10 +27,10 @@ loop-holds c = (((omega arith, λ h. h), but-none), λ zs. going-start _ zs _ _ 
 mul-node-apart : tie.Need-mul-node-apart Inv-loop μ-loop
 mul-node-apart c =
     let entry = c .before .before .before in
-    omega (arith, entry .pre .1 .0, entry .pre .0 .room, c .loop-test .taken, c .before .loop .inv .0 .1 .len, entry .good)
+    omega (arith, entry .pre .before, entry .pre .pass .room, c .loop-test .taken, c .before .loop .inv .0 .1 .len, entry .good)
 
 slice-read-node-apart : tie.Need-slice-read-node-apart Inv-loop μ-loop
-slice-read-node-apart c = omega (arith, c .before .before .before .before .pre .1 .0, c .before .before .before .before .pre .0 .room, c .before .loop-test .taken, c .before .before .loop .inv .0 .1 .len)
+slice-read-node-apart c = omega (arith, c .before .before .before .before .pre .before, c .before .before .before .before .pre .pass .room, c .before .loop-test .taken, c .before .before .loop .inv .0 .1 .len)
 
 cast-node-apart : tie.Need-cast-node-apart Inv-loop μ-loop
 cast-node-apart c = omega (arith, c .slice-known2 .given (c .before .before .loop .i))
@@ -39,9 +39,9 @@ node-apart-requires : tie.Need-node-apart-requires Inv-loop μ-loop
 node-apart-requires c κs =
     let entry = c .before .before .before .before .before in
     let head = c .before .before .before .loop in
-    let row = row-now (head .inv .0 .1) (entry .pre .1 .0) (entry .pre .1 .1 .1) (head .inv .0 .0 .0) (c .before .before .loop-test .taken) in
-    let fits = entry .pre .0 in
-    (record { turfs = fits .turfs; few = fits .few; room = omega (arith, fits .room, head .inv .0 .1 .len); mixtures = fits .mixtures; mixed = fits .mixed }, (row, entry .pre .1 .1 .0))
+    let row = row-now (head .inv .0 .1) (entry .pre .before) (entry .pre .rows) (head .inv .0 .0 .0) (c .before .before .loop-test .taken) in
+    let fits = entry .pre .pass in
+    (record { turfs = fits .turfs; few = fits .few; room = omega (arith, fits .room, head .inv .0 .1 .len); mixtures = fits .mixtures; mixed = fits .mixed }, (row, entry .pre .number))
 
 same-length : tie.Need-same-length Inv-loop μ-loop
 same-length c = search needs
@@ -50,11 +50,11 @@ returns : tie.Need-returns Inv-loop μ-loop
 returns c =
     let entry = c .before .before .before .before .before .before .before .before .before in
     let head = c .before .before .before .before .before .before .before .loop in
-    let row = row-now (head .inv .0 .1) (entry .pre .1 .0) (entry .pre .1 .1 .1) (head .inv .0 .0 .0) (c .before .before .before .before .before .before .loop-test .taken) in
-    let fits = entry .pre .0 .mixed _ row in
+    let row = row-now (head .inv .0 .1) (entry .pre .before) (entry .pre .rows) (head .inv .0 .0 .0) (c .before .before .before .before .before .before .loop-test .taken) in
+    let fits = entry .pre .pass .mixed _ row in
     let done = c .before .before .before .node-apart .ensures in (
       marked-but (omega arith) (omega (arith, fits)) (head .inv .0 .1) done,
-      λ zs. going-fails _ zs _ _ _ _ _ (head .inv .0 .0 .0) _ _ _ (head .inv .1 zs) (head .inv .0 .1) (entry .pre .1 .0) (entry .pre .0 .room) fits _ done (c .before .before .before .before .before .before .loop-test .taken) (not-true _ (c .if1 .taken)),
+      λ zs. going-fails _ zs _ _ _ _ _ (head .inv .0 .0 .0) _ _ _ (head .inv .1 zs) (head .inv .0 .1) (entry .pre .before) (entry .pre .pass .room) fits _ done (c .before .before .before .before .before .before .loop-test .taken) (not-true _ (c .if1 .taken)),
     )
 
 add-i : tie.Need-add-i Inv-loop μ-loop
@@ -68,11 +68,11 @@ loop-again c =
     let entry = c .before .before .before .before .before .before .before .before .before in
     let head = c .before .before .before .before .before .before .before .loop in
     let by-loop-test = c .before .before .before .before .before .before .loop-test in
-    let row = row-now (head .inv .0 .1) (entry .pre .1 .0) (entry .pre .1 .1 .1) (head .inv .0 .0 .0) (by-loop-test .taken) in
-    let fits = entry .pre .0 .mixed _ row in
+    let row = row-now (head .inv .0 .1) (entry .pre .before) (entry .pre .rows) (head .inv .0 .0 .0) (by-loop-test .taken) in
+    let fits = entry .pre .pass .mixed _ row in
     let done = c .before .before .before .node-apart .ensures in (
       ((omega (arith, head .inv .0 .0 .0), λ h. omega (arith, by-loop-test .taken)), marked-but (omega arith) (omega (arith, fits)) (head .inv .0 .1) done),
-      λ zs. going-next _ zs _ _ _ _ _ (head .inv .0 .0 .0) _ _ _ (head .inv .1 zs) (head .inv .0 .1) (entry .pre .1 .0) (entry .pre .0 .room) fits _ done (by-loop-test .taken) (not-false _ (c .if1 .left)),
+      λ zs. going-next _ zs _ _ _ _ _ (head .inv .0 .0 .0) _ _ _ (head .inv .1 zs) (head .inv .0 .1) (entry .pre .before) (entry .pre .pass .room) fits _ done (by-loop-test .taken) (not-false _ (c .if1 .left)),
     )
 
 same-length-2 : tie.Need-same-length-2 Inv-loop μ-loop

@@ -68,10 +68,13 @@ zone-apart-requires c κs =
     let entry = c .before .before .before .before .before .before in
     let head = c .before .before .before .before .loop in
     let by-loop-test = c .before .before .before .loop-test in
-    let fits = entry .pre .0 in (
-      record { turfs = fits .turfs; few = fits .few; room = omega (arith, fits .room, head .inv .0 .1 .len); mixtures = fits .mixtures; mixed = fits .mixed },
-      (end-before (entry .pre .1 .0) (head .inv .0 .1) _ (by-loop-test .taken), (omega (arith, entry .pre .1 .0 .few, by-loop-test .taken), rows-now (entry .pre .1 .0) (head .inv .0 .1) _ (by-loop-test .taken))),
-    )
+    let fits = entry .pre .0 in
+    record {
+      pass = record { turfs = fits .turfs; few = fits .few; room = omega (arith, fits .room, head .inv .0 .1 .len); mixtures = fits .mixtures; mixed = fits .mixed };
+      before = end-before (entry .pre .1 .0) (head .inv .0 .1) _ (by-loop-test .taken);
+      number = omega (arith, entry .pre .1 .0 .few, by-loop-test .taken);
+      rows = rows-now (entry .pre .1 .0) (head .inv .0 .1) _ (by-loop-test .taken);
+    }
 
 same-length : tie.Need-same-length Inv-loop μ-loop
 same-length c = search needs

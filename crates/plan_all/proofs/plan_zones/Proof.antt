@@ -25,7 +25,13 @@ plan-zone-at-requires : tie.Need-plan-zone-at-requires Inv-loop μ-loop
 plan-zone-at-requires c κs =
     let entry = c .before .before .before .before .before .before .before in
     let t = zoned-alike (frame-alike (c .before .before .before .loop .inv .1 .frame)) (c .before .before .before .loop .inv .0 .1 .0) (c .before .before .before .loop .inv .0 .1 .1) (entry .pre .1 .0) in
-    (entry .pre .0, (t .room, (omega (arith, t .few, c .before .before .loop-test .taken), (reverses-kept (entry .pre .1 .1) (c .before .before .before .loop .inv .1 .frame), t .each _ (c .before .before .loop-test .taken)))))
+    record {
+      tables = entry .pre .0;
+      room = t .room;
+      zone = omega (arith, t .few, c .before .before .loop-test .taken);
+      reverses = reverses-kept (entry .pre .1 .1) (c .before .before .before .loop .inv .1 .frame);
+      ready = t .each _ (c .before .before .loop-test .taken);
+    }
 
 add-z : tie.Need-add-z Inv-loop μ-loop
 add-z c = omega (arith, c .before .before .before .before .before .before .before .loop-test .taken, c .before .before .before .before .before .before .before .before .before .before .before .before .pre .1 .0 .few, c .before .before .before .before .before .before .before .before .before .before .before .before .pre .1 .0 .room .sizes .turfs)

@@ -24,10 +24,10 @@ abbrev μ-loop : tie.MeasureT-loop
 μ-loop from to z n e words floats₀ queue i₀ floats i = i
 
 queue-at-requires : tie.Need-queue-at-requires Inv-loop μ-loop
-queue-at-requires c κs = record { turfs = c .before .before .pre .0 .turfs; links = c .before .before .pre .0 .links }
+queue-at-requires c κs = record { turfs = c .before .before .pre .fit .turfs; links = c .before .before .pre .fit .links }
 
 loop-holds : tie.Need-loop-holds Inv-loop μ-loop
-loop-holds c = ((omega arith, refl), onto-start _ (c .before .before .before .pre .0))
+loop-holds c = ((omega arith, refl), onto-start _ (c .before .before .before .pre .fit))
 
 sub-i : tie.Need-sub-i Inv-loop μ-loop
 sub-i c = omega arith
@@ -35,30 +35,22 @@ sub-i c = omega arith
 add-drain-turf : tie.Need-add-drain-turf Inv-loop μ-loop
 add-drain-turf c =
     let pre = c .before .before .before .before .before .pre in
-    omega (arith, c .before .before .queue-at .ensures, pre .0 .links, pre .0 .turfs, pre .1 .1 .0, c .before .loop .inv .0, c .loop-test .taken)
+    omega (arith, c .before .before .queue-at .ensures, pre .fit .links, pre .fit .turfs, pre .few, c .before .loop .inv .0, c .loop-test .taken)
 
 mul-drain-turf : tie.Need-mul-drain-turf Inv-loop μ-loop
-mul-drain-turf c = omega (arith, c .before .before .queue-at .ensures, c .before .before .before .before .before .pre .0 .words, c .before .before .before .before .before .pre .1 .1 .0, c .before .loop .inv .0, c .before .before .before .before .before .good, c .loop-test .taken)
+mul-drain-turf c = omega (arith, c .before .before .queue-at .ensures, c .before .before .before .before .before .pre .fit .words, c .before .before .before .before .before .pre .few, c .before .loop .inv .0, c .before .before .before .before .before .good, c .loop-test .taken)
 
 shared-slice-read-drain-turf : tie.Need-shared-slice-read-drain-turf Inv-loop μ-loop
-shared-slice-read-drain-turf c = omega (arith, c .before .before .before .queue-at .ensures, c .before .before .before .before .before .before .pre .0 .words, c .before .before .before .before .before .before .pre .1 .1 .0, c .before .before .loop .inv .0, c .before .loop-test .taken)
+shared-slice-read-drain-turf c = omega (arith, c .before .before .before .queue-at .ensures, c .before .before .before .before .before .before .pre .fit .words, c .before .before .before .before .before .before .pre .few, c .before .before .loop .inv .0, c .before .loop-test .taken)
 
 drain-turf-requires : tie.Need-drain-turf-requires Inv-loop μ-loop
 drain-turf-requires c κs =
     let entry = c .before .before .before .before .before .before .before in
     let loop = c .before .before .before .loop in
-    let loop-test = c .before .before .loop-test in (
-      loop .inv .1 .fit,
-      (
-        entry .pre .1 .0,
-        row-within _ _ 0 (loop .i - 1) _ _ _ (c .before .before .before .before .queue-at .ensures) (omega (
-          arith,
-          loop .inv .0,
-          loop-test .taken,
-          entry .pre .1 .1 .0,
-        )) _ (entry .pre .1 .1 .1 (loop .i - 1) (omega (arith, loop .inv .0, loop-test .taken))),
-      ),
-    )
+    let loop-test = c .before .before .loop-test in
+    let met = row-within _ _ 0 (loop .i - 1) _ _ _ (c .before .before .before .before .queue-at .ensures) (omega (arith, loop .inv .0, loop-test .taken, entry .pre .few)) _
+    (entry .pre .within (loop .i - 1) (omega (arith, loop .inv .0, loop-test .taken))) in
+    record { fit = loop .inv .1 .fit; zone = entry .pre .zone; row = met .0; within = met .1 }
 
 loop-less : tie.Need-loop-less Inv-loop μ-loop
 loop-less c = omega arith
@@ -75,8 +67,8 @@ loop-again c =
             arith,
             loop .inv .0,
             loop-test .taken,
-            entry .pre .1 .1 .0,
-          )) _ (loop .i) (omega (arith, loop-test .taken)) (omega (arith, loop-test .taken)) (queue-length _ _ _ (entry .pre .0)) _),
+            entry .pre .few,
+          )) _ (loop .i) (omega (arith, loop-test .taken)) (omega (arith, loop-test .taken)) (queue-length _ _ _ (entry .pre .fit)) _),
     )
 
 same-length : tie.Need-same-length Inv-loop μ-loop

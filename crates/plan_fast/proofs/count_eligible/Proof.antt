@@ -24,21 +24,28 @@ abbrev μ-loop : tie.MeasureT-loop
 μ-loop from to z n e neighbours words c₀ k₀ c k = to - k
 
 loop-holds : tie.Need-loop-holds Inv-loop μ-loop
-loop-holds c = ((omega arith, (c .before .before .pre .1 .1 .1 .0, omega arith)), refl)
+loop-holds c = ((omega arith, (c .before .before .pre .rise, omega arith)), refl)
 
 mul-tally : tie.Need-mul-tally Inv-loop μ-loop
-mul-tally c = omega (arith, c .loop-test .taken, c .before .before .before .before .pre .1 .1 .1 .1 .0, c .before .before .before .before .pre .1 .1 .0)
+mul-tally c = omega (arith, c .loop-test .taken, c .before .before .before .before .pre .within, c .before .before .before .before .pre .sizes)
 
 shared-slice-read-tally : tie.Need-shared-slice-read-tally Inv-loop μ-loop
-shared-slice-read-tally c = omega (arith, c .before .loop-test .taken, c .before .before .before .before .before .pre .1 .1 .1 .1 .0, c .before .before .before .before .before .pre .1 .1 .1 .1 .1 .0)
+shared-slice-read-tally c = omega (arith, c .before .loop-test .taken, c .before .before .before .before .before .pre .within, c .before .before .before .before .before .pre .all)
 
 tally-requires : tie.Need-tally-requires Inv-loop μ-loop
 tally-requires c κs =
     let entry = c .before .before .before .before .before in
-    (entry .pre .0, (omega (arith, entry .pre .1 .1 .1 .1 .0, c .before .loop-test .taken), (entry .pre .1 .1 .1 .1 .1 .1 _ (omega (arith, entry .pre .1 .1 .1 .1 .0, c .before .loop-test .taken)), (entry .pre .1 .0, (omega (arith, c .before .before .loop .inv .0, c .before .loop-test .taken, entry .pre .1 .1 .1 .1 .0, entry .pre .1 .1 .0), entry .pre .1 .1 .0)))))
+    record {
+      room = entry .pre .room;
+      link = omega (arith, entry .pre .within, c .before .loop-test .taken);
+      end = entry .pre .ends _ (omega (arith, entry .pre .within, c .before .loop-test .taken));
+      zone = entry .pre .zone;
+      count = omega (arith, c .before .before .loop .inv .0, c .before .loop-test .taken, entry .pre .within, entry .pre .sizes);
+      sizes = entry .pre .sizes;
+    }
 
 add-k : tie.Need-add-k Inv-loop μ-loop
-add-k c = omega (arith, c .before .before .loop-test .taken, c .before .before .before .before .before .before .pre .1 .1 .1 .1 .0, c .before .before .before .before .before .before .pre .1 .1 .0)
+add-k c = omega (arith, c .before .before .loop-test .taken, c .before .before .before .before .before .before .pre .within, c .before .before .before .before .before .before .pre .sizes)
 
 loop-less : tie.Need-loop-less Inv-loop μ-loop
 loop-less c = omega (arith, c .before .before .loop-test .taken)
@@ -57,7 +64,7 @@ loop-again c =
             loop .inv .0,
             c .tally .ensures,
             tally-le (entry .args .n) (entry .args .e) (entry .args .words .now) (entry .args .z) (loop .k) (getD (entry .args .neighbours .now) (loop .k) 0) (loop .c) (omega
-                (arith, entry .pre .1 .1 .1 .1 .0, loop-test .taken)) (entry .pre .1 .1 .1 .1 .1 .1 _ (omega (arith, entry .pre .1 .1 .1 .1 .0, loop-test .taken))),
+                (arith, entry .pre .within, loop-test .taken)) (entry .pre .ends _ (omega (arith, entry .pre .within, loop-test .taken))),
           ),
         ),
       ),

@@ -18,9 +18,9 @@ add-if1 c = search needs
 returns : tie.Need-returns
 returns c =
     let entry = c .before .before .before .before .before in
-    let hk : entry .args .k < entry .args .share .e = omega (arith, entry .pre .1 .1 .0 .within) in
-    let ha = entry .pre .1 .1 .0 .ends (entry .args .k) hk in
-    fast-foreign _ _ (entry .args .share .z) (entry .args .share .r) _ _ (entry .args .share .x) _ _ (entry .pre .0) hk ha (c .if1 .taken)
+    let hk : entry .args .k < entry .args .share .e = omega (arith, entry .pre .ends .within) in
+    let ha = entry .pre .ends .ends (entry .args .k) hk in
+    fast-foreign _ _ (entry .args .share .z) (entry .args .share .r) _ _ (entry .args .share .x) _ _ (entry .pre .fit) hk ha (c .if1 .taken)
 
 mul-a : tie.Need-mul-a
 mul-a c = search needs
@@ -31,55 +31,68 @@ shared-slice-read-a c = search needs
 cast-a : tie.Need-cast-a
 cast-a c =
     let entry = c .before .before .before .before .before .before in
-    let hk : entry .args .k < entry .args .share .e = omega (arith, entry .pre .1 .1 .0 .within) in
-    let ha = entry .pre .1 .1 .0 .ends (entry .args .k) hk in
-    omega (arith, ha, entry .pre .0 .turfs)
+    let hk : entry .args .k < entry .args .share .e = omega (arith, entry .pre .ends .within) in
+    let ha = entry .pre .ends .ends (entry .args .k) hk in
+    omega (arith, ha, entry .pre .fit .turfs)
 
 fast-at-requires : tie.Need-fast-at-requires
 fast-at-requires c κs = let entry = c .before .before .before .before .before .before in
-    let hk : entry .args .k < entry .args .share .e = omega (arith, entry .pre .1 .1 .0 .within) in
-    let ha = entry .pre .1 .1 .0 .ends (entry .args .k) hk in
-    (omega (arith, ha, entry .pre .0 .turfs), record { turfs = entry .pre .0 .turfs; links = entry .pre .0 .links })
+    let hk : entry .args .k < entry .args .share .e = omega (arith, entry .pre .ends .within) in
+    let ha = entry .pre .ends .ends (entry .args .k) hk in
+    (omega (arith, ha, entry .pre .fit .turfs), record { turfs = entry .pre .fit .turfs; links = entry .pre .fit .links })
 
 mul-if2 : tie.Need-mul-if2
 mul-if2 c = let entry = c .before .before .before .before .before .before .before in
-    let hk : entry .args .k < entry .args .share .e = omega (arith, entry .pre .1 .1 .0 .within) in
-    let ha = entry .pre .1 .1 .0 .ends (entry .args .k) hk in
-    omega (arith, c .fast-at .ensures, ha, entry .pre .0 .turfs, entry .pre .0 .links)
+    let hk : entry .args .k < entry .args .share .e = omega (arith, entry .pre .ends .within) in
+    let ha = entry .pre .ends .ends (entry .args .k) hk in
+    omega (arith, c .fast-at .ensures, ha, entry .pre .fit .turfs, entry .pre .fit .links)
 
 shared-slice-read-if2 : tie.Need-shared-slice-read-if2
 shared-slice-read-if2 c = let entry = c .before .before .before .before .before .before .before .before in
-    let hk : entry .args .k < entry .args .share .e = omega (arith, entry .pre .1 .1 .0 .within) in
-    let ha = entry .pre .1 .1 .0 .ends (entry .args .k) hk in
-    omega (arith, c .before .fast-at .ensures, ha, entry .pre .0 .words)
+    let hk : entry .args .k < entry .args .share .e = omega (arith, entry .pre .ends .within) in
+    let ha = entry .pre .ends .ends (entry .args .k) hk in
+    omega (arith, c .before .fast-at .ensures, ha, entry .pre .fit .words)
 
 returns-2 : tie.Need-returns-2
 returns-2 c = let entry = c .before .before .before .before .before .before .before .before .before in
-    let hk : entry .args .k < entry .args .share .e = omega (arith, entry .pre .1 .1 .0 .within) in
-    let ha = entry .pre .1 .1 .0 .ends (entry .args .k) hk in
-    fast-marked _ _ (entry .args .share .z) (entry .args .share .r) _ _ (entry .args .share .x) _ _ (entry .pre .0) hk ha (c .before .before .before .before .if1 .left) _ (c .before .before .fast-at .ensures) (c .if2 .taken)
+    let hk : entry .args .k < entry .args .share .e = omega (arith, entry .pre .ends .within) in
+    let ha = entry .pre .ends .ends (entry .args .k) hk in
+    fast-marked _ _ (entry .args .share .z) (entry .args .share .r) _ _ (entry .args .share .x) _ _ (entry .pre .fit) hk ha (c .before .before .before .before .if1 .left) _ (c .before .before .fast-at .ensures) (c .if2 .taken)
 
 back-link-requires : tie.Need-back-link-requires
-back-link-requires c κs = let entry = c .before .before .before .before .before .before .before .before .before in
-    let hk : entry .args .k < entry .args .share .e = omega (arith, entry .pre .1 .1 .0 .within) in
-    let ha = entry .pre .1 .1 .0 .ends (entry .args .k) hk in
-    (omega (arith, entry .pre .0 .words), (hk, (fast-p _ _ (entry .args .share .z) (entry .args .share .r) _ _ (entry .args .share .x) _ _ (entry .pre .0) hk ha (entry .pre .1 .1 .1), (entry .pre .1 .0, entry .pre .0 .links))))
+back-link-requires c κs =
+    let entry = c .before .before .before .before .before .before .before .before .before in
+    let hk : entry .args .k < entry .args .share .e = omega (arith, entry .pre .ends .within) in
+    let ha = entry .pre .ends .ends (entry .args .k) hk in
+    record {
+      room = omega (arith, entry .pre .fit .words);
+      link = hk;
+      back = fast-p _ _ (entry .args .share .z) (entry .args .share .r) _ _ (entry .args .share .x) _ _ (entry .pre .fit) hk ha (entry .pre .back);
+      zone = entry .pre .zone;
+      links = entry .pre .fit .links;
+    }
 
 fast-move-requires : tie.Need-fast-move-requires
 fast-move-requires c κs =
     let entry = c .before .before .before .before .before .before .before .before .before .before .before in
-    let hk : entry .args .k < entry .args .share .e = omega (arith, entry .pre .1 .1 .0 .within) in
-    let ha = entry .pre .1 .1 .0 .ends (entry .args .k) hk in
-    (entry .pre .0, (entry .pre .1 .1 .0 .row, (ha, (hk, fast-back _ _ (entry .args .share .z) (entry .args .share .r) _ _ (entry .args .share .x) _ _ (entry .pre .0) hk ha (entry .pre .1 .1 .1) _ (c .before .back-link .ensures)))))
+    let hk : entry .args .k < entry .args .share .e = omega (arith, entry .pre .ends .within) in
+    let ha = entry .pre .ends .ends (entry .args .k) hk in
+    record {
+      fit = entry .pre .fit;
+      row = entry .pre .ends .row;
+      to = ha;
+      there = hk;
+      back = fast-back _ _ (entry .args .share .z) (entry .args .share .r) _ _ (entry .args .share .x) _ _ (entry .pre .fit) hk ha (entry .pre .back) _ (c .before .back-link .ensures);
+    }
 
 same-length : tie.Need-same-length
 same-length c = search needs
 
 returns-3 : tie.Need-returns-3
 returns-3 c = let entry = c .before .before .before .before .before .before .before .before .before .before .before .before .before .before in
-    let hk : entry .args .k < entry .args .share .e = omega (arith, entry .pre .1 .1 .0 .within) in
-    let ha = entry .pre .1 .1 .0 .ends (entry .args .k) hk in
-    fast-more _ _ (entry .args .share .z) (entry .args .share .r) _ _ (entry .args .share .x) _ _ (entry .pre .0) hk ha (entry .pre .1 .1 .1) _ (c .before .before .before .before .back-link .ensures) (c .before .before .before .before .before .before .before .before .before .if1 .left) _
+    let hk : entry .args .k < entry .args .share .e = omega (arith, entry .pre .ends .within) in
+    let ha = entry .pre .ends .ends (entry .args .k) hk in
+    fast-more _ _ (entry .args .share .z) (entry .args .share .r) _ _ (entry .args .share .x) _ _ (entry .pre .fit) hk ha (entry .pre .back) _ (c .before .before .before .before .back-link .ensures) (c .before .before .before .before .before .before .before .before .before .if1 .left) _
     (c .before .before .before .before .before .before .before .fast-at .ensures) (c .before .before .before .before .before .if2 .left) (c .before .before .fast-move .ensures)
 
 pub fast-link-spec : {M : Type 1} → statement M

@@ -22,23 +22,20 @@ abbrev μ-loop : tie.MeasureT-loop
 μ-loop share from to neighbours words floats₀ k₀ floats k = to - k
 
 loop-holds : tie.Need-loop-holds Inv-loop μ-loop
-loop-holds c = ((omega arith, (c .before .before .before .pre .1 .1 .1 .0, refl)), onto-start _ (c .before .before .before .pre .0))
+loop-holds c = ((omega arith, (c .before .before .before .pre .rise, refl)), onto-start _ (c .before .before .before .pre .fit))
 
 fast-link-requires : tie.Need-fast-link-requires Inv-loop μ-loop
 fast-link-requires c κs =
-    let entry = c .before .before .before .before .before .before in (
-      c .before .before .loop .inv .1 .fit,
-      (
-        entry .pre .1 .0,
-        (
-          record { row = entry .pre .1 .1 .0 .row; all = entry .pre .1 .1 .0 .all; within = omega (arith, entry .pre .1 .1 .0 .within, c .before .loop-test .taken); ends = entry .pre .1 .1 .0 .ends },
-          rw (reverse-same _ _ _ _ (entry .args .floats .now)) (entry .pre .1 .1 .1 .1 _ (c .before .before .loop .inv .0 .0) (c .before .loop-test .taken)),
-        ),
-      ),
-    )
+    let entry = c .before .before .before .before .before .before in
+    record {
+      fit = c .before .before .loop .inv .1 .fit;
+      zone = entry .pre .zone;
+      ends = record { row = entry .pre .ends .row; all = entry .pre .ends .all; within = omega (arith, entry .pre .ends .within, c .before .loop-test .taken); ends = entry .pre .ends .ends };
+      back = rw (reverse-same _ _ _ _ (entry .args .floats .now)) (entry .pre .back _ (c .before .before .loop .inv .0 .0) (c .before .loop-test .taken));
+    }
 
 add-k : tie.Need-add-k Inv-loop μ-loop
-add-k c = omega (arith, c .before .before .before .before .loop-test .taken, c .before .before .before .before .before .before .before .before .before .pre .1 .1 .0 .within, c .before .before .before .before .before .before .before .before .before .pre .0 .links)
+add-k c = omega (arith, c .before .before .before .before .loop-test .taken, c .before .before .before .before .before .before .before .before .before .pre .ends .within, c .before .before .before .before .before .before .before .before .before .pre .fit .links)
 
 loop-less : tie.Need-loop-less Inv-loop μ-loop
 loop-less c = omega (arith, c .before .before .before .before .loop-test .taken)

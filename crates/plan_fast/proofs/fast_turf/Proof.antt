@@ -48,19 +48,16 @@ cast-to c =
 
 count-eligible-requires : tie.Need-count-eligible-requires
 count-eligible-requires c κs =
-    let entry = c .before .before .before .before .before .before .before .before .before .before .before .before .before .before .before .before .before .before .before in (
-      omega (arith, c .before .before .before .before .before .before .before .before .before .before .store .ensures .fit .words),
-      (
-        entry .pre .0 .zone,
-        (
-          record { turfs = entry .pre .0 .fit .turfs; links = entry .pre .0 .fit .links },
-          (
-            entry .pre .0 .sized .linked .rise _ (entry .pre .1),
-            (omega (arith, entry .pre .0 .sized .linked .within _ (entry .pre .1), entry .pre .0 .sized .links), (entry .pre .0 .sized .links, λ k l. entry .pre .0 .sized .linked .rows k (omega (arith, l, entry .pre .0 .sized .links)))),
-          ),
-        ),
-      ),
-    )
+    let entry = c .before .before .before .before .before .before .before .before .before .before .before .before .before .before .before .before .before .before .before in
+    record {
+      room = omega (arith, c .before .before .before .before .before .before .before .before .before .before .store .ensures .fit .words);
+      zone = entry .pre .0 .zone;
+      sizes = record { turfs = entry .pre .0 .fit .turfs; links = entry .pre .0 .fit .links };
+      rise = entry .pre .0 .sized .linked .rise _ (entry .pre .1);
+      within = omega (arith, entry .pre .0 .sized .linked .within _ (entry .pre .1), entry .pre .0 .sized .links);
+      all = entry .pre .0 .sized .links;
+      ends = λ k l. entry .pre .0 .sized .linked .rows k (omega (arith, l, entry .pre .0 .sized .links));
+    }
 
 int-to-float-t43 : tie.Need-int-to-float-t43
 int-to-float-t43 c = search needs
@@ -69,26 +66,21 @@ fast-row-requires : tie.Need-fast-row-requires
 fast-row-requires c κs =
     let entry = c .before .before .before .before .before .before .before .before .before .before .before .before .before .before .before .before .before .before .before .before .before .before .before in
     let load = c .before .before .before .before .before .before .before .before .before .before .before .before .before .before .before .before .before .before .load in
-    let store = c .before .before .before .before .before .before .before .before .before .before .before .before .before .before .store in (
-      store .ensures .fit,
-      (
-        entry .pre .0 .zone,
-        (
-          record {
-            row = entry .pre .1;
-            all = entry .pre .0 .sized .links;
-            within = omega (arith, entry .pre .0 .sized .linked .within _ (entry .pre .1), entry .pre .0 .sized .links);
-            ends = λ k l. entry .pre .0 .sized .linked .rows k (omega (arith, l, entry .pre .0 .sized .links));
-          },
-          (
-            entry .pre .0 .sized .linked .rise _ (entry .pre .1),
-            fast-within (boardOf (entry .args .rows .now) (entry .args .marks .now) (entry .args .gases)) _ _ (entry .args .zone .z)
-                _ _ _ (load .ensures) (entry .pre .0 .sized .linked) (entry .pre .1) (entry .pre .0 .reverses) _ _ (stored (load .result) (c .before .before .before .before .before .before .before .before .before .before .before .before .before .before .before .before .before .marked .ensures)
-                (store .ensures)) (entry .pre .0 .sized .links),
-          ),
-        ),
-      ),
-    )
+    let store = c .before .before .before .before .before .before .before .before .before .before .before .before .before .before .store in
+    record {
+      fit = store .ensures .fit;
+      zone = entry .pre .0 .zone;
+      ends = record {
+        row = entry .pre .1;
+        all = entry .pre .0 .sized .links;
+        within = omega (arith, entry .pre .0 .sized .linked .within _ (entry .pre .1), entry .pre .0 .sized .links);
+        ends = λ k l. entry .pre .0 .sized .linked .rows k (omega (arith, l, entry .pre .0 .sized .links));
+      };
+      rise = entry .pre .0 .sized .linked .rise _ (entry .pre .1);
+      back = fast-within (boardOf (entry .args .rows .now) (entry .args .marks .now) (entry .args .gases)) _ _ (entry .args .zone .z)
+          _ _ _ (load .ensures) (entry .pre .0 .sized .linked) (entry .pre .1) (entry .pre .0 .reverses) _ _ (stored (load .result) (c .before .before .before .before .before .before .before .before .before .before .before .before .before .before .before .before .before .marked .ensures)
+          (store .ensures)) (entry .pre .0 .sized .links);
+    }
 
 same-length : tie.Need-same-length
 same-length c = search needs

@@ -30,23 +30,25 @@ element-copy-out-neighbours c = search needs
 queue-at-requires : tie.Need-queue-at-requires Inv-loop μ-loop
 queue-at-requires c κs =
     let entry = c .before .before .before .before in
-    record { turfs = entry .pre .0 .seeking .fit .turfs; links = entry .pre .0 .seeking .fit .links }
+    record { turfs = entry .pre .searching .seeking .fit .turfs; links = entry .pre .searching .seeking .fit .links }
 
 delta-at-requires : tie.Need-delta-at-requires Inv-loop μ-loop
 delta-at-requires c κs =
     let entry = c .before .before .before .before .before in
-    (omega (arith, entry .pre .0 .row, entry .pre .0 .seeking .fit .turfs), entry .pre .0 .seeking .fit .links)
+    (omega (arith, entry .pre .searching .row, entry .pre .searching .seeking .fit .turfs), entry .pre .searching .seeking .fit .links)
 
 loop-holds : tie.Need-loop-holds Inv-loop μ-loop
-loop-holds c = ((refl, refl), (trail-start _ (c .before .before .before .before .before .before .pre .0 .seeking), c .before .before .before .before .before .before .pre .1 .1))
+loop-holds c =
+    let pre = c .before .before .before .before .before .before .pre in
+    ((refl, refl), (trail-start _ (pre .searching .seeking), (pre .met, pre .idle)))
 
 mul-settled : tie.Need-mul-settled Inv-loop μ-loop
 mul-settled c =
     let entry = c .before .before .before .before .before .before .before .before in
-    omega (arith, c .before .before .delta-at .ensures, entry .pre .0 .row, entry .pre .0 .seeking .fit .turfs, entry .pre .0 .seeking .fit .links)
+    omega (arith, c .before .before .delta-at .ensures, entry .pre .searching .row, entry .pre .searching .seeking .fit .turfs, entry .pre .searching .seeking .fit .links)
 
 slice-read-settled : tie.Need-slice-read-settled Inv-loop μ-loop
-slice-read-settled c = omega (arith, c .before .before .before .delta-at .ensures, c .before .before .loop .inv .1 .0 .seeking .fit .floats, c .before .before .before .before .before .before .before .before .before .pre .0 .row)
+slice-read-settled c = omega (arith, c .before .before .before .delta-at .ensures, c .before .before .loop .inv .1 .0 .seeking .fit .floats, c .before .before .before .before .before .before .before .before .before .pre .searching .row)
 
 settled-requires : tie.Need-settled-requires Inv-loop μ-loop
 settled-requires c κs = search needs
@@ -59,7 +61,7 @@ same-length-2 c = c .before .before .before .before .loop .inv .0 .1
 
 returns : tie.Need-returns Inv-loop μ-loop
 returns c = let loop = c .before .before .before .before .loop in (
-  trail-end _ (loop .inv .1 .0) (turn-settled _ _ _ _ _ _ (loop .inv .1 .0 .seeking) (c .before .before .before .loop-test .taken) _ (c .before .before .before .before .before .before .queue-at .ensures) _ _ _ _ (c .before .before .before .before .before .before .before .before .before .before .before .pre .0 .row) _
+  trail-end _ (loop .inv .1 .0) (turn-settled _ _ _ _ _ _ (loop .inv .1 .0 .seeking) (c .before .before .before .loop-test .taken) _ (c .before .before .before .before .before .before .queue-at .ensures) _ _ _ _ (c .before .before .before .before .before .before .before .before .before .before .before .pre .searching .row) _
       (c .before .before .before .before .before .delta-at .ensures) (sym (c .before .settled .ensures) ∙ c .if1 .taken)),
   loop .inv .1 .1,
 )
@@ -67,29 +69,28 @@ returns c = let loop = c .before .before .before .before .loop in (
 add-r : tie.Need-add-r Inv-loop μ-loop
 add-r c =
     let entry = c .before .before .before .before .before .before .before .before .before .before .before in
-    omega (arith, c .before .before .before .before .loop .inv .1 .0 .seeking .line .few, entry .pre .0 .seeking .fit .turfs, entry .pre .0 .seeking .fit .links, c .before .before .before .before .before .before .queue-at .ensures, c .before .before .before .loop-test .taken)
+    omega (arith, c .before .before .before .before .loop .inv .1 .0 .seeking .line .few, entry .pre .searching .seeking .fit .turfs, entry .pre .searching .seeking .fit .links, c .before .before .before .before .before .before .queue-at .ensures, c .before .before .before .loop-test .taken)
 
 mul-r : tie.Need-mul-r Inv-loop μ-loop
 mul-r c =
     let entry = c .before .before .before .before .before .before .before .before .before .before .before in
-    omega (arith, c .before .before .before .before .loop .inv .1 .0 .seeking .line .few, entry .pre .0 .seeking .fit .turfs, entry .pre .0 .seeking .fit .links, c .before .before .before .before .before .before .queue-at .ensures, c .before .before .before .loop-test .taken)
+    omega (arith, c .before .before .before .before .loop .inv .1 .0 .seeking .line .few, entry .pre .searching .seeking .fit .turfs, entry .pre .searching .seeking .fit .links, c .before .before .before .before .before .before .queue-at .ensures, c .before .before .before .loop-test .taken)
 
 slice-read-r : tie.Need-slice-read-r Inv-loop μ-loop
 slice-read-r c = omega (arith, c .before .before .before .before .before .loop .inv .1 .0 .seeking .fit .words, c .before .before .before .before .before .loop .inv .1 .0 .seeking .line .few, c .before .before .before .before .before .before .before .queue-at .ensures, c .before .before .before .before .loop-test .taken)
 
 seek-turf-requires : tie.Need-seek-turf-requires Inv-loop μ-loop
-seek-turf-requires c κs = let entry = c .before .before .before .before .before .before .before .before .before .before .before .before .before .before in
-    let loop = c .before .before .before .before .before .before .before .loop in (
-      record { seeking = loop .inv .1 .0 .seeking; zone = entry .pre .0 .zone; row = entry .pre .0 .row },
-      (
-        turn-unsettled _ _ _ _ _ _ (loop .inv .1 .0 .seeking) (c .before .before .before .before .before .before .loop-test .taken) _ (c .before .before .before .before .before .before .before .before .before .queue-at .ensures) (boardOf (entry .args .rows .now) (entry .args .marks .now) (entry .args .gases))
-            (entry .args .hand .z) (entry .args .hand .side) (entry .args .hand .g) (entry .pre .0 .row) _ (c .before .before .before .before .before .before .before .before .delta-at .ensures) (sym (c .before .before .before .before .settled .ensures) ∙ c .before .before .before .if1 .left),
-        (
-          seen-below _ _ _ _ _ _ (loop .inv .1 .0 .seeking) (c .before .before .before .before .before .before .loop-test .taken) _ (c .before .before .before .before .before .before .before .before .before .queue-at .ensures),
-          (entry .pre .1 .0 .linked, entry .pre .1 .0 .links),
-        ),
-      ),
-    )
+seek-turf-requires c κs =
+    let entry = c .before .before .before .before .before .before .before .before .before .before .before .before .before .before in
+    let loop = c .before .before .before .before .before .before .before .loop in
+    record {
+      searching = record { seeking = loop .inv .1 .0 .seeking; zone = entry .pre .searching .zone; row = entry .pre .searching .row };
+      unsettled = turn-unsettled _ _ _ _ _ _ (loop .inv .1 .0 .seeking) (c .before .before .before .before .before .before .loop-test .taken) _ (c .before .before .before .before .before .before .before .before .before .queue-at .ensures) (boardOf (entry .args .rows .now) (entry .args .marks .now) (entry .args .gases))
+          (entry .args .hand .z) (entry .args .hand .side) (entry .args .hand .g) (entry .pre .searching .row) _ (c .before .before .before .before .before .before .before .before .delta-at .ensures) (sym (c .before .before .before .before .settled .ensures) ∙ c .before .before .before .if1 .left);
+      row = seen-below _ _ _ _ _ _ (loop .inv .1 .0 .seeking) (c .before .before .before .before .before .before .loop-test .taken) _ (c .before .before .before .before .before .before .before .before .before .queue-at .ensures);
+      linked = entry .pre .sized .linked;
+      all = entry .pre .sized .links;
+    }
 
 add-looked : tie.Need-add-looked Inv-loop μ-loop
 add-looked c =
@@ -108,7 +109,7 @@ loop-again c = let entry = c .before .before .before .before .before .before .be
       (seek-turf .kept .1 .1 .1 .1 .1 .0 ∙ loop .inv .0 .0, seek-turf .kept .1 .1 .1 .1 .1 .1 .0 ∙ loop .inv .0 .1),
       (
         trail-next _ _ (loop .inv .1 .0) (sought-as (seek-turf .ensures .sought) (links-are (boardOf (entry .args .rows .now) (entry .args .marks .now) (entry .args .gases)) (entry .args .hand .z) (entry .args .hand .side) (entry .args .hand .g) _)) (omega (arith, loop .inv .1 .0 .seeking .line .few, loop-test .taken))
-            (turn-on _ _ _ _ _ _ (loop .inv .1 .0 .seeking) (loop-test .taken) _ (queue-at .ensures) (boardOf (entry .args .rows .now) (entry .args .marks .now) (entry .args .gases)) _ _ _ (entry .pre .0 .row) _
+            (turn-on _ _ _ _ _ _ (loop .inv .1 .0 .seeking) (loop-test .taken) _ (queue-at .ensures) (boardOf (entry .args .rows .now) (entry .args .marks .now) (entry .args .gases)) _ _ _ (entry .pre .searching .row) _
             (c .before .before .before .before .before .before .before .before .before .before .before .before .before .delta-at .ensures) (sym (c .before .before .before .before .before .before .before .before .before .settled .ensures) ∙ c .before .before .before .before .before .before .before .before .if1 .left)),
         (
           seek-turf .ensures .met .keeps _ (links-lead (seen-below _ _ _ _ _ _ (loop .inv .1 .0 .seeking) (loop-test .taken) _ (queue-at .ensures))) (loop .inv .1 .1 .0),

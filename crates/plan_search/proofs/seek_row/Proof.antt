@@ -18,27 +18,27 @@ abbrev μ-loop : tie.MeasureT-loop
 loop-holds : tie.Need-loop-holds Inv-loop μ-loop
 loop-holds c =
     let entry = c .before .before .before in
-    ((omega arith, (entry .pre .1 .1 .1, (refl, refl))), row-start (entry .pre .0 .seeking) (entry .pre .1 .0))
+    ((omega arith, (entry .pre .rise, (refl, refl))), row-start (entry .pre .searching .seeking) (entry .pre .unsettled))
 
 pass-links-requires : tie.Need-pass-links-requires Inv-loop μ-loop
 pass-links-requires c κs =
     let entry = c .before .before .before .before .before .before .before in
-    (record { seeking = c .before .before .before .loop .inv .1 .on .seeking; zone = entry .pre .0 .zone; row = entry .pre .0 .row }, (entry .pre .1 .1 .0, c .before .before .before .loop .inv .0 .1 .0))
+    (record { seeking = c .before .before .before .loop .inv .1 .on .seeking; zone = entry .pre .searching .zone; row = entry .pre .searching .row }, (entry .pre .ends, c .before .before .before .loop .inv .0 .1 .0))
 
 seek-link-requires : tie.Need-seek-link-requires Inv-loop μ-loop
 seek-link-requires c κs =
     let entry = c .before .before .before .before .before .before .before .before .before .before .before .before .before .before .before in
     let loop = c .before .before .before .before .before .before .before .before .before .before .before .loop in
     let pass-links = c .before .before .before .before .before .before .before .pass-links in
-    let t = row-passes (loop .inv .1) (entry .pre .0 .row) (loop .inv .0 .0) (pass-links .ensures .0) (pass-links .ensures .1 .0) (pass-links .ensures .1 .1) in (
-      record { seeking = t .on .seeking; zone = entry .pre .0 .zone; row = entry .pre .0 .row },
+    let t = row-passes (loop .inv .1) (entry .pre .searching .row) (loop .inv .0 .0) (pass-links .ensures .0) (pass-links .ensures .1 .0) (pass-links .ensures .1 .1) in (
+      record { seeking = t .on .seeking; zone = entry .pre .searching .zone; row = entry .pre .searching .row },
       (
         t .unsettled,
         record {
-          row = entry .pre .1 .1 .0 .row;
-          all = entry .pre .1 .1 .0 .all;
-          within = omega (arith, entry .pre .1 .1 .0 .within, c .before .before .if1 .taken);
-          ends = entry .pre .1 .1 .0 .ends;
+          row = entry .pre .ends .row;
+          all = entry .pre .ends .all;
+          within = omega (arith, entry .pre .ends .within, c .before .before .if1 .taken);
+          ends = entry .pre .ends .ends;
         },
       ),
     )
@@ -46,7 +46,7 @@ seek-link-requires c κs =
 add-k : tie.Need-add-k Inv-loop μ-loop
 add-k c =
     let entry = c .before .before .before .before .before .before .before .before .before .before .before .before .before .before .before .before .before .before .before .before in
-    omega (arith, c .before .before .before .before .before .before .before .if1 .taken, entry .pre .1 .1 .0 .within, entry .pre .0 .seeking .fit .links)
+    omega (arith, c .before .before .before .before .before .before .before .if1 .taken, entry .pre .ends .within, entry .pre .searching .seeking .fit .links)
 
 same-length : tie.Need-same-length Inv-loop μ-loop
 same-length c =
@@ -64,9 +64,9 @@ returns c =
     let loop = c .before .before .before .before .before .before .before .before .before .before .before .before .before .before .before .before .before .loop in
     let pass-links = c .before .before .before .before .before .before .before .before .before .before .before .before .before .pass-links in
     let seek-link = c .before .before .before .before .before .seek-link in
-    let t = row-passes (loop .inv .1) (entry .pre .0 .row) (loop .inv .0 .0) (pass-links .ensures .0) (pass-links .ensures .1 .0) (pass-links .ensures .1 .1) in
+    let t = row-passes (loop .inv .1) (entry .pre .searching .row) (loop .inv .0 .0) (pass-links .ensures .0) (pass-links .ensures .1 .0) (pass-links .ensures .1 .1) in
     row-settled _ _ t (omega (arith, loop .inv .0 .0, pass-links .ensures .0)) (c .before .before .before .before .before .before .before .before .if1 .taken) (seek-link .ensures .0)
-    (entry .pre .0 .row) (sym (seek-link .ensures .1) ∙ c .if2 .taken)
+    (entry .pre .searching .row) (sym (seek-link .ensures .1) ∙ c .if2 .taken)
 
 loop-less : tie.Need-loop-less Inv-loop μ-loop
 loop-less c = omega (arith, c .before .before .before .before .before .before .before .before .before .before .before .before .before .before .before .before .loop-test .taken, c .before .before .before .before .before .before .before .before .before .before .before .before .before .pass-links .ensures .0, c .before .before .before .before .before .before .before .before .if1 .taken)
@@ -77,7 +77,7 @@ loop-again c =
     let pass-links = c .before .before .before .before .before .before .before .before .before .before .before .before .before .pass-links in
     let if1 = c .before .before .before .before .before .before .before .before .if1 in
     let seek-link = c .before .before .before .before .before .seek-link in
-    let t = row-passes (loop .inv .1) (c .before .before .before .before .before .before .before .before .before .before .before .before .before .before .before .before .before .before .before .before .before .pre .0 .row)
+    let t = row-passes (loop .inv .1) (c .before .before .before .before .before .before .before .before .before .before .before .before .before .before .before .before .before .before .before .before .before .pre .searching .row)
     (loop .inv .0 .0) (pass-links .ensures .0) (pass-links .ensures .1 .0) (pass-links .ensures .1 .1) in (
       (
         omega (arith, loop .inv .0 .0, pass-links .ensures .0),
@@ -111,7 +111,7 @@ loop-again-2 c =
           ),
         ),
       ),
-      row-passes (loop .inv .1) (c .before .before .before .before .before .before .before .before .before .before .before .before .before .pre .0 .row)
+      row-passes (loop .inv .1) (c .before .before .before .before .before .before .before .before .before .before .before .before .before .pre .searching .row)
           (loop .inv .0 .0) (pass-links .ensures .0) (pass-links .ensures .1 .0) (pass-links .ensures .1 .1),
     )
 

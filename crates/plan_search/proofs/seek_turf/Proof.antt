@@ -13,7 +13,7 @@ shared-slice-read-from c = search needs
 cast-from : tie.Need-cast-from
 cast-from c =
     let entry = c .before .before .before .before .before in
-    omega (arith, entry .pre .1 .1 .1 .0 .rise _ (entry .pre .1 .1 .0), entry .pre .1 .1 .1 .0 .within _ (entry .pre .1 .1 .0), entry .pre .1 .1 .1 .1, entry .pre .0 .seeking .fit .links)
+    omega (arith, entry .pre .linked .rise _ (entry .pre .row), entry .pre .linked .within _ (entry .pre .row), entry .pre .all, entry .pre .searching .seeking .fit .links)
 
 add-to : tie.Need-add-to
 add-to c = search needs
@@ -27,25 +27,22 @@ shared-slice-read-to c = search needs
 cast-to : tie.Need-cast-to
 cast-to c =
     let entry = c .before .before .before .before .before .before in
-    omega (arith, entry .pre .1 .1 .1 .0 .within _ (entry .pre .1 .1 .0), entry .pre .1 .1 .1 .1, entry .pre .0 .seeking .fit .links)
+    omega (arith, entry .pre .linked .within _ (entry .pre .row), entry .pre .all, entry .pre .searching .seeking .fit .links)
 
 seek-row-requires : tie.Need-seek-row-requires
 seek-row-requires c κs =
-    let entry = c .before .before .before .before .before .before .before .before in (
-      entry .pre .0,
-      (
-        entry .pre .1 .0,
-        (
-          record {
-            row = entry .pre .1 .1 .0;
-            all = entry .pre .1 .1 .1 .1;
-            within = omega (arith, entry .pre .1 .1 .1 .0 .within _ (entry .pre .1 .1 .0), entry .pre .1 .1 .1 .1);
-            ends = λ k l. entry .pre .1 .1 .1 .0 .rows k (omega (arith, l, entry .pre .1 .1 .1 .1));
-          },
-          entry .pre .1 .1 .1 .0 .rise _ (entry .pre .1 .1 .0),
-        ),
-      ),
-    )
+    let entry = c .before .before .before .before .before .before .before .before in
+    record {
+      searching = entry .pre .searching;
+      unsettled = entry .pre .unsettled;
+      ends = record {
+        row = entry .pre .row;
+        all = entry .pre .all;
+        within = omega (arith, entry .pre .linked .within _ (entry .pre .row), entry .pre .all);
+        ends = λ k l. entry .pre .linked .rows k (omega (arith, l, entry .pre .all));
+      };
+      rise = entry .pre .linked .rise _ (entry .pre .row);
+    }
 
 same-length : tie.Need-same-length
 same-length c = search needs

@@ -44,22 +44,19 @@ seek-requires c κs =
     let store = c .before .before .before .before .before .before .before .before .before .before .before .before .store in
     let queue-at = c .before .before .before .before .before .before .before .queue-at in
     let places-at = c .before .before .before .before .before .before .places-at in
-    let insert = c .before .before .before .before .insert in (
-      record {
+    let insert = c .before .before .before .before .insert in
+    record {
+      searching = record {
         seeking = begun _ _ _ _ _ _ (store .ensures .fit) (entry .pre .1) _ _ (queue-at .ensures) (places-at .ensures) (insert .ensures);
         zone = entry .pre .0 .zone;
         row = entry .pre .1;
-      },
-      (
-        entry .pre .0 .sized,
-        (
-          begun-met _ _ _ _ _ _ (store .ensures .fit) (entry .pre .1) _ _ (queue-at .ensures) (places-at .ensures) (insert .ensures) _ _ _ (points-nowhere _ _ _ _ _ _ (entry .pre .0 .fit)
-              (entry .pre .1) (store .ensures)),
-          begun-idle _ _ _ _ _ _ (store .ensures .fit) (entry .pre .1) _ _ (queue-at .ensures) (places-at .ensures) (insert .ensures) _ (moves-nothing _ _ _ _ _ (entry .pre .0 .fit)
-              (entry .pre .1) (store .ensures)),
-        ),
-      ),
-    )
+      };
+      sized = entry .pre .0 .sized;
+      met = begun-met _ _ _ _ _ _ (store .ensures .fit) (entry .pre .1) _ _ (queue-at .ensures) (places-at .ensures) (insert .ensures) _ _ _ (points-nowhere _ _ _ _ _ _ (entry .pre .0 .fit)
+          (entry .pre .1) (store .ensures));
+      idle = begun-idle _ _ _ _ _ _ (store .ensures .fit) (entry .pre .1) _ _ (queue-at .ensures) (places-at .ensures) (insert .ensures) _ (moves-nothing _ _ _ _ _ (entry .pre .0 .fit)
+          (entry .pre .1) (store .ensures));
+    }
 
 least-requires : tie.Need-least-requires
 least-requires c κs = search needs
@@ -71,17 +68,14 @@ drain-requires c κs =
     let seek = c .before .before .before .before .before .before .before .seek in
     let back = reverses-after _ _ _ _ _ _ (store .ensures .fit) (entry .pre .1) _ _ (c .before .before .before .before .before .before .before .before .before .before .before .before .before .before .before .queue-at .ensures)
     (c .before .before .before .before .before .before .before .before .before .before .before .before .before .before .places-at .ensures) (c .before .before .before .before .before .before .before .before .before .before .before .before .insert .ensures)
-    (entry .pre .0 .reverses) (store .ensures) (seek .ensures .0) in (
-      seek .ensures .0 .seeking .fit,
-      (
-        entry .pre .0 .zone,
-        (
-          seek .ensures .0 .seeking .line .few,
-          rows-within _ _ _ _ (boardOf (entry .args .rows .now) (entry .args .marks .now)
-              (entry .args .gases)) (entry .pre .0 .sized .linked) (entry .pre .0 .sized .links) (seek .ensures .0 .seeking) (seek .ensures .1 .0) back,
-        ),
-      ),
-    )
+    (entry .pre .0 .reverses) (store .ensures) (seek .ensures .0) in
+    record {
+      fit = seek .ensures .0 .seeking .fit;
+      zone = entry .pre .0 .zone;
+      few = seek .ensures .0 .seeking .line .few;
+      within = rows-within _ _ _ _ (boardOf (entry .args .rows .now) (entry .args .marks .now)
+          (entry .args .gases)) (entry .pre .0 .sized .linked) (entry .pre .0 .sized .links) (seek .ensures .0 .seeking) (seek .ensures .1 .0) back;
+    }
 
 least-requires-2 : tie.Need-least-requires-2
 least-requires-2 c κs = search needs
@@ -99,17 +93,14 @@ drain-requires-2 c κs =
     let near = searched-near _ _ _ _ _ _ (store .ensures .fit) (entry .pre .1) _ _ (queue-at .ensures) (places-at .ensures) (insert .ensures) (boardOf (entry .args .rows .now)
     (entry .args .marks .now) (entry .args .gases)) _ _ _ _ (points-nowhere _ _ _ _ _ _ (entry .pre .0 .fit) (entry .pre .1) (store .ensures)) (seek .ensures .0) in
     let few = low-few _ _ 0 _ _ _ _ _ _ _ (seek .ensures .0 .seeking) (c .before .before .before .before .before .before .before .before .least .ensures) (c .before .before .least2 .ensures)
-    near (seek .ensures .1 .1) in (
-      c .before .before .before .before .before .drain .ensures .fit,
-      (
-        entry .pre .0 .zone,
-        (
-          omega (arith, few, seek .ensures .0 .seeking .line .few),
-          rows-later _ _ _ _ _ _ (rows-within _ _ _ _ (boardOf (entry .args .rows .now) (entry .args .marks .now) (entry .args .gases)) (entry .pre .0 .sized .linked) (entry .pre .0 .sized .links)
-              (seek .ensures .0 .seeking) (seek .ensures .1 .0) back) _ few,
-        ),
-      ),
-    )
+    near (seek .ensures .1 .1) in
+    record {
+      fit = c .before .before .before .before .before .drain .ensures .fit;
+      zone = entry .pre .0 .zone;
+      few = omega (arith, few, seek .ensures .0 .seeking .line .few);
+      within = rows-later _ _ _ _ _ _ (rows-within _ _ _ _ (boardOf (entry .args .rows .now) (entry .args .marks .now) (entry .args .gases)) (entry .pre .0 .sized .linked) (entry .pre .0 .sized .links)
+          (seek .ensures .0 .seeking) (seek .ensures .1 .0) back) _ few;
+    }
 
 same-length : tie.Need-same-length
 same-length c =

@@ -18,7 +18,7 @@ point-requires c κs = search needs
 wants-at-requires : tie.Need-wants-at-requires
 wants-at-requires c κs =
     let pre = c .before .before .before .before .before .before .before .before .before .before .pre in
-    (omega (arith, pre .0 .turfs, pre .1 .1 .0), (pre .0 .links, omega (arith, c .before .before .before .before .before .point .ensures .fit .floats, pre .1 .1 .0)))
+    (omega (arith, pre .fit .turfs, pre .met), (pre .fit .links, omega (arith, c .before .before .before .before .before .point .ensures .fit .floats, pre .met)))
 
 trade-requires : tie.Need-trade-requires
 trade-requires c κs = search needs
@@ -32,8 +32,8 @@ same-length-2 c = search needs
 returns : tie.Need-returns
 returns c = let entry = c .before .before .before .before .before .before .before .before .before .before .before .before .before .before .before .before .before .before .before in
     let point = c .before .before .before .before .before .before .before .before .before .before .before .before .before .before .point in (
-      met-some _ _ _ _ _ _ (entry .pre .1 .1 .0) (point .ensures) (c .before .before .before .before .trade .ensures),
-      wanted _ _ (entry .args .g) (entry .args .r) _ (entry .args .side) (entry .pre .1 .1 .0) (point .ensures) _ refl (c .before .before .before .before .before .before .before .before .wants-at .ensures),
+      met-some _ _ _ _ _ _ (entry .pre .met) (point .ensures) (c .before .before .before .before .trade .ensures),
+      wanted _ _ (entry .args .g) (entry .args .r) _ (entry .args .side) (entry .pre .met) (point .ensures) _ refl (c .before .before .before .before .before .before .before .before .wants-at .ensures),
     )
 
 same-length-3 : tie.Need-same-length-3
@@ -45,8 +45,8 @@ same-length-4 c = search needs
 returns-2 : tie.Need-returns-2
 returns-2 c = let entry = c .before .before .before .before .before .before .before .before .before .before .before .before in
     let point = c .before .before .before .before .before .before .before .point in (
-      met-none _ _ _ _ _ _ (entry .pre .1 .1 .0) (point .ensures) _ refl (sym (c .before .wants-at .ensures) ∙ c .if1 .left),
-      wanted _ _ (entry .args .g) (entry .args .r) _ (entry .args .side) (entry .pre .1 .1 .0) (point .ensures) _ refl (c .before .wants-at .ensures),
+      met-none _ _ _ _ _ _ (entry .pre .met) (point .ensures) _ refl (sym (c .before .wants-at .ensures) ∙ c .if1 .left),
+      wanted _ _ (entry .args .g) (entry .args .r) _ (entry .args .side) (entry .pre .met) (point .ensures) _ refl (c .before .wants-at .ensures),
     )
 
 pub meet-spec : {M : Type 1} → statement M

@@ -123,14 +123,18 @@ slice-write-words c =
     omega (arith, c .via-at .ensures, entry .pre .1 .1 .ends (entry .args .k) (omega (arith, entry .pre .1 .1 .within)), entry .pre .0 .seeking .fit .words, c .before .before .before .insert .kept .1 .1 .1 .1 .0)
 
 meet-requires : tie.Need-meet-requires
-meet-requires c κs = let entry = c .before .before .before .before .before .before .before .before .before .before .before .before .before .before .before .before .before .before in
+meet-requires c κs =
+    let entry = c .before .before .before .before .before .before .before .before .before .before .before .before .before .before .before .before .before .before in
     let hk : entry .args .k < entry .args .hand .e = omega (arith, entry .pre .1 .1 .within) in
-    let ha = entry .pre .1 .1 .ends (entry .args .k) hk in (
-      push-fit (entry .args .hand .side) (entry .args .hand .g) (entry .args .r) (entry .args .k) _ (entry .args .hand .z) _ _ _ _ _ (entry .pre .0 .seeking) hk (entry .pre .0 .row) ha _ _ (c .before .before .before .before .before .before .before .before .before .before .before .before .queue-at .ensures)
+    let ha = entry .pre .1 .1 .ends (entry .args .k) hk in
+    record {
+      fit = push-fit (entry .args .hand .side) (entry .args .hand .g) (entry .args .r) (entry .args .k) _ (entry .args .hand .z) _ _ _ _ _ (entry .pre .0 .seeking) hk (entry .pre .0 .row) ha _ _ (c .before .before .before .before .before .before .before .before .before .before .before .before .queue-at .ensures)
           (c .before .before .before .before .before .before .before .before .before .before .before .places-at .ensures) (c .before .before .before .before .before .before .before .before .before .before .before .before .before .if1 .left)
-          (sym (c .before .before .before .before .before .before .before .if2 .left) ∙ c .before .before .before .before .before .before .before .before .contains .ensures) _ (c .before .before .before .before .before .insert .ensures) _ (c .before .before .via-at .ensures),
-      (entry .pre .0 .row, (ha, entry .pre .1 .1 .row)),
-    )
+          (sym (c .before .before .before .before .before .before .before .if2 .left) ∙ c .before .before .before .before .before .before .before .before .contains .ensures) _ (c .before .before .before .before .before .insert .ensures) _ (c .before .before .via-at .ensures);
+      hand = entry .pre .0 .row;
+      met = ha;
+      row = entry .pre .1 .1 .row;
+    }
 
 add-t20 : tie.Need-add-t20
 add-t20 c =

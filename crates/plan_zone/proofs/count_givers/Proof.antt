@@ -36,7 +36,12 @@ shared-slice-read-count-one c = omega (arith, c .before .before .before .before 
 count-one-requires : tie.Need-count-one-requires Inv-loop μ-loop
 count-one-requires c κs =
     let entry = c .before .before .before .before .before in
-    (omega (arith, entry .pre .0 .floats, node-below (entry .pre .1) _ (c .before .loop-test .taken)), (omega (arith, c .before .before .loop .inv .0, c .before .loop-test .taken, entry .pre .1 .few, entry .pre .0 .turfs), (node-below (entry .pre .1) _ (c .before .loop-test .taken), record { turfs = entry .pre .0 .turfs; links = entry .pre .0 .links })))
+    record {
+      room = omega (arith, entry .pre .0 .floats, node-below (entry .pre .1) _ (c .before .loop-test .taken));
+      count = omega (arith, c .before .before .loop .inv .0, c .before .loop-test .taken, entry .pre .1 .few, entry .pre .0 .turfs);
+      row = node-below (entry .pre .1) _ (c .before .loop-test .taken);
+      sizes = record { turfs = entry .pre .0 .turfs; links = entry .pre .0 .links };
+    }
 
 add-i : tie.Need-add-i Inv-loop μ-loop
 add-i c = omega (arith, c .before .before .loop-test .taken, c .before .before .before .before .before .before .pre .1 .few, c .before .before .before .before .before .before .pre .0 .turfs)

@@ -9,19 +9,19 @@ use Rattle.plan_zone.proofs.count_one.Tie as tie
 delta-at-requires : tie.Need-delta-at-requires
 delta-at-requires c κs =
     let entry = c .before in
-    (omega (arith, entry .pre .1 .1), entry .pre .1 .1 .1 .links)
+    (omega (arith, entry .pre .row, entry .pre .sizes .turfs), entry .pre .sizes .links)
 
 mul-picks : tie.Need-mul-picks
-mul-picks c = omega (arith, c .delta-at .ensures, c .before .before .pre .1 .1)
+mul-picks c = omega (arith, c .delta-at .ensures, c .before .before .pre .row, c .before .before .pre .sizes .turfs, c .before .before .pre .sizes .links)
 
 shared-slice-read-picks : tie.Need-shared-slice-read-picks
-shared-slice-read-picks c = omega (arith, c .before .delta-at .ensures, c .before .before .before .pre .0)
+shared-slice-read-picks c = omega (arith, c .before .delta-at .ensures, c .before .before .before .pre .room)
 
 picks-requires : tie.Need-picks-requires
 picks-requires c κs = search needs
 
 add-result : tie.Need-add-result
-add-result c = omega (arith, c .before .before .before .before .before .pre .1 .0)
+add-result c = omega (arith, c .before .before .before .before .before .pre .count)
 
 returns : tie.Need-returns
 returns c = rw (picked-as Giving (c .before .before .before .before .before .args .floats .now) _ _ _ (c .before .before .before .delta-at .ensures) (c .before .picks .ensures) (c .if1 .taken))

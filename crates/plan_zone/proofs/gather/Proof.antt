@@ -36,11 +36,16 @@ slice-read-choose : tie.Need-slice-read-choose Inv-loop μ-loop
 slice-read-choose c = omega (arith, c .before .before .before .before .before .before .pre .1 .room, c .before .before .loop .inv .0, c .before .before .before .before .before .before .good, c .before .loop-test .taken)
 
 choose-requires : tie.Need-choose-requires Inv-loop μ-loop
-choose-requires c κs = let entry = c .before .before .before .before .before .before .before in
-    let below = pick-below (entry .pre .1) (entry .args .side) (c .before .before .before .loop .inv .1) (c .before .before .before .loop .inv .0 .1) (c .before .before .loop-test .taken) in (
-      omega (arith, c .before .before .before .loop .inv .1 .fit .words, c .before .before .before .before .list-at .ensures, c .before .before .before .loop .inv .1 .few, c .before .before .loop-test .taken, entry .pre .1 .few),
-      (omega (arith, entry .pre .0 .floats, below), (omega (arith, c .before .before .before .loop .inv .1 .few, c .before .before .loop-test .taken, entry .pre .1 .few, entry .pre .0 .turfs), (below, record { turfs = entry .pre .0 .turfs; links = entry .pre .0 .links }))),
-    )
+choose-requires c κs =
+    let entry = c .before .before .before .before .before .before .before in
+    let below = pick-below (entry .pre .1) (entry .args .side) (c .before .before .before .loop .inv .1) (c .before .before .before .loop .inv .0 .1) (c .before .before .loop-test .taken) in
+    record {
+      listed = omega (arith, c .before .before .before .loop .inv .1 .fit .words, c .before .before .before .before .list-at .ensures, c .before .before .before .loop .inv .1 .few, c .before .before .loop-test .taken, entry .pre .1 .few);
+      room = omega (arith, entry .pre .0 .floats, below);
+      count = omega (arith, c .before .before .before .loop .inv .1 .few, c .before .before .loop-test .taken, entry .pre .1 .few, entry .pre .0 .turfs);
+      row = below;
+      sizes = record { turfs = entry .pre .0 .turfs; links = entry .pre .0 .links };
+    }
 
 add-i : tie.Need-add-i Inv-loop μ-loop
 add-i c = omega (arith, c .before .before .before .before .before .loop-test .taken, c .before .before .before .before .before .before .before .before .before .before .pre .1 .few, c .before .before .before .before .before .before .before .before .before .before .pre .0 .turfs)

@@ -5,8 +5,8 @@ use borrow.Author.Needs.{needs}
 use Rattle.vectors.proofs.byte_table.Statement.{statement}
 use Rattle.vectors.proofs.byte_table.Tie as tie
 
-list-at-requires : tie.Need-list-at-requires
-list-at-requires c κs = search needs
+table-at-requires : tie.Need-table-at-requires
+table-at-requires c κs = search needs
 
 span-at-requires : tie.Need-span-at-requires
 span-at-requires c κs = search needs
@@ -16,7 +16,7 @@ byte-part-requires c κs = search needs
 
 returns : tie.Need-returns
 returns c =
-    c .byte-part .ensures ∙ ap (section (c .before .before .before .before .before .args .bytes .now)) (c .before .span-at .ensures .0 ∙ ap (spanAt (c .before .before .before .before .before .args .numbers .now)) (c .before .before .list-at .ensures))
+    c .byte-part .ensures ∙ ap (section (c .before .before .before .before .before .args .bytes .now)) (c .before .span-at .ensures .0 ∙ ap (spanAt (c .before .before .before .before .before .args .numbers .now)) (c .before .before .table-at .ensures))
 
 pub byte-table-spec : {M : Type 1} → statement M
-byte-table-spec = tie.close (tie.spec list-at-requires span-at-requires byte-part-requires returns)
+byte-table-spec = tie.close (tie.spec table-at-requires span-at-requires byte-part-requires returns)

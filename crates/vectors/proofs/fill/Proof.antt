@@ -47,9 +47,12 @@ same-length-5 c = search needs
 returns : tie.Need-returns
 returns c =
     let ns = c .before .before .before .before .before .before .before .before .before .before .before .before .before .before .before .before .before .before .before .before .before .before .before .before .before .before .before .before .args .numbers .now in
+    let gas = c .before .before .before .before .before .before .before .before .before .before .before .before .before .before .before .before .before .gas-of .ensures .0 in
+    let part = c .before .before .before .before .before .before .before .before .before .before .before .before .before .before .before .before .part .ensures in
+    let put = c .before .before .before .before .before .before .before .before .before .before .before .before .before .before .put-amounts .ensures in
     record {
       bytes = c .before .before .before .before .before .before .before .before .before .before .before .before .before .before .before .before .before .before .before .before .put-bytes .ensures;
-      gas = λ i h. c .before .before .before .before .before .before .before .before .before .before .before .before .before .before .put-amounts .ensures i h ∙ ap (λ (l : List ℕ). amount (number l i)) (c .before .before .before .before .before .before .before .before .before .before .before .before .before .before .before .before .part .ensures ∙ ap (section ns) (c .before .before .before .before .before .before .before .before .before .before .before .before .before .before .before .before .before .gas-of .ensures .0));
+      gas = λ i h. put i h ∙ ap (λ (l : List ℕ). amount (number l i)) (part ∙ ap (section ns) gas);
       words = c .before .before .before .before .before .before .before .before .before .before .lend-words .ensures;
       floats = c .before .before .before .before .before .before .lend-floats .ensures;
       events = c .before .before .lend-events .ensures;

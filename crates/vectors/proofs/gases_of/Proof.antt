@@ -5,14 +5,14 @@ use borrow.Author.Needs.{needs}
 use Rattle.vectors.proofs.gases_of.Statement.{statement}
 use Rattle.vectors.proofs.gases_of.Tie as tie
 
-list-at-requires : tie.Need-list-at-requires
-list-at-requires c κs = search needs
+table-at-requires : tie.Need-table-at-requires
+table-at-requires c κs = search needs
 
 number-at-requires : tie.Need-number-at-requires
 number-at-requires c κs = search needs
 
 returns : tie.Need-returns
-returns c = c .number-at .ensures ∙ ap (number (c .before .before .before .args .numbers .now)) (c .before .list-at .ensures)
+returns c = c .number-at .ensures ∙ ap (number (c .before .before .before .args .numbers .now)) (c .before .table-at .ensures)
 
 pub gases-of-spec : {M : Type 1} → statement M
-gases-of-spec = tie.close (tie.spec list-at-requires number-at-requires returns)
+gases-of-spec = tie.close (tie.spec table-at-requires number-at-requires returns)

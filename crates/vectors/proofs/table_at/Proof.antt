@@ -3,8 +3,8 @@ use Prim.Native.Nat.{_-_}
 use native.Mathlib.Omega.{arith}
 use borrow.Author.Needs.{needs}
 use Rattle.vectors.proofs.Places.{Through, through-none, through-next, through-all}
-use Rattle.vectors.proofs.list_at.Statement.{statement}
-use Rattle.vectors.proofs.list_at.Tie as tie
+use Rattle.vectors.proofs.table_at.Statement.{statement}
+use Rattle.vectors.proofs.table_at.Tie as tie
 
 abbrev Inv-loop : tie.InvT-loop
 Inv-loop numbers k at₀ i₀ at i = Through numbers k i at
@@ -30,7 +30,7 @@ loop-again c = through-next _ _ _ _ _ (c .before .loop-test .taken) (c .span-at 
 returns : tie.Need-returns Inv-loop μ-loop
 returns c = through-all _ _ _ _ (c .loop-test .left) (c .before .loop .inv)
 
-pub list-at-spec : {M : Type 1} → statement M
-list-at-spec =
+pub table-at-spec : {M : Type 1} → statement M
+table-at-spec =
     tie.close
     (tie.spec Inv-loop μ-loop loop-holds span-at-requires add-i loop-less loop-again returns)
