@@ -42,11 +42,11 @@ fn report(counts: &[u32; 39]) {
     show_row(
         b"vectors, those that differ, the first of these:",
         counts,
-        32,
-        35,
+        VECTORS,
+        CHANGED,
     );
-    show_row(b"digits changed, found:", counts, 35, 37);
-    show_row(b"times torn, found:", counts, 37, 39);
+    show_row(b"digits changed, found:", counts, CHANGED, TORN);
+    show_row(b"times torn, found:", counts, TORN, 39);
 }
 
 // Replays a vector with another number at a place, which it must notice, and puts the number back. A NaN for a NaN isn't tried: one is as good
