@@ -1,7 +1,7 @@
 // Replays stored vectors of the public calls: each is a case with what a call of the Rust answered and left, as oracle/boards/src/vectors.rs
 // writes them. What is found is printed. To show that a replay can fail, each vector is changed and torn, and how many of these are found is
 // printed too.
-ghost use Prim.Native.Nat.{_≤_, _<_};
+ghost use Prim.Native.Nat.{_+_, _≤_, _<_};
 ghost use lib.ListN.{length};
 use libc::STDOUT_FILENO;
 use replay_one::replay;
@@ -21,37 +21,33 @@ fn show_number(n: u32) {
     io::print_decimal(STDOUT_FILENO, n as u64);
 }
 
-// A line with the counts from one place to another.
-fn show_row(what: &[u8], counts: &[u32; 39], from: usize, to: usize)
-    requires { ⌜ to ≤ 39 ⌝ }
+// A line with eight counts from a place on.
+fn show_row(counts: &[u32; 40], from: usize)
+    requires { ⌜ from + 8 ≤ 40 ⌝ }
 {
-    show(what);
-    let mut k = from;
-    while k < to {
-        show_number(counts[k]);
+    let mut k = 0;
+    while k < 8 {
+        show_number(counts[from + k]);
         k += 1;
     }
     show(b"\n");
 }
 
-// All counts.
-fn report(counts: &[u32; 39]) {
-    show_row(b"equalize done, refused by 1 to 7:", counts, 8, 16);
-    show_row(b"depressurize:", counts, 16, 24);
-    show_row(b"planet walk:", counts, 24, 32);
-    show_row(
-        b"vectors, those that differ, the first of these:",
-        counts,
-        VECTORS,
-        CHANGED,
+// All counts: a line for each call, and one for the vectors.
+fn report(counts: &[u32; 40]) {
+    show(b"equalize, depressurize, planet walk: done, refused by 1 to 7\n");
+    show_row(counts, 8);
+    show_row(counts, 16);
+    show_row(counts, 24);
+    show(
+        b"vectors, those that differ, the first of these; digits changed, found; times torn, found\n",
     );
-    show_row(b"digits changed, found:", counts, CHANGED, TORN);
-    show_row(b"times torn, found:", counts, TORN, 39);
+    show_row(counts, 32);
 }
 
 // Replays a vector with another number at a place, which it must notice, and puts the number back. A NaN for a NaN isn't tried: one is as good
 // as another.
-fn change(vector: &mut [u32], at: usize, n: u32, counts: &mut [u32; 39])
+fn change(vector: &mut [u32], at: usize, n: u32, counts: &mut [u32; 40])
     requires { ⌜ at < length (now vector) ⌝ }
 {
     let was = vector[at];
@@ -66,10 +62,13 @@ fn change(vector: &mut [u32], at: usize, n: u32, counts: &mut [u32; 39])
     vectors_count::count_tried(counts, CHANGED, !r.met);
 }
 
-// Changes each hexadecimal digit of the number at a place, in its lowest bit.
-fn change_digits(vector: &mut [u32], at: usize, counts: &mut [u32; 39])
+// Changes each hexadecimal digit of the number at a place, in its lowest bit, if it is one of those from another place on.
+fn change_digits(vector: &mut [u32], at: usize, from: usize, counts: &mut [u32; 40])
     requires { ⌜ at < length (now vector) ⌝ }
 {
+    if at < from {
+        return;
+    }
     let n = vector[at];
     change(vector, at, n ^ 1, counts);
     let mut power = 1;
@@ -81,40 +80,31 @@ fn change_digits(vector: &mut [u32], at: usize, counts: &mut [u32; 39])
     }
 }
 
-// Changes each digit of the numbers from a place on.
-fn changes(vector: &mut [u32], from: usize, counts: &mut [u32; 39]) {
-    let mut at = from;
-    while at < vector.len() {
-        change_digits(vector, at, counts);
-        at += 1;
-    }
-}
-
-// Tears a vector in front of each of its numbers.
-fn tears(vector: &[u32], counts: &mut [u32; 39]) {
+// Tears a vector in front of each of its numbers, and changes each digit of those from a place on.
+fn try_all(vector: &mut [u32], from: usize, counts: &mut [u32; 40]) {
     let mut n = 0;
     while n < vector.len() {
         let r = replay(&vector[..n]);
         vectors_count::count_tried(counts, TORN, !r.met);
+        change_digits(vector, n, from, counts);
         n += 1;
     }
 }
 
 // One more vector with what came of it; where it is asked, it is changed and torn too.
-fn count_one(vector: &mut [u32], r: Vector, thorough: bool, counts: &mut [u32; 39]) {
+fn count_one(vector: &mut [u32], r: Vector, thorough: bool, counts: &mut [u32; 40]) {
     vectors_count::tally(counts, r.call, r.number);
     vectors_count::count(counts, VECTORS);
     if !r.met {
         vectors_count::count_differing(counts);
     }
     if thorough {
-        changes(vector, r.expected, counts);
-        tears(vector, counts);
+        try_all(vector, r.expected, counts);
     }
 }
 
 // The vector at a place, with what came of it if it is whole; the place of the next.
-fn run_at(numbers: &mut [u32], at: usize, thorough: bool, counts: &mut [u32; 39]) -> usize
+fn run_at(numbers: &mut [u32], at: usize, thorough: bool, counts: &mut [u32; 40]) -> usize
     requires { ⌜ at < length (now numbers) ⌝ }
     ensures { λ r. ⌜ at < r ⌝ }
 {
@@ -128,14 +118,14 @@ fn run_at(numbers: &mut [u32], at: usize, thorough: bool, counts: &mut [u32; 39]
 
 // Replays every vector, and where it is asked changes and tears each, and prints what came of it; at one that isn't whole it stops.
 fn run(numbers: &mut [u32], thorough: bool) {
-    let mut counts = [0u32; 39];
+    let mut counts = [0u32; 40];
     let mut at = 0;
     while at < numbers.len() {
         at = run_at(numbers, at, thorough, &mut counts);
     }
     report(&counts);
     if numbers.len() < at {
-        show(b"the next vector is torn or too long\n");
+        show(b"the next vector is torn\n");
     }
 }
 

@@ -1,10 +1,8 @@
 -- What comes of a vector that is replayed.
-use mathlib.Core.Path.{_≡_}
-use mathlib.Core.Logic.{_⊎_}
 use mathlib.Core.List.{List}
 use Prim.Native.Nat.{ℕ}
 use lib.Ieee.{Float}
-use Rattle.vectors_same.specs.Same.{tornVector, CellsHeld}
+use Rattle.vectors_same.specs.Same.{CellsHeld}
 use Rattle.vectors_same.specs.declared.Answer.{Answer}
 use Rattle.vectors_same.specs.declared.Vector.{Vector}
 
@@ -16,7 +14,3 @@ pub record Looked (numbers : List ℕ) (r : Vector) : Type 0 where
   pub events : List ℕ
   pub answer : Answer
   pub held : CellsHeld numbers gas words floats events answer r
-
--- it was, or there is no room for the case
-abbrev pub Replayed : List ℕ → Vector → Type 0
-Replayed numbers r = (r ≡ tornVector) ⊎ Looked numbers r

@@ -1,5 +1,5 @@
 // Replays one stored vector of the public calls: lends what its case says, makes its call, and looks at every cell. The program `replay` runs it.
-ghost use Rattle.replay_one.specs.Replayed.{Looked, Replayed};
+ghost use Rattle.replay_one.specs.Replayed.{Looked};
 use rules_fill::Settings;
 use vectors_same::Answer;
 use vectors_same::Vector;
@@ -156,21 +156,17 @@ fn play(
 
 // Replays the vector that the numbers begin with.
 pub fn replay(numbers: &[u32]) -> Vector
-    ensures { λ r. ⌜ Replayed (now (numbers .entry)) r ⌝ }
+    ensures { λ r. ⌜ Looked (now (numbers .entry)) r ⌝ }
 {
     let mut bytes = [0u8; 1_429];
     let mut gas = [0.0f32; 192];
     let mut words = [0u32; 4_000];
     let mut floats = [0.0f32; 2_000];
     let mut events = [0u8; 12_000];
-    let room = vectors::room_of(numbers);
-    if !room.fits {
-        return vectors_same::torn();
-    }
-    let gas_count = room.gas;
-    let word_count = room.words;
-    let float_count = room.floats;
-    let event_count = room.events;
+    let gas_count = vectors::gas_size(numbers, 192);
+    let event_count = vectors::area_size(numbers, 0, 12_000);
+    let word_count = vectors::area_size(numbers, 1, 4_000);
+    let float_count = vectors::area_size(numbers, 2, 2_000);
     play(
         numbers,
         &mut bytes,

@@ -2,13 +2,12 @@
 use mathlib.Core.Bool.{_&&_}
 use mathlib.Core.List.{List, []}
 use mathlib.Core.Path.{_≡_}
-use Prim.Native.Nat.{ℕ, _+_, _-_, _≤_, min}
+use Prim.Native.Nat.{ℕ, _+_, _-_, min}
 use lib.Dec.{leb}
 use lib.ListN.{length, getD, take, drop}
 use Rattle.turfs.specs.Tables.{Slices, table}
 use Rattle.basics.specs.Loops.{times, if_then_else_}
 use Rattle.vectors.specs.declared.Span.{Span}
-use Rattle.vectors.specs.declared.Room.{Room}
 use Rattle.vectors.specs.declared.Asked.{Asked}
 use Rattle.vectors.specs.declared.Walk.{Walk}
 use Rattle.vectors.specs.Amounts.{amount}
@@ -46,13 +45,6 @@ gasOf ns = spanAt ns (onward (tableAt ns 8) 1)
 
 abbrev pub askedAt : List ℕ → ℕ
 askedAt ns = onward (gasOf ns .to) 3
-
--- the room of the arrays of the program `replay`
-pub record Rooms (r : Room) : Type 0 where
-  pub gas : r .gas ≤ 192
-  pub words : r .words ≤ 4000
-  pub floats : r .floats ≤ 2000
-  pub events : r .events ≤ 12000
 
 -- its tables
 pub record RowsOf (ns : List ℕ) (rows : Slices) : Type 0 where

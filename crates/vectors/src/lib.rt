@@ -7,7 +7,7 @@ use turfs::Rows;
 ghost use mathlib.Core.Path.{_≡_};
 ghost use Prim.Native.Nat.{_%_, _≤_, _<_};
 ghost use lib.Ieee.{nan};
-ghost use Rattle.vectors.specs.Vectors.{onward, number, section, spanAt, tableAt, tableSpan, gasesOf, gasOf, askedAt, Rooms, CaseAsks, Walks, RowsOf, MarksOf};
+ghost use Rattle.vectors.specs.Vectors.{onward, number, section, spanAt, tableAt, tableSpan, gasesOf, gasOf, askedAt, CaseAsks, Walks, RowsOf, MarksOf};
 ghost use Rattle.vectors.specs.Amounts.{nanPattern, amount};
 ghost use Rattle.vectors.specs.Cells.{wordBefore, floatBefore, eventBefore, Follows, CaseFilled};
 
@@ -18,15 +18,6 @@ const TABLES: usize = 8;
 pub struct Span {
     pub from: usize,
     pub to: usize,
-}
-
-// How many amounts, words, floats and bytes a case lends, if it is whole and the arrays of `replay` have room for it.
-pub struct Room {
-    pub fits: bool,
-    pub gas: usize,
-    pub words: usize,
-    pub floats: usize,
-    pub events: usize,
 }
 
 // What equalize is asked: how many gases there are, where the hot ids and the turns stand, the settings, and where what is expected begins.
@@ -122,56 +113,30 @@ fn asked_at(numbers: &[u32]) -> usize
     further(gas_of(numbers).to, 3)
 }
 
-// No room.
-fn no_room() -> Room
-    ensures { λ r. ⌜ Rooms r ⌝ }
+// So many, or none where an array has room for fewer, so that a call answers something else than was stored.
+fn fitting(n: usize, most: usize) -> usize
+    ensures { λ r. ⌜ r ≤ most ⌝ }
 {
-    Room {
-        fits: false,
-        gas: 0,
-        words: 0,
-        floats: 0,
-        events: 0,
+    if most < n {
+        return 0;
     }
+    n
 }
 
-// The room of a case with so much gas, behind which the lengths of the other areas stand.
-fn case_room(numbers: &[u32], gas: usize, at: usize) -> Room
-    ensures { λ r. ⌜ Rooms r ⌝ }
-{
-    let events = number_at(numbers, at) as usize;
-    let words = number_at(numbers, further(at, 1)) as usize;
-    let floats = number_at(numbers, further(at, 2)) as usize;
-    if 192 < gas {
-        return no_room();
-    }
-    if 4_000 < words {
-        return no_room();
-    }
-    if 2_000 < floats {
-        return no_room();
-    }
-    if 12_000 < events {
-        return no_room();
-    }
-    Room {
-        fits: table_at(numbers, TABLES) <= 1_429,
-        gas,
-        words,
-        floats,
-        events,
-    }
-}
-
-// What the case of a vector lends.
-pub fn room_of(numbers: &[u32]) -> Room
-    ensures { λ r. ⌜ Rooms r ⌝ }
+// How much gas a case lends, if there is room for it.
+pub fn gas_size(numbers: &[u32], most: usize) -> usize
+    ensures { λ r. ⌜ r ≤ most ⌝ }
 {
     let gas = gas_of(numbers);
-    if numbers.len() < gas.to {
-        return no_room();
-    }
-    case_room(numbers, gas.to - gas.from, gas.to)
+    fitting(gas.to - gas.from, most)
+}
+
+// How long another area is that it lends, if there is room for it: behind the gas stand the lengths of the event area, the words and the floats.
+pub fn area_size(numbers: &[u32], by: usize, most: usize) -> usize
+    ensures { λ r. ⌜ r ≤ most ⌝ }
+{
+    let at = further(gas_of(numbers).to, by);
+    fitting(number_at(numbers, at) as usize, most)
 }
 
 // What equalize is asked in a vector.

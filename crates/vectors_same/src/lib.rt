@@ -2,7 +2,6 @@
 use vectors::Span;
 ghost use mathlib.Core.Path.{_≡_};
 ghost use Rattle.vectors.specs.Amounts.{sameBits};
-ghost use Rattle.vectors.specs.Cells.{wordBefore, floatBefore};
 ghost use Rattle.vectors_same.specs.Same.{Expects, cellsAfter, eventAfter, tornVector};
 ghost use Rattle.vectors_same.specs.Same.{sameAnswer, sameGas, sameEvents, sameWords, sameFloats, sameResults, met, noAnswer, CellsHeld};
 
@@ -48,24 +47,14 @@ fn has_bits(x: f32, bits: u32) -> bool
     vectors::nan_bits(bits)
 }
 
-// What a scratch word holds after a call that clears so many.
-fn word_after(zeros: usize, i: usize) -> u32
-    ensures { λ r. ⌜ r ≡ cellsAfter zeros i (wordBefore i) ⌝ }
+// What a scratch cell holds after a call that clears so many.
+fn cell_after(zeros: usize, i: usize, before: u32) -> u32
+    ensures { λ r. ⌜ r ≡ cellsAfter zeros i before ⌝ }
 {
     if i < zeros {
         return 0;
     }
-    vectors::word_before(i)
-}
-
-// The bits that a scratch float holds after a call that clears so many.
-fn float_after(zeros: usize, i: usize) -> u32
-    ensures { λ r. ⌜ r ≡ cellsAfter zeros i (floatBefore i) ⌝ }
-{
-    if i < zeros {
-        return 0;
-    }
-    vectors::float_before(i)
+    before
 }
 
 // What a byte of the event area holds after a call that writes these.
@@ -133,7 +122,7 @@ fn same_words(zeros: usize, words: &[u32]) -> bool
 {
     let mut i = 0;
     while i < words.len() {
-        if words[i] != word_after(zeros, i) {
+        if words[i] != cell_after(zeros, i, vectors::word_before(i)) {
             return false;
         }
         i += 1;
@@ -147,7 +136,7 @@ fn same_floats(zeros: usize, floats: &[f32]) -> bool
 {
     let mut i = 0;
     while i < floats.len() {
-        if !has_bits(floats[i], float_after(zeros, i)) {
+        if !has_bits(floats[i], cell_after(zeros, i, vectors::float_before(i))) {
             return false;
         }
         i += 1;
@@ -155,8 +144,8 @@ fn same_floats(zeros: usize, floats: &[f32]) -> bool
     zeros <= floats.len()
 }
 
-// A vector that isn't whole, or has no room.
-pub fn torn() -> Vector
+// A vector that isn't whole.
+fn torn() -> Vector
     ensures { λ r. ⌜ r ≡ tornVector ⌝ }
 {
     Vector {

@@ -7,10 +7,13 @@ use Rattle.replay.proofs.change_digits.Statement.{statement}
 use Rattle.replay.proofs.change_digits.Tie as tie
 
 abbrev Inv-loop : tie.InvT-loop
-Inv-loop vector₀ at counts₀ n power₀ rest₀ vector counts power rest = (length vector ≡ length vector₀) × (at < length vector₀)
+Inv-loop vector₀ at from counts₀ n power₀ rest₀ vector counts power rest = (length vector ≡ length vector₀) × (at < length vector₀)
 
 abbrev μ-loop : tie.MeasureT-loop
-μ-loop vector₀ at counts₀ n power₀ rest₀ vector counts power rest = rest
+μ-loop vector₀ at from counts₀ n power₀ rest₀ vector counts power rest = rest
+
+returns : tie.Need-returns Inv-loop μ-loop
+returns c = search needs
 
 mul-n : tie.Need-mul-n Inv-loop μ-loop
 mul-n c = search needs
@@ -39,8 +42,8 @@ loop-again c = search needs
 same-length : tie.Need-same-length Inv-loop μ-loop
 same-length c = search needs
 
-returns : tie.Need-returns Inv-loop μ-loop
-returns c = search needs
+returns-2 : tie.Need-returns-2 Inv-loop μ-loop
+returns-2 c = search needs
 
 pub change-digits-spec : {M : Type 1} → statement M
 change-digits-spec =
@@ -48,6 +51,7 @@ change-digits-spec =
     (tie.spec
     Inv-loop
     μ-loop
+    returns
     mul-n
     slice-read-n
     change-requires
@@ -57,4 +61,4 @@ change-digits-spec =
     loop-less
     loop-again
     same-length
-    returns)
+    returns-2)

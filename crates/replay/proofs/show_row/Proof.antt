@@ -5,16 +5,16 @@ use Rattle.replay.proofs.show_row.Statement.{statement}
 use Rattle.replay.proofs.show_row.Tie as tie
 
 abbrev Inv-loop : tie.InvT-loop
-Inv-loop what counts from to k₀ t6 k = Unit {0}
+Inv-loop counts from k₀ t4 k = Unit {0}
 
 abbrev μ-loop : tie.MeasureT-loop
-μ-loop what counts from to k₀ t6 k = to - k
-
-show-requires : tie.Need-show-requires Inv-loop μ-loop
-show-requires c κs = search needs
+μ-loop counts from k₀ t4 k = 8 - k
 
 loop-holds : tie.Need-loop-holds Inv-loop μ-loop
 loop-holds c = search needs
+
+add-show-number : tie.Need-add-show-number Inv-loop μ-loop
+add-show-number c = search needs
 
 mul-show-number : tie.Need-mul-show-number Inv-loop μ-loop
 mul-show-number c = search needs
@@ -37,8 +37,8 @@ loop-again c = search needs
 slice-aggregate-show : tie.Need-slice-aggregate-show Inv-loop μ-loop
 slice-aggregate-show c = search needs
 
-show-requires-2 : tie.Need-show-requires-2 Inv-loop μ-loop
-show-requires-2 c κs = search needs
+show-requires : tie.Need-show-requires Inv-loop μ-loop
+show-requires c κs = search needs
 
 returns : tie.Need-returns Inv-loop μ-loop
 returns c = search needs
@@ -49,8 +49,8 @@ show-row-spec =
     (tie.spec
     Inv-loop
     μ-loop
-    show-requires
     loop-holds
+    add-show-number
     mul-show-number
     element-copy-out-show-number
     show-number-requires
@@ -58,5 +58,5 @@ show-row-spec =
     loop-less
     loop-again
     slice-aggregate-show
-    show-requires-2
+    show-requires
     returns)

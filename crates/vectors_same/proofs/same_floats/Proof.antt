@@ -1,12 +1,12 @@
 -- The tests left, from here on, pass exactly when all do. Assumes nothing.
-use mathlib.Core.Path.{_≡_, sym, _∙_}
+use mathlib.Core.Path.{_≡_, sym, ap, _∙_}
 use mathlib.Core.Bool.{true}
 use Prim.Native.Nat.{_-_}
 use lib.ListN.{length}
 use borrow.Author.Tests.{eq-eqb, ne-eqb, not-true, not-false}
 use Rattle.basics.specs.Loops.{every, upFrom}
 use Rattle.vectors_same.proofs.Tests.{starts, fails, goes-on, ends}
-use Rattle.vectors_same.specs.Same.{below, floatMet, sameFloats}
+use Rattle.vectors_same.specs.Same.{below, cellsAfter, floatMet, sameFloats}
 use borrow.Author.Needs.{needs}
 use Rattle.vectors_same.proofs.same_floats.Statement.{statement}
 use Rattle.vectors_same.proofs.same_floats.Tie as tie
@@ -26,15 +26,18 @@ mul-has-bits c = search needs
 shared-slice-read-has-bits : tie.Need-shared-slice-read-has-bits Inv-loop μ-loop
 shared-slice-read-has-bits c = search needs
 
-float-after-requires : tie.Need-float-after-requires Inv-loop μ-loop
-float-after-requires c κs = search needs
+float-before-requires : tie.Need-float-before-requires Inv-loop μ-loop
+float-before-requires c κs = search needs
+
+cell-after-requires : tie.Need-cell-after-requires Inv-loop μ-loop
+cell-after-requires c κs = search needs
 
 has-bits-requires : tie.Need-has-bits-requires Inv-loop μ-loop
 has-bits-requires c κs = search needs
 
 returns : tie.Need-returns Inv-loop μ-loop
 unfolding sameFloats
-returns c = fails _ _ _ _ (c .before .before .before .before .before .loop .inv) (c .before .before .before .before .loop-test .taken) (rw (← c .before .before .float-after .ensures) (sym (c .before .has-bits .ensures) ∙ not-true _ (c .if1 .taken)))
+returns c = fails _ _ _ _ (c .before .before .before .before .before .before .loop .inv) (c .before .before .before .before .before .loop-test .taken) (rw (← (c .before .before .cell-after .ensures ∙ ap (cellsAfter (c .before .before .before .before .before .before .before .before .args .zeros) (c .before .before .before .before .before .before .loop .i)) (c .before .before .before .float-before .ensures))) (sym (c .before .has-bits .ensures) ∙ not-true _ (c .if1 .taken)))
 
 add-i : tie.Need-add-i Inv-loop μ-loop
 add-i c = search needs
@@ -43,7 +46,7 @@ loop-less : tie.Need-loop-less Inv-loop μ-loop
 loop-less c = search needs
 
 loop-again : tie.Need-loop-again Inv-loop μ-loop
-loop-again c = goes-on _ _ _ true (c .before .before .before .before .before .loop .inv) (c .before .before .before .before .loop-test .taken) (rw (← c .before .before .float-after .ensures) (sym (c .before .has-bits .ensures) ∙ not-false _ (c .if1 .left)))
+loop-again c = goes-on _ _ _ true (c .before .before .before .before .before .before .loop .inv) (c .before .before .before .before .before .loop-test .taken) (rw (← (c .before .before .cell-after .ensures ∙ ap (cellsAfter (c .before .before .before .before .before .before .before .before .args .zeros) (c .before .before .before .before .before .before .loop .i)) (c .before .before .before .float-before .ensures))) (sym (c .before .has-bits .ensures) ∙ not-false _ (c .if1 .left)))
 
 returns-2 : tie.Need-returns-2 Inv-loop μ-loop
 unfolding sameFloats
@@ -58,7 +61,8 @@ same-floats-spec =
     loop-holds
     mul-has-bits
     shared-slice-read-has-bits
-    float-after-requires
+    float-before-requires
+    cell-after-requires
     has-bits-requires
     returns
     add-i

@@ -1,12 +1,12 @@
 -- The tests left, from here on, pass exactly when all do. Assumes nothing.
-use mathlib.Core.Path.{_≡_, sym, _∙_}
+use mathlib.Core.Path.{_≡_, sym, ap, _∙_}
 use mathlib.Core.Bool.{true}
 use Prim.Native.Nat.{_-_}
 use lib.ListN.{length}
 use borrow.Author.Tests.{eq-eqb, ne-eqb, not-true, not-false}
 use Rattle.basics.specs.Loops.{every, upFrom}
 use Rattle.vectors_same.proofs.Tests.{starts, fails, goes-on, ends}
-use Rattle.vectors_same.specs.Same.{below, wordMet, sameWords}
+use Rattle.vectors_same.specs.Same.{below, cellsAfter, wordMet, sameWords}
 use borrow.Author.Needs.{needs}
 use Rattle.vectors_same.proofs.same_words.Statement.{statement}
 use Rattle.vectors_same.proofs.same_words.Tie as tie
@@ -26,12 +26,15 @@ mul-if1 c = search needs
 shared-slice-read-if1 : tie.Need-shared-slice-read-if1 Inv-loop μ-loop
 shared-slice-read-if1 c = search needs
 
-word-after-requires : tie.Need-word-after-requires Inv-loop μ-loop
-word-after-requires c κs = search needs
+word-before-requires : tie.Need-word-before-requires Inv-loop μ-loop
+word-before-requires c κs = search needs
+
+cell-after-requires : tie.Need-cell-after-requires Inv-loop μ-loop
+cell-after-requires c κs = search needs
 
 returns : tie.Need-returns Inv-loop μ-loop
 unfolding sameWords
-returns c = fails _ _ _ _ (c .before .before .before .before .loop .inv) (c .before .before .before .loop-test .taken) (ne-eqb _ _ (λ e. c .if1 .taken (e ∙ sym (c .before .word-after .ensures))))
+returns c = fails _ _ _ _ (c .before .before .before .before .before .loop .inv) (c .before .before .before .before .loop-test .taken) (ne-eqb _ _ (λ e. c .if1 .taken (e ∙ sym ((c .before .cell-after .ensures ∙ ap (cellsAfter (c .before .before .before .before .before .before .before .args .zeros) (c .before .before .before .before .before .loop .i)) (c .before .before .word-before .ensures))))))
 
 add-i : tie.Need-add-i Inv-loop μ-loop
 add-i c = search needs
@@ -40,7 +43,7 @@ loop-less : tie.Need-loop-less Inv-loop μ-loop
 loop-less c = search needs
 
 loop-again : tie.Need-loop-again Inv-loop μ-loop
-loop-again c = goes-on _ _ _ true (c .before .before .before .before .loop .inv) (c .before .before .before .loop-test .taken) (eq-eqb _ _ (c .if1 .left ∙ c .before .word-after .ensures))
+loop-again c = goes-on _ _ _ true (c .before .before .before .before .before .loop .inv) (c .before .before .before .before .loop-test .taken) (eq-eqb _ _ (c .if1 .left ∙ (c .before .cell-after .ensures ∙ ap (cellsAfter (c .before .before .before .before .before .before .before .args .zeros) (c .before .before .before .before .before .loop .i)) (c .before .before .word-before .ensures))))
 
 returns-2 : tie.Need-returns-2 Inv-loop μ-loop
 unfolding sameWords
@@ -55,7 +58,8 @@ same-words-spec =
     loop-holds
     mul-if1
     shared-slice-read-if1
-    word-after-requires
+    word-before-requires
+    cell-after-requires
     returns
     add-i
     loop-less

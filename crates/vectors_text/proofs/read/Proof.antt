@@ -17,9 +17,6 @@ abbrev μ-loop : tie.MeasureT-loop
 buffer-requires : tie.Need-buffer-requires Inv-loop μ-loop
 buffer-requires c κs = search needs
 
-begin-requires : tie.Need-begin-requires Inv-loop μ-loop
-begin-requires c κs = search needs
-
 loop-holds : tie.Need-loop-holds Inv-loop μ-loop
 loop-holds c = search needs
 
@@ -69,7 +66,6 @@ read-spec =
     Inv-loop
     μ-loop
     buffer-requires
-    begin-requires
     loop-holds
     slice-aggregate-read-full
     read-full-requires
