@@ -15,26 +15,21 @@ fn show(text: &[u8]) {
     io::write_all(STDOUT_FILENO, text);
 }
 
-// A number behind a space.
-fn show_number(n: u32) {
-    show(b" ");
-    io::print_decimal(STDOUT_FILENO, n as u64);
-}
-
 // A line with eight counts from a place on.
-fn show_row(counts: &[u32; 40], from: usize)
+fn show_row(counts: &[u64; 40], from: usize)
     requires { ⌜ from + 8 ≤ 40 ⌝ }
 {
     let mut k = 0;
     while k < 8 {
-        show_number(counts[from + k]);
+        show(b" ");
+        io::print_decimal(STDOUT_FILENO, counts[from + k]);
         k += 1;
     }
     show(b"\n");
 }
 
 // All counts: a line for each call, and one for the vectors.
-fn report(counts: &[u32; 40]) {
+fn report(counts: &[u64; 40]) {
     show(b"equalize, depressurize, planet walk: done, refused by 1 to 7\n");
     show_row(counts, 8);
     show_row(counts, 16);
@@ -47,7 +42,7 @@ fn report(counts: &[u32; 40]) {
 
 // Replays a vector with another number at a place, which it must notice, and puts the number back. A NaN for a NaN isn't tried: one is as good
 // as another.
-fn change(vector: &mut [u32], at: usize, n: u32, counts: &mut [u32; 40])
+fn change(vector: &mut [u32], at: usize, n: u32, counts: &mut [u64; 40])
     requires { ⌜ at < length (now vector) ⌝ }
 {
     let was = vector[at];
@@ -63,7 +58,7 @@ fn change(vector: &mut [u32], at: usize, n: u32, counts: &mut [u32; 40])
 }
 
 // Changes each hexadecimal digit of the number at a place, in its lowest bit, if it is one of those from another place on.
-fn change_digits(vector: &mut [u32], at: usize, from: usize, counts: &mut [u32; 40])
+fn change_digits(vector: &mut [u32], at: usize, from: usize, counts: &mut [u64; 40])
     requires { ⌜ at < length (now vector) ⌝ }
 {
     if at < from {
@@ -81,7 +76,7 @@ fn change_digits(vector: &mut [u32], at: usize, from: usize, counts: &mut [u32; 
 }
 
 // Tears a vector in front of each of its numbers, and changes each digit of those from a place on.
-fn try_all(vector: &mut [u32], from: usize, counts: &mut [u32; 40]) {
+fn try_all(vector: &mut [u32], from: usize, counts: &mut [u64; 40]) {
     let mut n = 0;
     while n < vector.len() {
         let r = replay(&vector[..n]);
@@ -92,7 +87,7 @@ fn try_all(vector: &mut [u32], from: usize, counts: &mut [u32; 40]) {
 }
 
 // One more vector with what came of it; where it is asked, it is changed and torn too.
-fn count_one(vector: &mut [u32], r: Vector, thorough: bool, counts: &mut [u32; 40]) {
+fn count_one(vector: &mut [u32], r: Vector, thorough: bool, counts: &mut [u64; 40]) {
     vectors_count::tally(counts, r.call, r.number);
     vectors_count::count(counts, VECTORS);
     if !r.met {
@@ -104,7 +99,7 @@ fn count_one(vector: &mut [u32], r: Vector, thorough: bool, counts: &mut [u32; 4
 }
 
 // The vector at a place, with what came of it if it is whole; the place of the next.
-fn run_at(numbers: &mut [u32], at: usize, thorough: bool, counts: &mut [u32; 40]) -> usize
+fn run_at(numbers: &mut [u32], at: usize, thorough: bool, counts: &mut [u64; 40]) -> usize
     requires { ⌜ at < length (now numbers) ⌝ }
     ensures { λ r. ⌜ at < r ⌝ }
 {
@@ -118,7 +113,7 @@ fn run_at(numbers: &mut [u32], at: usize, thorough: bool, counts: &mut [u32; 40]
 
 // Replays every vector, and where it is asked changes and tears each, and prints what came of it; at one that isn't whole it stops.
 fn run(numbers: &mut [u32], thorough: bool) {
-    let mut counts = [0u32; 40];
+    let mut counts = [0u64; 40];
     let mut at = 0;
     while at < numbers.len() {
         at = run_at(numbers, at, thorough, &mut counts);

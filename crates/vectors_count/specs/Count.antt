@@ -1,4 +1,4 @@
--- Counting, by 32 bits, each count at its place of a list: the numbers that calls answered at 0 to 31, then the vectors, those that differ and the first of these.
+-- Counting, by 64 bits, each count at its place of a list: the numbers that calls answered at 0 to 31, then the vectors, those that differ and the first of these.
 use mathlib.Core.Bool.{Bool}
 use mathlib.Core.List.{List}
 use Prim.Native.Nat.{ℕ, _+_, _*_, _%_, _^_}
@@ -8,7 +8,7 @@ use Rattle.basics.specs.Loops.{if_then_else_}
 
 -- one more at a place
 abbrev pub counting : List ℕ → ℕ → List ℕ
-counting cs k = set cs k ((getD cs k 0 + 1) % 2 ^ 32)
+counting cs k = set cs k ((getD cs k 0 + 1) % 2 ^ 64)
 
 -- one more was tried, and perhaps found
 abbrev pub trying : List ℕ → ℕ → Bool → List ℕ

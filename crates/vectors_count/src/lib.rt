@@ -16,15 +16,15 @@ pub const CHANGED: usize = 35;
 pub const TORN: usize = 37;
 
 // One more at a place.
-pub fn count(counts: &mut [u32; 40], k: usize)
+pub fn count(counts: &mut [u64; 40], k: usize)
     requires { ⌜ k < 40 ⌝ }
     ensures { λ _. ⌜ now (counts .exit) ≡ counting (now (counts .entry)) k ⌝ }
 {
-    counts[k] = std::num::wrapping_add_u32(counts[k], 1);
+    counts[k] = std::num::wrapping_add_u64(counts[k], 1);
 }
 
 // One more was tried, which is counted at a place, and may have been found, which is counted behind it.
-pub fn count_tried(counts: &mut [u32; 40], k: usize, found: bool)
+pub fn count_tried(counts: &mut [u64; 40], k: usize, found: bool)
     requires { ⌜ k + 1 < 40 ⌝ }
     ensures { λ _. ⌜ now (counts .exit) ≡ trying (now (counts .entry)) k found ⌝ }
 {
@@ -35,7 +35,7 @@ pub fn count_tried(counts: &mut [u32; 40], k: usize, found: bool)
 }
 
 // One more vector differs: the last one that was counted.
-pub fn count_differing(counts: &mut [u32; 40])
+pub fn count_differing(counts: &mut [u64; 40])
     ensures { λ _. ⌜ now (counts .exit) ≡ differing (now (counts .entry)) ⌝ }
 {
     if counts[DIFFER] != 0 {
@@ -47,7 +47,7 @@ pub fn count_differing(counts: &mut [u32; 40])
 }
 
 // A call with the number that it answered.
-pub fn tally(counts: &mut [u32; 40], call: u32, number: u32)
+pub fn tally(counts: &mut [u64; 40], call: u32, number: u32)
     ensures { λ _. ⌜ now (counts .exit) ≡ tallied (now (counts .entry)) call number ⌝ }
 {
     count(counts, (call % 4 * 8 + number % 8) as usize);

@@ -5,14 +5,14 @@ use borrow.Author.Needs.{needs}
 use Rattle.vectors_count.proofs.count.Statement.{statement}
 use Rattle.vectors_count.proofs.count.Tie as tie
 
-mul-wrapping-add-u32 : tie.Need-mul-wrapping-add-u32
-mul-wrapping-add-u32 c = search needs
+mul-wrapping-add-u64 : tie.Need-mul-wrapping-add-u64
+mul-wrapping-add-u64 c = search needs
 
-element-copy-out-wrapping-add-u32 : tie.Need-element-copy-out-wrapping-add-u32
-element-copy-out-wrapping-add-u32 c = search needs
+element-copy-out-wrapping-add-u64 : tie.Need-element-copy-out-wrapping-add-u64
+element-copy-out-wrapping-add-u64 c = search needs
 
-wrapping-add-u32-requires : tie.Need-wrapping-add-u32-requires
-wrapping-add-u32-requires c κs = search needs
+wrapping-add-u64-requires : tie.Need-wrapping-add-u64-requires
+wrapping-add-u64-requires c κs = search needs
 
 mul-counts : tie.Need-mul-counts
 mul-counts c = search needs
@@ -21,15 +21,15 @@ element-write-counts : tie.Need-element-write-counts
 element-write-counts c = search needs
 
 returns : tie.Need-returns
-returns c = ap (set (c .before .before .args .counts .now) _) (c .wrapping-add-u32 .ensures)
+returns c = ap (set (c .before .before .args .counts .now) _) (c .wrapping-add-u64 .ensures)
 
 pub count-spec : {M : Type 1} → statement M
 count-spec =
     tie.close
     (tie.spec
-    mul-wrapping-add-u32
-    element-copy-out-wrapping-add-u32
-    wrapping-add-u32-requires
+    mul-wrapping-add-u64
+    element-copy-out-wrapping-add-u64
+    wrapping-add-u64-requires
     mul-counts
     element-write-counts
     returns)
