@@ -7,8 +7,6 @@ use libc::STDOUT_FILENO;
 use replay_one::replay;
 use vectors_count::CHANGED;
 use vectors_count::TORN;
-use vectors_count::VECTORS;
-use vectors_same::Vector;
 
 // Prints a text.
 fn show(text: &[u8]) {
@@ -86,27 +84,20 @@ fn try_all(vector: &mut [u32], from: usize, counts: &mut [u64; 40]) {
     }
 }
 
-// One more vector with what came of it; where it is asked, it is changed and torn too.
-fn count_one(vector: &mut [u32], r: Vector, thorough: bool, counts: &mut [u64; 40]) {
-    vectors_count::tally(counts, r.call, r.number);
-    vectors_count::count(counts, VECTORS);
-    if !r.met {
-        vectors_count::count_differing(counts);
-    }
-    if thorough {
-        try_all(vector, r.expected, counts);
-    }
-}
-
-// The vector at a place, with what came of it if it is whole; the place of the next.
+// The vector at a place with what came of it, if it is whole; where it is asked, it is changed and torn too. Answers the place of the next.
 fn run_at(numbers: &mut [u32], at: usize, thorough: bool, counts: &mut [u64; 40]) -> usize
     requires { ⌜ at < length (now numbers) ⌝ }
     ensures { λ r. ⌜ at < r ⌝ }
 {
     let r = replay(&numbers[at..]);
     let next = vectors::past(at, r.next);
-    if next <= numbers.len() {
-        count_one(&mut numbers[at..next], r, thorough, counts);
+    if numbers.len() < next {
+        return next;
+    }
+    vectors_count::tally(counts, r.call, r.number);
+    vectors_count::count_vector(counts, r.met);
+    if thorough {
+        try_all(&mut numbers[at..next], r.expected, counts);
     }
     next
 }

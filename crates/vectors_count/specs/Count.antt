@@ -18,6 +18,10 @@ trying cs k found = if found then counting (counting cs k) (k + 1) else counting
 abbrev pub differing : List ℕ → List ℕ
 differing cs = if eqb (getD cs 33 0) 0 then counting (set cs 34 (getD cs 32 0)) 33 else counting cs 33
 
+-- one more vector, which may differ
+abbrev pub oneVector : List ℕ → Bool → List ℕ
+oneVector cs met = let seen = counting cs 32 in if met then seen else differing seen
+
 -- one more of a call and the number that it answered
 abbrev pub tallied : List ℕ → ℕ → ℕ → List ℕ
 tallied cs call number = counting cs (call % 4 * 8 + number % 8)

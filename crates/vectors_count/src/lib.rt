@@ -1,14 +1,14 @@
 // What came of vectors, and of vectors changed and torn: an array of counts, each at its place.
 ghost use mathlib.Core.Path.{_≡_};
 ghost use Prim.Native.Nat.{_<_, _+_};
-ghost use Rattle.vectors_count.specs.Count.{counting, trying, differing, tallied};
+ghost use Rattle.vectors_count.specs.Count.{counting, trying, oneVector, tallied};
 
 // Places 0 to 31 are the numbers that calls answered, eight a call. Then: the vectors, those that differ, and the first of these.
-pub const VECTORS: usize = 32;
+const VECTORS: usize = 32;
 
-pub const DIFFER: usize = 33;
+const DIFFER: usize = 33;
 
-pub const FIRST: usize = 34;
+const FIRST: usize = 34;
 
 // Digits changed, and how many of these changes were found; vectors torn, and how many of these were found.
 pub const CHANGED: usize = 35;
@@ -34,15 +34,19 @@ pub fn count_tried(counts: &mut [u64; 40], k: usize, found: bool)
     }
 }
 
-// One more vector differs: the last one that was counted.
-pub fn count_differing(counts: &mut [u64; 40])
-    ensures { λ _. ⌜ now (counts .exit) ≡ differing (now (counts .entry)) ⌝ }
+// One more vector, which may differ; the first that does is noted.
+pub fn count_vector(counts: &mut [u64; 40], met: bool)
+    ensures { λ _. ⌜ now (counts .exit) ≡ oneVector (now (counts .entry)) met ⌝ }
 {
-    if counts[DIFFER] != 0 {
+    count(counts, VECTORS);
+    if met {
+        return;
+    }
+    if counts[DIFFER] == 0 {
+        counts[FIRST] = counts[VECTORS];
         count(counts, DIFFER);
         return;
     }
-    counts[FIRST] = counts[VECTORS];
     count(counts, DIFFER);
 }
 
