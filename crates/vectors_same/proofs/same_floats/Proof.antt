@@ -37,7 +37,11 @@ has-bits-requires c κs = search needs
 
 returns : tie.Need-returns Inv-loop μ-loop
 unfolding sameFloats
-returns c = fails _ _ _ _ (c .before .before .before .before .before .before .loop .inv) (c .before .before .before .before .before .loop-test .taken) (rw (← (c .before .before .cell-after .ensures ∙ ap (cellsAfter (c .before .before .before .before .before .before .before .before .args .zeros) (c .before .before .before .before .before .before .loop .i)) (c .before .before .before .float-before .ensures))) (sym (c .before .has-bits .ensures) ∙ not-true _ (c .if1 .taken)))
+returns c =
+    let loop = c .before .before .before .before .before .before .loop in
+    let on = c .before .before .before .before .before .loop-test .taken in
+    let after = c .before .before .cell-after .ensures ∙ ap (cellsAfter (c .before .before .before .before .before .before .before .before .args .zeros) (loop .i)) (c .before .before .before .float-before .ensures) in
+    fails _ _ _ _ (loop .inv) on (rw (← after) (sym (c .before .has-bits .ensures) ∙ not-true _ (c .if1 .taken)))
 
 add-i : tie.Need-add-i Inv-loop μ-loop
 add-i c = search needs
@@ -46,7 +50,11 @@ loop-less : tie.Need-loop-less Inv-loop μ-loop
 loop-less c = search needs
 
 loop-again : tie.Need-loop-again Inv-loop μ-loop
-loop-again c = goes-on _ _ _ true (c .before .before .before .before .before .before .loop .inv) (c .before .before .before .before .before .loop-test .taken) (rw (← (c .before .before .cell-after .ensures ∙ ap (cellsAfter (c .before .before .before .before .before .before .before .before .args .zeros) (c .before .before .before .before .before .before .loop .i)) (c .before .before .before .float-before .ensures))) (sym (c .before .has-bits .ensures) ∙ not-false _ (c .if1 .left)))
+loop-again c =
+    let loop = c .before .before .before .before .before .before .loop in
+    let on = c .before .before .before .before .before .loop-test .taken in
+    let after = c .before .before .cell-after .ensures ∙ ap (cellsAfter (c .before .before .before .before .before .before .before .before .args .zeros) (loop .i)) (c .before .before .before .float-before .ensures) in
+    goes-on _ _ _ true (loop .inv) on (rw (← after) (sym (c .before .has-bits .ensures) ∙ not-false _ (c .if1 .left)))
 
 returns-2 : tie.Need-returns-2 Inv-loop μ-loop
 unfolding sameFloats

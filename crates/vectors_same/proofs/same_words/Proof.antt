@@ -34,7 +34,11 @@ cell-after-requires c κs = search needs
 
 returns : tie.Need-returns Inv-loop μ-loop
 unfolding sameWords
-returns c = fails _ _ _ _ (c .before .before .before .before .before .loop .inv) (c .before .before .before .before .loop-test .taken) (ne-eqb _ _ (λ e. c .if1 .taken (e ∙ sym ((c .before .cell-after .ensures ∙ ap (cellsAfter (c .before .before .before .before .before .before .before .args .zeros) (c .before .before .before .before .before .loop .i)) (c .before .before .word-before .ensures))))))
+returns c =
+    let loop = c .before .before .before .before .before .loop in
+    let on = c .before .before .before .before .loop-test .taken in
+    let after = c .before .cell-after .ensures ∙ ap (cellsAfter (c .before .before .before .before .before .before .before .args .zeros) (loop .i)) (c .before .before .word-before .ensures) in
+    fails _ _ _ _ (loop .inv) on (ne-eqb _ _ (λ e. c .if1 .taken (e ∙ sym after)))
 
 add-i : tie.Need-add-i Inv-loop μ-loop
 add-i c = search needs
@@ -43,7 +47,11 @@ loop-less : tie.Need-loop-less Inv-loop μ-loop
 loop-less c = search needs
 
 loop-again : tie.Need-loop-again Inv-loop μ-loop
-loop-again c = goes-on _ _ _ true (c .before .before .before .before .before .loop .inv) (c .before .before .before .before .loop-test .taken) (eq-eqb _ _ (c .if1 .left ∙ (c .before .cell-after .ensures ∙ ap (cellsAfter (c .before .before .before .before .before .before .before .args .zeros) (c .before .before .before .before .before .loop .i)) (c .before .before .word-before .ensures))))
+loop-again c =
+    let loop = c .before .before .before .before .before .loop in
+    let on = c .before .before .before .before .loop-test .taken in
+    let after = c .before .cell-after .ensures ∙ ap (cellsAfter (c .before .before .before .before .before .before .before .args .zeros) (loop .i)) (c .before .before .word-before .ensures) in
+    goes-on _ _ _ true (loop .inv) on (eq-eqb _ _ (c .if1 .left ∙ after))
 
 returns-2 : tie.Need-returns-2 Inv-loop μ-loop
 unfolding sameWords
