@@ -43,7 +43,4 @@ pub record CountFits (r c : ℕ) (zone : ZoneAt) (floats : List Float) : Type 0 
 -- and to put it into the list
 pub record ChooseFits (r c list : ℕ) (zone : ZoneAt) (words : List ℕ) (floats : List Float) : Type 0 where
   pub listed : list + c < length words
-  pub room : deltaAt r (zone .e) < length floats
-  pub count : c < 4096
-  pub row : r < zone .n
-  pub sizes : Sizes (zone .n) (zone .e)
+  pub counted : CountFits r c zone floats

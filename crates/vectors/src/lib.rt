@@ -113,7 +113,7 @@ fn asked_at(numbers: &[u32]) -> usize
     further(gas_of(numbers).to, 3)
 }
 
-// So many, or none where an array has room for fewer. No stored vector has more; one that did could pass, if it is refused before the area is looked at.
+// So many, or none where an array has room for fewer. No stored vector has more: whoever writes them sees to it.
 fn fitting(n: usize, most: usize) -> usize
     ensures { λ r. ⌜ r ≤ most ⌝ }
 {

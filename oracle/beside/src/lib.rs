@@ -78,6 +78,17 @@ pub fn vectors(each: u64, seed: u64, calls: &[u32]) -> String {
     file
 }
 
+/// Two vectors more, which show that the program that replays them can fail: the paper's first board with another number answered than
+/// the call answers, and the same torn.
+pub fn wrong_vectors() -> String {
+    let case = &rows()[0].case;
+    let mut other = filled::play::outcome(case);
+    other.answer[1] ^= 1;
+    let text = boards::vectors::write(case, &other);
+    let torn: String = text.lines().take(12).map(|line| format!("{line}\n")).collect();
+    format!("# the first board, another number answered: it differs\n{text}# the same, torn\n{torn}")
+}
+
 /// Every board of two turfs over a set of values: amounts, who is immutable, planetary, enabled, which links and firelocks there are, one
 /// mixture or two, and what is asked.
 pub fn two_turfs(test: &mut impl FnMut(&Case)) {

@@ -1,6 +1,6 @@
 //! The commands of the runs beside the Rust. With no word it says which there are.
 
-use beside::{Agreement, Numbers, Published, accepted, agree, deepest, drop_small, heaviest, judged, lister, outcomes, two_turfs, vectors};
+use beside::{Agreement, Numbers, Published, accepted, agree, deepest, drop_small, heaviest, judged, lister, outcomes, two_turfs, vectors, wrong_vectors};
 use boards::refusal::refusal;
 use std::process::Command;
 use std::time::Instant;
@@ -13,7 +13,7 @@ beside outcomes faults EACH SEED   the same, ill-formed boards: every fault alon
 beside outcomes two-turfs STEP FIRST   the same, of every STEP boards of two turfs the one in place FIRST
 beside published EACH SEED   the text with the FILLED mixture against the text with the published mixture.rs
 beside numbers EACH SEED     weights and amounts on accepted boards: the largest, and the odd ones
-beside vectors EACH SEED CALL..   cases of the calls (1 equalize, 2 depressurize, 3 planet walk) with the text's answers, to standard output
+beside vectors EACH SEED CALL..   cases of the calls (1 equalize, 2 depressurize, 3 planet walk) with the text's answers, and two that are wrong, to standard output
 beside judged EACH SEED      small cases with the text's answers as rows that the checker computes, to standard output
 beside bench                 how long the text's equalize takes on the boards that speed is measured on
 beside lister EACH SEED COMMAND..   events, damaged, torn and over-long ones too, listed by a command and by the lister here
@@ -99,7 +99,7 @@ fn main() {
         }
         ("vectors", Some(each), Some(seed)) => {
             let calls: Vec<u32> = (3..words.len()).filter_map(number).map(|call| call as u32).collect();
-            print!("{}", vectors(each, seed, &calls));
+            print!("{}{}", vectors(each, seed, &calls), wrong_vectors());
         }
         ("judged", Some(each), Some(seed)) => print!("{}", judged::rows(each, seed)),
         ("lister", Some(each), Some(seed)) if words.len() > 3 => match lister::against(&words[3..], each, seed) {

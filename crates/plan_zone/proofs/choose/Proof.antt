@@ -8,13 +8,13 @@ use Rattle.plan_zone.proofs.choose.Tie as tie
 delta-at-requires : tie.Need-delta-at-requires
 delta-at-requires c κs =
     let entry = c .before .before in
-    (omega (arith, entry .pre .row, entry .pre .sizes .turfs), entry .pre .sizes .links)
+    (omega (arith, entry .pre .counted .row, entry .pre .counted .sizes .turfs), entry .pre .counted .sizes .links)
 
 mul-picks : tie.Need-mul-picks
-mul-picks c = omega (arith, c .delta-at .ensures, c .before .before .before .pre .row, c .before .before .before .pre .sizes .turfs, c .before .before .before .pre .sizes .links)
+mul-picks c = omega (arith, c .delta-at .ensures, c .before .before .before .pre .counted .row, c .before .before .before .pre .counted .sizes .turfs, c .before .before .before .pre .counted .sizes .links)
 
 shared-slice-read-picks : tie.Need-shared-slice-read-picks
-shared-slice-read-picks c = omega (arith, c .before .delta-at .ensures, c .before .before .before .before .pre .room)
+shared-slice-read-picks c = omega (arith, c .before .delta-at .ensures, c .before .before .before .before .pre .counted .room)
 
 picks-requires : tie.Need-picks-requires
 picks-requires c κs = search needs
@@ -29,7 +29,7 @@ slice-write-words : tie.Need-slice-write-words
 slice-write-words c = search needs
 
 add-result : tie.Need-add-result
-add-result c = omega (arith, c .before .before .before .before .before .before .pre .count)
+add-result c = omega (arith, c .before .before .before .before .before .before .pre .counted .count)
 
 same-length : tie.Need-same-length
 same-length c = search needs

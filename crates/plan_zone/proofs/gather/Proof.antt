@@ -41,10 +41,12 @@ choose-requires c κs =
     let below = pick-below (entry .pre .1) (entry .args .side) (c .before .before .before .loop .inv .1) (c .before .before .before .loop .inv .0 .1) (c .before .before .loop-test .taken) in
     record {
       listed = omega (arith, c .before .before .before .loop .inv .1 .fit .words, c .before .before .before .before .list-at .ensures, c .before .before .before .loop .inv .1 .few, c .before .before .loop-test .taken, entry .pre .1 .few);
-      room = omega (arith, entry .pre .0 .floats, below);
-      count = omega (arith, c .before .before .before .loop .inv .1 .few, c .before .before .loop-test .taken, entry .pre .1 .few, entry .pre .0 .turfs);
-      row = below;
-      sizes = record { turfs = entry .pre .0 .turfs; links = entry .pre .0 .links };
+      counted = record {
+        room = omega (arith, entry .pre .0 .floats, below);
+        count = omega (arith, c .before .before .before .loop .inv .1 .few, c .before .before .loop-test .taken, entry .pre .1 .few, entry .pre .0 .turfs);
+        row = below;
+        sizes = record { turfs = entry .pre .0 .turfs; links = entry .pre .0 .links };
+      };
     }
 
 add-i : tie.Need-add-i Inv-loop μ-loop

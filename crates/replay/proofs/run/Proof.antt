@@ -7,10 +7,10 @@ use Rattle.replay.proofs.run.Statement.{statement}
 use Rattle.replay.proofs.run.Tie as tie
 
 abbrev Inv-loop : tie.InvT-loop
-Inv-loop numbers₀ thorough counts₀ at₀ t5 numbers counts at = length numbers ≡ length numbers₀
+Inv-loop numbers₀ counts₀ at₀ t4 numbers counts at = length numbers ≡ length numbers₀
 
 abbrev μ-loop : tie.MeasureT-loop
-μ-loop numbers₀ thorough counts₀ at₀ t5 numbers counts at = length numbers₀ - at
+μ-loop numbers₀ counts₀ at₀ t4 numbers counts at = length numbers₀ - at
 
 loop-holds : tie.Need-loop-holds Inv-loop μ-loop
 loop-holds c = search needs
