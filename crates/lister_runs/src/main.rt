@@ -191,11 +191,13 @@ const TORN: [u8; 19] = [8, 0, 2, 0, 5, 0, 0, 0, 12, 0, 4, 0, 1, 0, 0, 0, 2, 0, 0
 
 const HEAD: [u8; 11] = [8, 0, 2, 0, 5, 0, 0, 0, 12, 0, 4];
 
+// Lists an input, and a line behind it.
 fn show(input: &[u8]) {
     listing::print(input);
     io::write_all(libc::STDOUT_FILENO, &BETWEEN);
 }
 
+// Each input in turn.
 fn main() {
     show(&KINDS);
     show(&PRESSURE);

@@ -32,9 +32,6 @@ pub adjust-length : (there back : Spot) (x : Float) (w : List Float) → length 
 unfolding adjustAt
 adjust-length there back x w = alter-size back (λ y. y -f x) (alter there (λ y. y +f x) w) ∙ alter-size there (λ y. y +f x) w
 
-pub found-as : (m m′ : ℕ) (s : Spot) → m ≡ m′ → Found (λ k. k < m) s → Found (λ k. k < m′) s
-found-as m m′ s q f = subst (λ (j : ℕ). Found (λ k. k < j) s) q f
-
 pub adjusts : (there back : Spot) (x : Float) (w w′ w″ : List Float) → w′ ≡ alter there (λ y. y +f x) w → w″ ≡ alter back (λ y. y -f x) w′ → w″ ≡ adjustAt there back x w
 unfolding adjustAt
 adjusts there back x w w′ w″ e e′ = e′ ∙ ap (alter back (λ y. y -f x)) e
@@ -63,6 +60,7 @@ module _ (e k z : ℕ) (w : List ℕ) (hk : k < e) (at : ℕ) (ea : at ≡ rever
     unfolding backLink
     back-foreign h = rw (← back, ne-eqb (getD w at 0) 0 some, ← own, ne-eqb _ _ h)
 
+-- what was found among fewer
 pub found-more : (m m′ : ℕ) (s : Spot) → m ≤ m′ → Found (λ k. k < m) s → Found (λ k. k < m′) s
 found-more m m′ (At k) q f = omega arith
 found-more m m′ Nowhere q f = f

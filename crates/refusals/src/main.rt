@@ -14,6 +14,7 @@ struct Wrong {
     per_turf: u8,
 }
 
+// A board with nothing wrong.
 fn board_a() -> Wrong {
     Wrong {
         id: 20,
@@ -60,6 +61,7 @@ fn asked<'a>(
     )
 }
 
+// The number that a board is refused with, or 0.
 fn number(w: Wrong) -> u32 {
     let ids = [10, w.id];
     let flags = [2u8, 2];
@@ -81,6 +83,7 @@ fn number(w: Wrong) -> u32 {
     )
 }
 
+// A line with the number.
 fn show(n: u32) {
     if n < 10 {
         let line = [48 + n as u8, 10];
@@ -105,6 +108,7 @@ fn amounts() {
     show(number(w));
 }
 
+// Board A, and what refuses it, in turn.
 fn main() {
     show(number(board_a()));
     let mut w = board_a();

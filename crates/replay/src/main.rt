@@ -20,7 +20,7 @@ fn report(counts: &[u64; 40]) {
         b"vectors, those that differ, the first of these, digits changed, found, times torn, found:",
     );
     let mut k = 8;
-    while k < 40 {
+    while k < 39 {
         if k % 8 == 0 {
             show(b"\n");
         }

@@ -40,6 +40,7 @@ pub struct SimulationFlags(pub u8);
 impl SimulationFlags {
     pub const SIMULATION_ANY: u8 = 3;
 
+    // Whether the turf takes part at all.
     pub fn enabled(self) -> bool
         ensures { λ r. ⌜ r ≡ anyBit (self .0) ⌝ }
     {
@@ -53,6 +54,7 @@ pub struct AdjacentFlags(pub u8);
 impl AdjacentFlags {
     pub const ATMOS_ADJACENT_FIRELOCK: u8 = 2;
 
+    // Whether a firelock stands on the link.
     pub fn firelock(self) -> bool
         ensures { λ r. ⌜ r ≡ lockBit (self .0) ⌝ }
     {
@@ -99,6 +101,7 @@ pub struct Links {
     pub to: usize,
 }
 
+// The links of the turf in a row.
 pub fn links_of(starts: &[u32], row: usize) -> Links
     requires { ⌜ row + 1 < length (now starts) ⌝ }
     ensures { λ r. ⌜ (r .from ≡ getD (now (starts .entry)) row 0) × (r .to ≡ getD (now (starts .entry)) (row + 1) 0) ⌝ }

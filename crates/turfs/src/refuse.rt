@@ -20,6 +20,7 @@ ghost use Rattle.rules_board.specs.Board.{turfCount, linkCount};
 ghost use Rattle.turfs.specs.Tables.{boardOf, boardAt, Parts, Small, BoardSizes};
 ghost use Rattle.rules_board.specs.Refuse.{within, ascending, rising, distinct, rowFits, sizesFit, tablesFit, linksFit};
 
+// Is n one of the numbers from lo to hi?
 fn within(lo: usize, hi: usize, n: usize) -> bool
     ensures { λ r. ⌜ r ≡ within lo hi n ⌝ }
 {

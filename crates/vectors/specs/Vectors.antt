@@ -3,7 +3,7 @@ use mathlib.Core.Bool.{_&&_}
 use mathlib.Core.List.{List, []}
 use mathlib.Core.Path.{_≡_}
 use Prim.Native.Nat.{ℕ, _+_, _-_, min}
-use lib.Dec.{leb}
+use lib.Dec.{eqb, leb}
 use lib.ListN.{length, getD, take, drop}
 use Rattle.turfs.specs.Tables.{Slices, table}
 use Rattle.basics.specs.Loops.{times, if_then_else_}
@@ -45,6 +45,14 @@ gasOf ns = spanAt ns (onward (tableAt ns 8) 1)
 
 abbrev pub askedAt : List ℕ → ℕ
 askedAt ns = onward (gasOf ns .to) 3
+
+-- so many, or none where there is room for fewer
+unfoldable pub fitted : ℕ → ℕ → ℕ
+fitted n most = if leb n most then n else 0
+
+-- where the vector behind one at a place begins, which takes so many numbers: nowhere, if it takes none
+unfoldable pub behind : ℕ → ℕ → ℕ
+behind at count = if eqb count 0 then 0xffff_ffff_ffff_ffff else onward at count
 
 -- its tables
 pub record RowsOf (ns : List ℕ) (rows : Slices) : Type 0 where

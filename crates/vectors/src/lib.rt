@@ -5,9 +5,9 @@
 use turfs::Marks;
 use turfs::Rows;
 ghost use mathlib.Core.Path.{_≡_};
-ghost use Prim.Native.Nat.{_%_, _≤_, _<_};
+ghost use Prim.Native.Nat.{_-_, _%_, _≤_, _<_};
 ghost use lib.Ieee.{nan};
-ghost use Rattle.vectors.specs.Vectors.{onward, number, section, spanAt, tableAt, tableSpan, gasesOf, gasOf, askedAt, CaseAsks, Walks, RowsOf, MarksOf};
+ghost use Rattle.vectors.specs.Vectors.{onward, number, section, spanAt, tableAt, tableSpan, gasesOf, gasOf, askedAt, fitted, behind, CaseAsks, Walks, RowsOf, MarksOf};
 ghost use Rattle.vectors.specs.Amounts.{nanPattern, amount};
 ghost use Rattle.vectors.specs.Cells.{wordBefore, floatBefore, eventBefore, Follows, CaseFilled};
 
@@ -71,7 +71,7 @@ pub fn span_at(numbers: &[u32], at: usize) -> Span
 // Where the vector behind one at a place begins; a vector takes some room.
 pub fn past(at: usize, count: usize) -> usize
     requires { ⌜ at < 0xffff_ffff_ffff_ffff ⌝ }
-    ensures { λ r. ⌜ at < r ⌝ }
+    ensures { λ r. ⌜ (r ≡ behind at count) × (at < r) ⌝ }
 {
     if count == 0 {
         return 0xffff_ffff_ffff_ffff;
@@ -115,7 +115,7 @@ fn asked_at(numbers: &[u32]) -> usize
 
 // So many, or none where an array has room for fewer. No stored vector has more: whoever writes them sees to it.
 fn fitting(n: usize, most: usize) -> usize
-    ensures { λ r. ⌜ r ≤ most ⌝ }
+    ensures { λ r. ⌜ (r ≡ fitted n most) × (r ≤ most) ⌝ }
 {
     if most < n {
         return 0;
@@ -125,7 +125,7 @@ fn fitting(n: usize, most: usize) -> usize
 
 // How much gas a case lends, if there is room for it.
 pub fn gas_size(numbers: &[u32], most: usize) -> usize
-    ensures { λ r. ⌜ r ≤ most ⌝ }
+    ensures { λ r. let gas = gasOf (now (numbers .entry)) in ⌜ (r ≡ fitted (gas .to - gas .from) most) × (r ≤ most) ⌝ }
 {
     let gas = gas_of(numbers);
     fitting(gas.to - gas.from, most)
@@ -133,7 +133,7 @@ pub fn gas_size(numbers: &[u32], most: usize) -> usize
 
 // How long another area is that it lends, if there is room for it: behind the gas stand the lengths of the event area, the words and the floats.
 pub fn area_size(numbers: &[u32], by: usize, most: usize) -> usize
-    ensures { λ r. ⌜ r ≤ most ⌝ }
+    ensures { λ r. let ns = now (numbers .entry) in ⌜ (r ≡ fitted (number ns (onward (gasOf ns .to) by)) most) × (r ≤ most) ⌝ }
 {
     let at = further(gas_of(numbers).to, by);
     fitting(number_at(numbers, at) as usize, most)
@@ -246,7 +246,7 @@ pub fn nan_bits(bits: u32) -> bool
 pub fn amount_of(bits: u32) -> f32
     ensures { λ r. ⌜ r ≡ amount bits ⌝ }
 {
-    if 0x7f80_0000 < bits % 0x8000_0000 {
+    if nan_bits(bits) {
         return 0.0 / 0.0;
     }
     f32::from_bits(bits)

@@ -1,4 +1,5 @@
 // Whether the lent areas hold after a call what a stored vector expects.
+use events_words::wide;
 use vectors::Span;
 ghost use mathlib.Core.Path.{_≡_};
 ghost use Rattle.vectors.specs.Amounts.{sameBits};
@@ -93,13 +94,6 @@ fn same_gas(expected: &[u32], gas: &[f32]) -> bool
         i += 1;
     }
     expected.len() == gas.len()
-}
-
-// A byte as a number.
-fn wide(b: u8) -> u32
-    ensures { λ r. ⌜ r ≡ b ⌝ }
-{
-    b as u32
 }
 
 // Whether the event area begins with the bytes expected, and goes on as it was.

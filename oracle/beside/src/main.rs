@@ -1,6 +1,8 @@
 //! The commands of the runs beside the Rust. With no word it says which there are.
 
-use beside::{Agreement, Numbers, Published, accepted, agree, deepest, drop_small, heaviest, judged, lister, outcomes, two_turfs, vectors, wrong_vectors};
+use beside::{
+    Agreement, Numbers, Published, accepted, agree, deepest, drop_small, heaviest, judged, lister, outcomes, two_turfs, vectors, wrong_vectors,
+};
 use boards::refusal::refusal;
 use std::process::Command;
 use std::time::Instant;

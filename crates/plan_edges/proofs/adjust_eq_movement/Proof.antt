@@ -1,6 +1,6 @@
 -- One alteration after the other. Assumes nothing.
-use mathlib.Core.Path.{sym}
-use Rattle.plan_edges.proofs.Weights.{found-as, adjusts}
+use native.Mathlib.Omega.{arith}
+use Rattle.plan_edges.proofs.Weights.{found-more, adjusts}
 use borrow.Author.Needs.{needs}
 use Rattle.plan_edges.proofs.adjust_eq_movement.Statement.{statement}
 use Rattle.plan_edges.proofs.adjust_eq_movement.Tie as tie
@@ -9,7 +9,7 @@ gain-requires : tie.Need-gain-requires
 gain-requires c κs = search needs
 
 lose-requires : tie.Need-lose-requires
-lose-requires c κs = found-as _ _ (c .before .before .before .before .before .before .args .back) (sym (c .before .before .before .gain .kept .1 .1 .0)) (c .before .before .before .before .before .before .pre .1)
+lose-requires c κs = found-more _ _ (c .before .before .before .before .before .before .args .back) (omega (arith, c .before .before .before .gain .kept .1 .1 .0)) (c .before .before .before .before .before .before .pre .1)
 
 same-length : tie.Need-same-length
 same-length c = search needs

@@ -8,7 +8,7 @@ abbrev Inv-loop : tie.InvT-loop
 Inv-loop counts k₀ t5 t6 t7 k = Unit {0}
 
 abbrev μ-loop : tie.MeasureT-loop
-μ-loop counts k₀ t5 t6 t7 k = 40 - k
+μ-loop counts k₀ t5 t6 t7 k = 39 - k
 
 slice-aggregate-show : tie.Need-slice-aggregate-show Inv-loop μ-loop
 slice-aggregate-show c = search needs

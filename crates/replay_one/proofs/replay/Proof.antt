@@ -25,25 +25,25 @@ array-borrow-prefix-gas : tie.Need-array-borrow-prefix-gas
 array-borrow-prefix-gas c = search needs
 
 slice-aggregate-play-2 : tie.Need-slice-aggregate-play-2
-slice-aggregate-play-2 c = sym (length-take-le _ _ (omega (arith, c .before .before .before .before .before .gas-size .ensures)))
+slice-aggregate-play-2 c = sym (length-take-le _ _ (omega (arith, c .before .before .before .before .before .gas-size .ensures .1)))
 
 array-borrow-prefix-words : tie.Need-array-borrow-prefix-words
 array-borrow-prefix-words c = search needs
 
 slice-aggregate-play-3 : tie.Need-slice-aggregate-play-3
-slice-aggregate-play-3 c = sym (length-take-le _ _ (omega (arith, c .before .before .before .before .area-size2 .ensures)))
+slice-aggregate-play-3 c = sym (length-take-le _ _ (omega (arith, c .before .before .before .before .area-size2 .ensures .1)))
 
 array-borrow-prefix-floats : tie.Need-array-borrow-prefix-floats
 array-borrow-prefix-floats c = search needs
 
 slice-aggregate-play-4 : tie.Need-slice-aggregate-play-4
-slice-aggregate-play-4 c = sym (length-take-le _ _ (omega (arith, c .before .before .before .before .area-size3 .ensures)))
+slice-aggregate-play-4 c = sym (length-take-le _ _ (omega (arith, c .before .before .before .before .area-size3 .ensures .1)))
 
 array-borrow-prefix-events : tie.Need-array-borrow-prefix-events
 array-borrow-prefix-events c = search needs
 
 slice-aggregate-play-5 : tie.Need-slice-aggregate-play-5
-slice-aggregate-play-5 c = sym (length-take-le _ _ (omega (arith, c .before .before .before .before .before .before .before .area-size .ensures)))
+slice-aggregate-play-5 c = sym (length-take-le _ _ (omega (arith, c .before .before .before .before .before .before .before .area-size .ensures .1)))
 
 play-requires : tie.Need-play-requires
 play-requires c κs = search needs

@@ -31,7 +31,7 @@ event-after-requires c κs = search needs
 
 returns : tie.Need-returns Inv-loop μ-loop
 unfolding sameEvents
-returns c = fails _ _ _ _ (c .before .before .before .before .before .loop .inv) (c .before .before .before .before .loop-test .taken) (ne-eqb _ _ (λ e. c .if1 .taken (c .before .before .wide .ensures ∙ e ∙ sym (c .before .event-after .ensures))))
+returns c = fails _ _ _ _ (c .before .before .before .before .before .loop .inv) (c .before .before .before .before .loop-test .taken) (ne-eqb _ _ (λ e. c .if1 .taken (c .before .before .wide .ensures .0 ∙ e ∙ sym (c .before .event-after .ensures))))
 
 add-i : tie.Need-add-i Inv-loop μ-loop
 add-i c = search needs
@@ -40,7 +40,7 @@ loop-less : tie.Need-loop-less Inv-loop μ-loop
 loop-less c = search needs
 
 loop-again : tie.Need-loop-again Inv-loop μ-loop
-loop-again c = goes-on _ _ _ true (c .before .before .before .before .before .loop .inv) (c .before .before .before .before .loop-test .taken) (eq-eqb _ _ (sym (c .before .before .wide .ensures) ∙ c .if1 .left ∙ c .before .event-after .ensures))
+loop-again c = goes-on _ _ _ true (c .before .before .before .before .before .loop .inv) (c .before .before .before .before .loop-test .taken) (eq-eqb _ _ (sym (c .before .before .wide .ensures .0) ∙ c .if1 .left ∙ c .before .event-after .ensures))
 
 returns-2 : tie.Need-returns-2 Inv-loop μ-loop
 unfolding sameEvents
