@@ -3,12 +3,6 @@ use Rattle.finish_live.proofs.Starts.{settles-none, settles-out}
 use borrow.Author.Needs.{needs}
 use Rattle.finish_live.proofs.settle.Statement.{statement}
 use Rattle.finish_live.proofs.settle.Tie as tie
-use Rattle.finish_live.proofs.settle.Reads as reads
-use Rattle.finish_live.proofs.settle.Lts as lts
-use Rattle.finish_zones.proofs.size_of.Reads as size-of-reads
-use Rattle.finish_live.proofs.take_out.Reads as take-out-reads
-use Rattle.finish_zones.proofs.turns_of.Reads as turns-of-reads
-use Rattle.scratch.proofs.live_at.Reads as live-at-reads
 
 turns-of-requires : tie.Need-turns-of-requires
 turns-of-requires c κs = search needs

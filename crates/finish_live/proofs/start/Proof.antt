@@ -6,9 +6,6 @@ use Prim.Native.Nat.{_-_, _≤_}
 use native.Mathlib.Omega.{arith}
 use Rattle.finish_live.proofs.start.Statement.{statement}
 use Rattle.finish_live.proofs.start.Tie as tie
-use Rattle.finish_live.proofs.start.Reads as reads
-use Rattle.finish_live.proofs.start.Lts as lts
-use Rattle.finish_live.proofs.start_zone.Reads as start-zone-reads
 
 abbrev Inv-loop : tie.InvT-loop
 Inv-loop zones n e words₀ count₀ z₀ words count z = Started n e z count words₀ words × (z ≤ zones)

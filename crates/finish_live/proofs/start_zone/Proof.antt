@@ -7,11 +7,6 @@ use denote.Ref.{now}
 use borrow.Author.Needs.{needs}
 use Rattle.finish_live.proofs.start_zone.Statement.{statement}
 use Rattle.finish_live.proofs.start_zone.Tie as tie
-use Rattle.finish_live.proofs.start_zone.Reads as reads
-use Rattle.finish_live.proofs.start_zone.Lts as lts
-use Rattle.finish_zones.proofs.size_of.Reads as size-of-reads
-use Rattle.scratch.proofs.live_at.Reads as live-at-reads
-use Rattle.scratch.proofs.turns_at.Reads as turns-at-reads
 
 turns-at-requires : tie.Need-turns-at-requires
 turns-at-requires c κs = search needs

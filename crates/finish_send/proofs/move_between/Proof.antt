@@ -8,9 +8,6 @@ use borrow.Author.Needs.{needs}
 use Rattle.finish_send.proofs.move_between.Statement.{statement}
 use Rattle.finish_send.proofs.move_between.Tie as tie
 use Rattle.mixture.proofs.Parts.{holds-of}
-use Rattle.finish_send.proofs.move_between.Reads as reads
-use Rattle.finish_send.proofs.move_between.Lts as lts
-use Rattle.mixture_moves.proofs.move_air.Reads as move-air-reads
 
 element-copy-out-mixtures : tie.Need-element-copy-out-mixtures
 element-copy-out-mixtures c = search needs

@@ -9,12 +9,6 @@ use Rattle.events.proofs.Areas.{one-added}
 use borrow.Author.Needs.{needs}
 use Rattle.finish_send.proofs.send.Statement.{statement}
 use Rattle.finish_send.proofs.send.Tie as tie
-use Rattle.finish_send.proofs.send.Reads as reads
-use Rattle.finish_send.proofs.send.Lts as lts
-use Rattle.events.proofs.append.Reads as append-reads
-use Rattle.finish_send.proofs.clear_at.Reads as clear-at-reads
-use Rattle.finish_send.proofs.move_between.Reads as move-between-reads
-use Rattle.plan_edges.proofs.back_link.Reads as back-link-reads
 
 element-copy-out-ids : tie.Need-element-copy-out-ids
 element-copy-out-ids c = search needs

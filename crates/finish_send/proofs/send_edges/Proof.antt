@@ -9,13 +9,6 @@ use Rattle.finish_send.specs.Areas.{finishAreas}
 use Rattle.finish_send.proofs.Passing.{At, few-links, sent-size, edge-room, total-room, loop-start, send-fits, loop-next, stopped, all-sent}
 use Rattle.finish_send.proofs.send_edges.Statement.{statement}
 use Rattle.finish_send.proofs.send_edges.Tie as tie
-use Rattle.finish_send.proofs.send_edges.Reads as reads
-use Rattle.finish_send.proofs.send_edges.Lts as lts
-use Rattle.finish_send.proofs.is_short.Reads as is-short-reads
-use Rattle.mixture.proofs.total.Reads as total-reads
-use Rattle.finish_send.proofs.next_edge.Reads as next-edge-reads
-use Rattle.finish_send.proofs.send.Reads as send-reads
-use Rattle.scratch.proofs.lifted_at.Reads as lifted-at-reads
 
 abbrev Inv-loop : tie.InvT-loop
 Inv-loop turf used rows marks gas₀ words floats₀ events₀ zone to from stop up now₀ k₀ gas floats events now k =

@@ -6,14 +6,6 @@ use Rattle.finish_turf.proofs.Turf.{links-room, clear-room, quiet-sent,
 use borrow.Author.Needs.{needs}
 use Rattle.finish_turf.proofs.send_first.Statement.{statement}
 use Rattle.finish_turf.proofs.send_first.Tie as tie
-use Rattle.finish_turf.proofs.send_first.Reads as reads
-use Rattle.finish_turf.proofs.send_first.Lts as lts
-use Rattle.finish_send.proofs.clear_weights.Reads as clear-weights-reads
-use Rattle.finish_send.proofs.next_edge.Reads as next-edge-reads
-use Rattle.finish_send.proofs.lift.Reads as lift-reads
-use Rattle.finish_send.proofs.send_edges.Reads as send-edges-reads
-use Rattle.scratch.proofs.lifted_at.Reads as lifted-at-reads
-use Rattle.turfs.proofs.links_of.Reads as links-of-reads
 
 element-copy-out-links-of : tie.Need-element-copy-out-links-of
 element-copy-out-links-of c = search needs

@@ -4,10 +4,6 @@ use Rattle.finish_turf.proofs.Turf.{rest-goes, rest-sent}
 use borrow.Author.Needs.{needs}
 use Rattle.finish_turf.proofs.send_rest.Statement.{statement}
 use Rattle.finish_turf.proofs.send_rest.Tie as tie
-use Rattle.finish_turf.proofs.send_rest.Reads as reads
-use Rattle.finish_turf.proofs.send_rest.Lts as lts
-use Rattle.finish_send.proofs.send_edges.Reads as send-edges-reads
-use Rattle.turfs.proofs.links_of.Reads as links-of-reads
 
 element-copy-out-links-of : tie.Need-element-copy-out-links-of
 element-copy-out-links-of c = search needs

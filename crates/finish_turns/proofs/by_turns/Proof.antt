@@ -10,10 +10,6 @@ use native.Mathlib.Omega.{arith}
 use borrow.Author.Needs.{needs}
 use Rattle.finish_turns.proofs.by_turns.Statement.{statement}
 use Rattle.finish_turns.proofs.by_turns.Tie as tie
-use Rattle.finish_turns.proofs.by_turns.Reads as reads
-use Rattle.finish_turns.proofs.by_turns.Lts as lts
-use Rattle.finish_turns.proofs.turn.Reads as turn-reads
-use Rattle.finish_live.proofs.start.Reads as start-reads
 
 abbrev Inv-loop : tie.InvT-loop
 Inv-loop zones turns used rows marks gases gas₀ words₀ floats₀ events₀ live₀ now₀ i₀ gas words floats events live now i =

@@ -8,10 +8,6 @@ use Prim.Native.Nat.{_-_}
 use native.Mathlib.Omega.{arith}
 use Rattle.finish_turns.proofs.finish_all.Statement.{statement}
 use Rattle.finish_turns.proofs.finish_all.Tie as tie
-use Rattle.finish_turns.proofs.finish_all.Reads as reads
-use Rattle.finish_turns.proofs.finish_all.Lts as lts
-use Rattle.finish_turns.proofs.by_turns.Reads as by-turns-reads
-use Rattle.finish_turns.proofs.finish_zone.Reads as finish-zone-reads
 
 abbrev Inv-loop : tie.InvT-loop
 Inv-loop zones turns used rows marks gases gas₀ words₀ floats₀ events₀ now₀ z₀ gas words floats events now z =

@@ -4,11 +4,6 @@ use native.Mathlib.Omega.{arith}
 use borrow.Author.Needs.{needs}
 use Rattle.finish_turns.proofs.finish_next.Statement.{statement}
 use Rattle.finish_turns.proofs.finish_next.Tie as tie
-use Rattle.finish_turns.proofs.finish_next.Reads as reads
-use Rattle.finish_turns.proofs.finish_next.Lts as lts
-use Rattle.finish_turf.proofs.finalize_eq.Reads as finalize-eq-reads
-use Rattle.finish_zones.proofs.count_turn.Reads as count-turn-reads
-use Rattle.finish_zones.proofs.next_row.Reads as next-row-reads
 
 element-copy-out-n : tie.Need-element-copy-out-n
 element-copy-out-n c = search needs

@@ -8,11 +8,6 @@ use native.Mathlib.Omega.{arith}
 use borrow.Author.Needs.{needs}
 use Rattle.finish_turns.proofs.finish_zone.Statement.{statement}
 use Rattle.finish_turns.proofs.finish_zone.Tie as tie
-use Rattle.finish_turns.proofs.finish_zone.Reads as reads
-use Rattle.finish_turns.proofs.finish_zone.Lts as lts
-use Rattle.finish_turns.proofs.finish_next.Reads as finish-next-reads
-use Rattle.finish_zones.proofs.size_of.Reads as size-of-reads
-use Rattle.finish_zones.proofs.turns_of.Reads as turns-of-reads
 
 abbrev Inv-loop : tie.InvT-loop
 Inv-loop zone used rows marks gases gas₀ words₀ floats₀ events₀ n e size i₀ now₀ gas words floats events i now =

@@ -8,9 +8,6 @@ use denote.Ref.{now}
 use borrow.Author.Needs.{needs}
 use Rattle.finish_zones.proofs.count_turn.Statement.{statement}
 use Rattle.finish_zones.proofs.count_turn.Tie as tie
-use Rattle.finish_zones.proofs.count_turn.Reads as reads
-use Rattle.finish_zones.proofs.count_turn.Lts as lts
-use Rattle.scratch.proofs.turns_at.Reads as turns-at-reads
 
 turns-at-requires : tie.Need-turns-at-requires
 turns-at-requires c κs = search needs

@@ -5,11 +5,6 @@ use native.Mathlib.Omega.{arith}
 use borrow.Author.Needs.{needs}
 use Rattle.finish_zones.proofs.next_row.Statement.{statement}
 use Rattle.finish_zones.proofs.next_row.Tie as tie
-use Rattle.finish_zones.proofs.next_row.Reads as reads
-use Rattle.finish_zones.proofs.next_row.Lts as lts
-use Rattle.scratch.proofs.nodes_at.Reads as nodes-at-reads
-use Rattle.scratch.proofs.starts_at.Reads as starts-at-reads
-use Rattle.scratch.proofs.turns_at.Reads as turns-at-reads
 
 starts-at-requires : tie.Need-starts-at-requires
 starts-at-requires c κs = search needs

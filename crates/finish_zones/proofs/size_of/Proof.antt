@@ -7,9 +7,6 @@ use denote.Ref.{now}
 use borrow.Author.Needs.{needs}
 use Rattle.finish_zones.proofs.size_of.Statement.{statement}
 use Rattle.finish_zones.proofs.size_of.Tie as tie
-use Rattle.finish_zones.proofs.size_of.Reads as reads
-use Rattle.finish_zones.proofs.size_of.Lts as lts
-use Rattle.scratch.proofs.starts_at.Reads as starts-at-reads
 
 starts-at-requires : tie.Need-starts-at-requires
 starts-at-requires c κs = search needs

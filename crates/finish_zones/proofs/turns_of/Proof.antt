@@ -7,9 +7,6 @@ use denote.Ref.{now}
 use borrow.Author.Needs.{needs}
 use Rattle.finish_zones.proofs.turns_of.Statement.{statement}
 use Rattle.finish_zones.proofs.turns_of.Tie as tie
-use Rattle.finish_zones.proofs.turns_of.Reads as reads
-use Rattle.finish_zones.proofs.turns_of.Lts as lts
-use Rattle.scratch.proofs.turns_at.Reads as turns-at-reads
 
 turns-at-requires : tie.Need-turns-at-requires
 turns-at-requires c κs = search needs

@@ -6,9 +6,6 @@ use lib.ListN.{getD}
 use borrow.Author.Needs.{needs}
 use Rattle.katmos.proofs.katmos_read_event.Statement.{statement}
 use Rattle.katmos.proofs.katmos_read_event.Tie as tie
-use Rattle.katmos.proofs.katmos_read_event.Reads as reads
-use Rattle.katmos.proofs.katmos_read_event.Lts as lts
-use Rattle.events.proofs.read_event.Reads as read-event-reads
 
 read-event-requires : tie.Need-read-event-requires
 read-event-requires c κs = search needs

@@ -6,9 +6,6 @@ use Rattle.events.specs.Interface.{WriteEvent}
 use borrow.Author.Needs.{needs}
 use Rattle.katmos.proofs.katmos_write_event.Statement.{statement}
 use Rattle.katmos.proofs.katmos_write_event.Tie as tie
-use Rattle.katmos.proofs.katmos_write_event.Reads as reads
-use Rattle.katmos.proofs.katmos_write_event.Lts as lts
-use Rattle.events.proofs.write_event.Reads as write-event-reads
 
 write-event-requires : tie.Need-write-event-requires
 write-event-requires c κs = search needs

@@ -5,8 +5,6 @@ use lib.Dec.{leb}
 use borrow.Author.Tests.{le-leb, lt-leb}
 use Rattle.lent_equalize.proofs.counts_fit.Statement.{statement}
 use Rattle.lent_equalize.proofs.counts_fit.Tie as tie
-use Rattle.lent_equalize.proofs.counts_fit.Reads as reads
-use Rattle.lent_equalize.proofs.counts_fit.Lts as lts
 
 returns : tie.Need-returns
 returns c = sym (ap (λ (t : Bool). t && leb (c .before .args .turns) 65536) (lt-leb _ _ (c .if1 .taken)))

@@ -3,11 +3,6 @@ use Rattle.lent_equalize.proofs.Extra.{tests-of}
 use borrow.Author.Needs.{needs}
 use Rattle.lent_equalize.proofs.extra_tests.Statement.{statement}
 use Rattle.lent_equalize.proofs.extra_tests.Tie as tie
-use Rattle.lent_equalize.proofs.extra_tests.Reads as reads
-use Rattle.lent_equalize.proofs.extra_tests.Lts as lts
-use Rattle.lent_equalize.proofs.counts_fit.Reads as counts-fit-reads
-use Rattle.mixture.proofs.finite_sign_clear.Reads as finite-sign-clear-reads
-use Rattle.turfs.proofs.refuse.ascending.Reads as ascending-reads
 
 counts-fit-requires : tie.Need-counts-fit-requires
 counts-fit-requires c κs = search needs

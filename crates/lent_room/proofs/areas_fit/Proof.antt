@@ -13,10 +13,6 @@ use borrow.Author.Needs.{needs}
 use Rattle.rules_lent.specs.Lent.{floatsRoom}
 use Rattle.lent_room.proofs.areas_fit.Statement.{statement}
 use Rattle.lent_room.proofs.areas_fit.Tie as tie
-use Rattle.lent_room.proofs.areas_fit.Reads as reads
-use Rattle.lent_room.proofs.areas_fit.Lts as lts
-use Rattle.lent_room.proofs.floats_room.Reads as floats-room-reads
-use Rattle.lent_room.proofs.words_room.Reads as words-room-reads
 
 -- so many bytes for each of at most n: a product that fits
 few : (x k n : ℕ) → x < 256 → k ≤ n → x * k ≤ 255 * n

@@ -8,12 +8,6 @@ use borrow.Author.Needs.{needs}
 use Rattle.rules_lent.specs.Lent.{floatsRoom}
 use Rattle.lent_room.proofs.clear_scratch.Statement.{statement}
 use Rattle.lent_room.proofs.clear_scratch.Tie as tie
-use Rattle.lent_room.proofs.clear_scratch.Reads as reads
-use Rattle.lent_room.proofs.clear_scratch.Lts as lts
-use Rattle.basics.proofs.clear.Reads as clear-reads
-use Rattle.basics.proofs.clear_floats.Reads as clear-floats-reads
-use Rattle.lent_room.proofs.floats_room.Reads as floats-room-reads
-use Rattle.lent_room.proofs.words_room.Reads as words-room-reads
 
 words-room-requires : tie.Need-words-room-requires
 words-room-requires c κs = search needs

@@ -4,8 +4,6 @@ use Rattle.rules_lent.specs.Lent.{floatsRoom}
 use borrow.Author.Needs.{needs}
 use Rattle.lent_room.proofs.floats_room.Statement.{statement}
 use Rattle.lent_room.proofs.floats_room.Tie as tie
-use Rattle.lent_room.proofs.floats_room.Reads as reads
-use Rattle.lent_room.proofs.floats_room.Lts as lts
 
 element-copy-out-result : tie.Need-element-copy-out-result
 element-copy-out-result c = search needs

@@ -4,8 +4,6 @@ use Rattle.rules_lent.specs.Lent.{wordsRoom}
 use borrow.Author.Needs.{needs}
 use Rattle.lent_room.proofs.words_room.Statement.{statement}
 use Rattle.lent_room.proofs.words_room.Tie as tie
-use Rattle.lent_room.proofs.words_room.Reads as reads
-use Rattle.lent_room.proofs.words_room.Lts as lts
 
 element-copy-out-result : tie.Need-element-copy-out-result
 element-copy-out-result c = search needs

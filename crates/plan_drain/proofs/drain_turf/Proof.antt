@@ -4,9 +4,6 @@ use Rattle.plan_drain.proofs.Drains.{drained, drained-still, drained-no
 use borrow.Author.Needs.{needs}
 use Rattle.plan_drain.proofs.drain_turf.Statement.{statement}
 use Rattle.plan_drain.proofs.drain_turf.Tie as tie
-use Rattle.plan_drain.proofs.hand_on.Reads as hand-on-reads
-use Rattle.plan_edges.proofs.back_link.Reads as back-link-reads
-use Rattle.plan_state.proofs.load.Reads as load-reads
 
 load-requires : tie.Need-load-requires
 load-requires c κs = search needs

@@ -6,7 +6,6 @@ use Rattle.plan_drain.proofs.Drains.{handed}
 use borrow.Author.Needs.{needs}
 use Rattle.plan_drain.proofs.hand_on.Statement.{statement}
 use Rattle.plan_drain.proofs.hand_on.Tie as tie
-use Rattle.plan_edges.proofs.adjust_eq_movement.Reads as adjust-eq-movement-reads
 
 amount-at-requires : tie.Need-amount-at-requires
 amount-at-requires c κs = (omega (arith, c .before .before .pre .fit .turfs, c .before .before .pre .row), c .before .before .pre .fit .links)

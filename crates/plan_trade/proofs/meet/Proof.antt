@@ -5,9 +5,6 @@ use Rattle.plan_trade.proofs.Trades.{wanted, met-some, met-none}
 use borrow.Author.Needs.{needs}
 use Rattle.plan_trade.proofs.meet.Statement.{statement}
 use Rattle.plan_trade.proofs.meet.Tie as tie
-use Rattle.plan_trade.proofs.point.Reads as point-reads
-use Rattle.plan_trade.proofs.trade.Reads as trade-reads
-use Rattle.plan_trade.proofs.wants_at.Reads as wants-at-reads
 
 add-point : tie.Need-add-point
 add-point c = search needs

@@ -8,8 +8,6 @@ use borrow.Author.Needs.{needs}
 use Rattle.rules_plan.specs.Plan.{wants}
 use Rattle.plan_trade.proofs.wants_at.Statement.{statement}
 use Rattle.plan_trade.proofs.wants_at.Tie as tie
-use Rattle.plan_tests.proofs.wants.Reads as wants-reads
-use Rattle.scratch.proofs.delta_at.Reads as delta-at-reads
 
 delta-at-requires : tie.Need-delta-at-requires
 delta-at-requires c κs = search needs

@@ -5,8 +5,6 @@ use Rattle.rules_board.specs.Board.{immutable}
 use borrow.Author.Needs.{needs}
 use Rattle.turfs.proofs.is_immutable.Statement.{statement}
 use Rattle.turfs.proofs.is_immutable.Tie as tie
-use Rattle.turfs.proofs.is_immutable.Reads as reads
-use Rattle.turfs.proofs.is_immutable.Lts as lts
 
 mul-mix : tie.Need-mul-mix
 mul-mix c = search needs

@@ -12,11 +12,6 @@ use Rattle.turfs.proofs.Tables.{parts-of}
 use borrow.Author.Needs.{needs}
 use Rattle.turfs.proofs.refuse.links_fit.Statement.{statement}
 use Rattle.turfs.proofs.refuse.links_fit.Tie as tie
-use Rattle.turfs.proofs.refuse.links_fit.Reads as reads
-use Rattle.turfs.proofs.refuse.links_fit.Lts as lts
-use Rattle.turfs.proofs.refuse.all_below.Reads as all-below-reads
-use Rattle.turfs.proofs.refuse.rising.Reads as rising-reads
-use Rattle.turfs.proofs.refuse.rows_fit.Reads as rows-fit-reads
 
 element-copy-out-starts : tie.Need-element-copy-out-starts
 element-copy-out-starts c = search needs

@@ -15,10 +15,6 @@ use Rattle.rules_board.specs.Refuse.{rowFits}
 use Rattle.turfs.proofs.Refused.{row-test}
 use Rattle.turfs.proofs.refuse.rows_fit.Statement.{statement}
 use Rattle.turfs.proofs.refuse.rows_fit.Tie as tie
-use Rattle.turfs.proofs.refuse.rows_fit.Reads as reads
-use Rattle.turfs.proofs.refuse.rows_fit.Lts as lts
-use Rattle.turfs.proofs.links_of.Reads as links-of-reads
-use Rattle.turfs.proofs.refuse.row_fits.Reads as row-fits-reads
 
 abbrev Inv-loop : tie.InvT-loop
 Inv-loop rows starts neighbours n row₀ row = (row ≤ n) × (every (rowFits (boardOf rows [] 0)) (upFrom row (n - row)) ≡ every (rowFits (boardOf rows [] 0)) (upFrom 0 n))

@@ -7,9 +7,6 @@ use Rattle.rules_board.specs.Refuse.{sizesFit}
 use borrow.Author.Needs.{needs}
 use Rattle.turfs.proofs.refuse.sizes_fit.Statement.{statement}
 use Rattle.turfs.proofs.refuse.sizes_fit.Tie as tie
-use Rattle.turfs.proofs.refuse.sizes_fit.Reads as reads
-use Rattle.turfs.proofs.refuse.sizes_fit.Lts as lts
-use Rattle.turfs.proofs.refuse.within.Reads as within-reads
 
 element-copy-out-within : tie.Need-element-copy-out-within
 element-copy-out-within c = search needs

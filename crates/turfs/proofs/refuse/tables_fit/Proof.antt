@@ -9,8 +9,6 @@ use Rattle.rules_board.specs.Refuse.{tablesFit}
 use borrow.Author.Needs.{needs}
 use Rattle.turfs.proofs.refuse.tables_fit.Statement.{statement}
 use Rattle.turfs.proofs.refuse.tables_fit.Tie as tie
-use Rattle.turfs.proofs.refuse.tables_fit.Reads as reads
-use Rattle.turfs.proofs.refuse.tables_fit.Lts as lts
 
 element-copy-out-n : tie.Need-element-copy-out-n
 element-copy-out-n c = search needs
