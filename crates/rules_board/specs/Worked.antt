@@ -24,11 +24,15 @@ pub worked : T (allOf (
     ∷ not (tablesFit chain 4)
     -- 3: equal ids
     ∷ not (idsFit (draw (turf 10 (to 1 ∷ []) ∷ turf 10 (to 0 ∷ []) ∷ [])))
-    -- 4: a mixture row and a neighbour out of range, a turf linked to itself, a neighbour twice
+    -- 4: a mixture row and a neighbour out of range, a turf linked to itself (the last, the first), a neighbour twice (next to each other, apart);
+    -- a turf that two others name is nothing to refuse
     ∷ not (linksFit (sharing (0 ∷ 2 ∷ []) 2 boardA))
     ∷ not (linksFit (draw (turf 10 (to 1 ∷ []) ∷ turf 20 (to 2 ∷ []) ∷ [])))
     ∷ not (linksFit (draw (turf 10 (to 1 ∷ []) ∷ turf 20 (to 1 ∷ []) ∷ [])))
+    ∷ not (linksFit (draw (turf 10 (to 0 ∷ []) ∷ turf 20 (to 0 ∷ []) ∷ [])))
     ∷ not (linksFit (draw (turf 10 (to 1 ∷ lock 1 ∷ []) ∷ turf 20 [] ∷ [])))
+    ∷ not (linksFit (draw (turf 10 (to 1 ∷ to 2 ∷ to 1 ∷ []) ∷ turf 20 [] ∷ turf 30 [] ∷ [])))
+    ∷ linksFit (draw (turf 10 (to 1 ∷ []) ∷ turf 20 [] ∷ turf 30 (to 1 ∷ []) ∷ []))
     ∷ []))
 unfolding every allOf upFrom member first same linksOf enabled firelock pairwise distinct sizesFit tablesFit rowFits linksFit
     startsFrom allWays draw sharing withGases

@@ -1,17 +1,20 @@
 -- The tests of the refusals in loops that stop at the first failure, or go on to the end. Assumes nothing.
-use Prim.Native.Nat.{ℕ, suc, _+_, _-_, _≤_, _<_}
+use Prim.Native.Nat.{ℕ, suc, _+_, _≤_, _<_}
 use native.Mathlib.Omega.{arith}
 use native.Mathlib.Numerals.{add-one}
-use mathlib.Core.Path.{_≡_, refl, ap, _∙_, sym}
+use mathlib.Core.Path.{_≡_, refl, _∙_, sym}
 use mathlib.Core.List.{List, [], _∷_}
 use mathlib.Core.Bool.{Bool, true, false, not, _&&_}
-use lib.ListN.{length, getD, take, drop, drop-of-length-le, length-drop}
-use lib.Seq.{drop-cons, take-all}
-use borrow.Author.Tests.{eq-eqb, ne-eqb}
+use lib.ListN.{length, getD, drop, replicate, length-drop, length-replicate}
+use lib.Seq.{drop-cons}
 use Rattle.basics.specs.Loops.{member}
-use Rattle.basics.proofs.Tests.{and-true, and-false}
-use Rattle.rules_board.specs.Board.{Board}
+use Rattle.basics.proofs.Lists.{replicate-at}
+use Rattle.rules_board.specs.Board.{Board, turfCount}
 use Rattle.rules_board.specs.Refuse.{pairwise, distinct, rowFits}
+use Rattle.turf_stamps.specs.Stamps.{Stamps, StampFits}
+use Rattle.turfs.specs.Tables.{Near}
+use Rattle.turfs.specs.Links.{LinksLead, NoStamps}
+use Rattle.turfs.proofs.Near.{near-end, near-inside}
 
 two : (l : List ℕ) (i : ℕ) → i + 1 < length l → drop i l ≡ getD l i 0 ∷ getD l (i + 1) 0 ∷ drop (suc (i + 1)) l
 two l i h =
@@ -37,53 +40,24 @@ module _ (test : ℕ → ℕ → Bool) (l : List ℕ) (i : ℕ) where
       short (x ∷ []) k = refl
       short (x ∷ y ∷ s) k = absurd (omega arith)
 
-module _ (l : List ℕ) (x i : ℕ) where
-  module _ (h : i < length l) where
-    pub lacks-next : (getD l i 0 ≡ x → ⊥) → not (member x (drop i l)) ≡ not (member x (drop (i + 1) l))
-    unfolding member
-    lacks-next n = rw (drop-cons l i 0 h, ne-eqb x (getD l i 0) (λ e. n (sym e)), add-one)
+-- a turf's neighbours: their test is the turf's, and they can be stamped for it
+module _ (b : Board) (row : ℕ) {from : ℕ} {near : List ℕ} (p : Near b row from near) where
+  pub near-test : (t : Bool) → t ≡ (not (member row near) && distinct near) → rowFits b row ≡ t
+  unfolding rowFits
+  near-test t e = rw (← p .part) (sym e)
 
-    pub lacks-fails : getD l i 0 ≡ x → not (member x (drop i l)) ≡ false
-    unfolding member
-    lacks-fails e = rw (drop-cons l i 0 h, eq-eqb x (getD l i 0) (sym e))
+  pub near-stamps : (stamps : List ℕ) → LinksLead b → row < turfCount b → (turfCount b ≤ length stamps) × (length stamps ≤ 4096) → Stamps row stamps → StampFits row near stamps
+  near-stamps stamps lead l h old = record {
+    few = h .1;
+    turf = omega arith;
+    ends = λ i k. omega (arith, near-end (lead .parts) l p i k, lead .ends (from + i) (omega (arith, k, near-inside (lead .parts) l p)));
+    old = old;
+  }
 
-    -- b says whether the part before lacks x; b′ whether it still does after the next number
-    pub lacks-hit : (b b′ r : Bool) → getD l i 0 ≡ x → b′ ≡ false → (b && not (member x (drop i l))) ≡ r → (b′ && not (member x (drop (i + 1) l))) ≡ r
-    lacks-hit b b′ r e q k = rw q (sym (and-false b) ∙ ap (λ (t : Bool). b && t) (sym (lacks-fails e)) ∙ k)
-
-    pub lacks-miss : (b b′ r : Bool) → (getD l i 0 ≡ x → ⊥) → b′ ≡ b → (b && not (member x (drop i l))) ≡ r → (b′ && not (member x (drop (i + 1) l))) ≡ r
-    lacks-miss b b′ r n q k = rw q (ap (λ (t : Bool). b && t) (sym (lacks-next n)) ∙ k)
-
-  pub lacks-end : length l ≤ i → not (member x (drop i l)) ≡ true
-  unfolding member
-  lacks-end h = rw (drop-of-length-le l h)
-
-  pub lacks-all : (b r : Bool) → length l ≤ i → (b && not (member x (drop i l))) ≡ r → b ≡ r
-  lacks-all b r h k = sym (and-true b) ∙ ap (λ (t : Bool). b && t) (sym (lacks-end h)) ∙ k
-
--- a slice's part from j to its end
-whole-rest : (l : List ℕ) (j : ℕ) → take (length l - j) (drop j l) ≡ drop j l
-whole-rest l j = take-all (length l - j) (drop j l) (simp length-drop (omega arith))
-
-module _ (l : List ℕ) (i : ℕ) where
-  module _ (h : i < length l) where
-    abbrev later : Bool
-    later = not (member (getD l i 0) (take (length l - (i + 1)) (drop (i + 1) l)))
-
-    pub distinct-next : later ≡ true → distinct (drop i l) ≡ distinct (drop (i + 1) l)
-    unfolding distinct
-    distinct-next t = let t′ = rw (whole-rest l (i + 1), add-one i) at t in rw (add-one i, drop-cons l i 0 h, t′)
-
-    pub distinct-fails : later ≡ false → distinct (drop i l) ≡ false
-    unfolding distinct
-    distinct-fails t = let t′ = rw (whole-rest l (i + 1), add-one i) at t in rw (drop-cons l i 0 h, t′)
-
-  pub distinct-end : length l ≤ i → distinct (drop i l) ≡ true
-  unfolding distinct
-  distinct-end h = rw (drop-of-length-le l h)
-
--- the test of the part that is a turf's is the test of the turf
-pub row-test : (b : Board) (r from to : ℕ) (t : Bool) → t ≡ (not (member r (take (to - from) (drop from (b .neighbours)))) && distinct (take (to - from) (drop from (b .neighbours))))
-    → from ≡ getD (b .starts) r 0 → to ≡ getD (b .starts) (r + 1) 0 → rowFits b r ≡ t
-unfolding rowFits
-row-test b r from to t e f g = rw (← f, ← g) (sym e)
+-- a table as it is made
+pub no-stamps : (n k : ℕ) → n ≤ k → k ≤ 4096 → NoStamps n (replicate k 0)
+no-stamps n k enough few = record {
+  few = rw (length-replicate {A = ℕ} k 0) few;
+  enough = rw (length-replicate {A = ℕ} k 0) enough;
+  none = λ a. let z : _≡_ {A = ℕ} (getD (replicate k 0) a 0) 0 = replicate-at k a 0 in omega (arith, z);
+}

@@ -10,15 +10,16 @@ use super::PLANETARY;
 use super::Rows;
 use super::STARTS;
 ghost use mathlib.Core.Path.{_≡_};
-ghost use mathlib.Core.Bool.{not, _&&_};
 ghost use mathlib.Core.List.{[]};
-ghost use Prim.Native.Nat.{_+_, _≤_};
+ghost use Prim.Native.Nat.{_+_};
 ghost use lib.Dec.{ltb};
 ghost use lib.ListN.{length};
-ghost use Rattle.basics.specs.Loops.{every, member, upFrom};
-ghost use Rattle.rules_board.specs.Board.{turfCount, linkCount};
-ghost use Rattle.turfs.specs.Tables.{boardOf, boardAt, Parts, Small, BoardSizes};
-ghost use Rattle.rules_board.specs.Refuse.{within, ascending, rising, distinct, rowFits, sizesFit, tablesFit, linksFit};
+ghost use Rattle.basics.specs.Loops.{every, upFrom};
+ghost use Rattle.rules_board.specs.Board.{turfCount};
+ghost use Rattle.turf_stamps.specs.Stamps.{Stamps};
+ghost use Rattle.turfs.specs.Tables.{boardOf, boardAt, Small, BoardSizes};
+ghost use Rattle.turfs.specs.Links.{LinksLead, NoStamps};
+ghost use Rattle.rules_board.specs.Refuse.{within, ascending, rising, rowFits, sizesFit, tablesFit, linksFit};
 
 // Is n one of the numbers from lo to hi?
 fn within(lo: usize, hi: usize, n: usize) -> bool
@@ -112,51 +113,11 @@ fn all_below(xs: &[u32], n: usize) -> bool
     true
 }
 
-// Is x not in the list? All of it is looked at: a loop with no other way out is compiled to compare several numbers at once.
-fn lacks(xs: &[u32], x: u32) -> bool
-    ensures { λ r. ⌜ r ≡ not (member x (now (xs .entry))) ⌝ }
-{
-    let mut none = true;
-    let mut i = 0;
-    while i < xs.len() {
-        if xs[i] == x {
-            none = false;
-        }
-        i += 1;
-    }
-    none
-}
-
-// No number twice?
-fn distinct(xs: &[u32]) -> bool
-    ensures { λ r. ⌜ r ≡ distinct (now (xs .entry)) ⌝ }
-{
-    let mut i = 0;
-    while i < xs.len() {
-        let x = xs[i];
-        i += 1;
-        if !lacks(&xs[i..], x) {
-            return false;
-        }
-    }
-    true
-}
-
-// The neighbours of one turf: none is the turf itself, none stands twice.
-fn row_fits(row: u32, neighbours: &[u32]) -> bool
-    ensures { λ r. ⌜ r ≡ (not (member row (now (neighbours .entry))) && distinct (now (neighbours .entry))) ⌝ }
-{
-    if !lacks(neighbours, row) {
-        return false;
-    }
-    distinct(neighbours)
-}
-
-// The neighbours of every turf.
-fn rows_fit(rows: &Rows) -> bool
-    requires { let b = boardOf (now rows) [] 0 in ⌜ Parts (turfCount b) (b .starts) (b .neighbours) ⌝ }
-    requires { ⌜ linkCount (boardOf (now rows) [] 0) ≤ 24576 ⌝ }
-    ensures { λ r. let b = boardOf (now (rows .entry)) [] 0 in ⌜ r ≡ every (rowFits b) (upFrom 0 (turfCount b)) ⌝ }
+// The neighbours of every turf, told by stamps: one for each turf at least, and none made yet.
+fn rows_stamped(rows: &Rows, stamps: &mut [u16]) -> bool
+    requires { ⌜ LinksLead (boardOf (now rows) [] 0) ⌝ }
+    requires { ⌜ NoStamps (turfCount (boardOf (now rows) [] 0)) (now stamps) ⌝ }
+    ensures { λ r. let b = boardOf (now (rows .entry)) [] 0 in ⌜ (r ≡ every (rowFits b) (upFrom 0 (turfCount b))) × Stamps (turfCount b) (now (stamps .exit)) ⌝ }
 {
     let starts = rows[STARTS];
     let neighbours = rows[NEIGHBOURS];
@@ -166,12 +127,33 @@ fn rows_fit(rows: &Rows) -> bool
         let links = super::links_of(starts, row);
         let from = links.from;
         let to = links.to;
-        if !row_fits(row as u32, &neighbours[from..to]) {
+        if !turf_stamps::row_fits(row, &neighbours[from..to], stamps) {
             return false;
         }
         row += 1;
     }
     true
+}
+
+// The same of a board of any size, whose table is cleared here and nowhere else.
+fn rows_of_many(rows: &Rows) -> bool
+    requires { ⌜ LinksLead (boardOf (now rows) [] 0) ⌝ }
+    ensures { λ r. let b = boardOf (now (rows .entry)) [] 0 in ⌜ r ≡ every (rowFits b) (upFrom 0 (turfCount b)) ⌝ }
+{
+    let mut stamps = [0u16; 4096];
+    rows_stamped(rows, &mut stamps)
+}
+
+// The same. A small board has a small table, so that it doesn't pay for the large one.
+fn rows_fit(rows: &Rows) -> bool
+    requires { ⌜ LinksLead (boardOf (now rows) [] 0) ⌝ }
+    ensures { λ r. let b = boardOf (now (rows .entry)) [] 0 in ⌜ r ≡ every (rowFits b) (upFrom 0 (turfCount b)) ⌝ }
+{
+    if rows[IDS].len() > 32 {
+        return rows_of_many(rows);
+    }
+    let mut stamps = [0u16; 32];
+    rows_stamped(rows, &mut stamps)
 }
 
 // Refusal 4.

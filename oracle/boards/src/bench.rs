@@ -20,6 +20,18 @@ fn hub(turfs: u32) -> Vec<Vec<u32>> {
     (0..turfs).map(|row| if row == 0 { (1..turfs).collect() } else { vec![0] }).collect()
 }
 
+/// A hub that has all the gas, with so many empty neighbours, hot.
+fn full_hub(links: u32) -> Case {
+    let mut amounts = vec![0.0; links as usize + 1];
+    amounts[0] = 100_000.0;
+    case(&hub(links + 1), amounts, vec![10])
+}
+
+/// Such hubs, up to the limit.
+pub fn full_hubs() -> Vec<Case> {
+    [64, 128, 256, 512, 1_024, 2_048, 4_095].map(full_hub).to_vec()
+}
+
 /// Rows in pairs.
 fn pairs(turfs: u32) -> Vec<Vec<u32>> {
     (0..turfs).map(|row| vec![row ^ 1]).collect()
@@ -67,6 +79,7 @@ pub fn boards() -> Vec<(&'static str, Case)> {
         ("grid 64x64 random", case(&links, random_amounts(4_096), vec![10])),
         ("grid 64x64, one giver in the middle", case(&links, middle, vec![(32 * 64 + 33) * 10])),
         ("hub of 4096 random", case(&hub(4_096), random_amounts(4_096), vec![10])),
+        ("hub of 4096, all gas in the hub", full_hub(4_095)),
         ("chain 1024", case(&chain(1_024), random_amounts(1_024), vec![10])),
         ("2048 pairs, all hot", case(&pairs(4_096), [32.0, 16.0].repeat(2_048), all(4_096))),
     ]

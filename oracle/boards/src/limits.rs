@@ -1,4 +1,4 @@
-//! Boards at each limit of document 01 and one beyond, on small boards and on those where all else is at its limit too.
+//! Boards at each limit of document 01 and one beyond, on small boards and on those where all else is at its limit too; crowded rows.
 
 use crate::case::{Call, Case, Equalize, Room, Walk};
 use crate::paper::board;
@@ -34,8 +34,13 @@ fn hot(ids: &[u32], count: usize) -> Vec<u32> {
 }
 
 /// A board of these sizes with random amounts, and a call of it.
-fn sized(random: &mut Random, call: u32, [turfs, count, mixtures, gases, hots, turns]: Sizes) -> Case {
-    let mut made = board(&links(turfs, count).iter().map(Vec::as_slice).collect::<Vec<_>>(), &[]);
+fn sized(random: &mut Random, call: u32, sizes: Sizes) -> Case {
+    linked(random, call, &links(sizes[0], sizes[1]), sizes)
+}
+
+/// The same with these links.
+fn linked(random: &mut Random, call: u32, links: &[Vec<u32>], [turfs, _, mixtures, gases, hots, turns]: Sizes) -> Case {
+    let mut made = board(&links.iter().map(Vec::as_slice).collect::<Vec<_>>(), &[]);
     made.mixtures.iter_mut().for_each(|row| *row %= mixtures.max(1) as u32);
     made.immutable = vec![0; mixtures];
     made.gases = gases as u32;
@@ -55,6 +60,21 @@ fn sized(random: &mut Random, call: u32, [turfs, count, mixtures, gases, hots, t
 /// A small board, and a call of it.
 pub fn few(random: &mut Random, call: u32) -> Case {
     sized(random, call, FEW)
+}
+
+/// A crowded row: a hub linked with all other turfs, and the same with a neighbour twice, first and last, and with itself for a neighbour; each with
+/// the refusal that is due.
+fn crowded(random: &mut Random, call: u32, turfs: usize, hub: usize) -> [(&'static str, u32, Case); 3] {
+    let spoke = |row| if row == hub { (0..turfs as u32).filter(|&end| end != hub as u32).collect() } else { vec![hub as u32] };
+    let well = (0..turfs).map(spoke).collect::<Vec<_>>();
+    let with_last = |end: u32| {
+        let mut rows = well.clone();
+        *rows[hub].last_mut().expect("a link") = end;
+        rows
+    };
+    let (twice, itself) = (with_last(well[hub][0]), with_last(hub as u32));
+    let mut made = |links: &[Vec<u32>]| linked(random, call, links, but(FEW, 0, turfs));
+    [("a hub", 0, made(&well)), ("a hub's neighbour twice", 4, made(&twice)), ("a hub linked to itself", 4, made(&itself))]
 }
 
 /// What can be at its limit or beyond in a cell or a length; each with the refusal that is due.
@@ -126,5 +146,9 @@ pub fn cases(seed: u64, test: &mut impl FnMut(&str, &Case)) {
         let most = sized(&mut random, call, MOST);
         one("all at the limit", 0, &most);
         cells(&most).iter().for_each(|(label, due, case)| one(label, *due, case));
+        for (turfs, hub) in [3, 32, 33, 4_096].into_iter().flat_map(|turfs| [(turfs, 0), (turfs, turfs - 1)]) {
+            let rows = crowded(&mut random, call, turfs, hub);
+            rows.iter().for_each(|(label, due, case)| one(&format!("{label} in row {hub} of {turfs}"), *due, case));
+        }
     }
 }

@@ -129,6 +129,17 @@ pub fn parts(seconds: Duration) {
     }
 }
 
+/// What of the library's time is for the refusals on hubs of more and more links, so long each.
+pub fn hubs(seconds: Duration) {
+    println!("{}\n\n| the hub's links | refusals, ns | by link, ns | the whole call, ns | share |\n|--:|--:|--:|--:|--:|", heading());
+    for case in boards::bench::full_hubs() {
+        let (links, [short, _]) = (case.board.ids.len() - 1, less(&case));
+        let [refusals, whole] = [&short, &case].map(|case| ours(case, seconds));
+        let (by_link, share) = (refusals.as_nanos() as f64 / links as f64, 100.0 * refusals.as_secs_f64() / whole.as_secs_f64());
+        println!("| {links} | {} | {by_link:.2} | {} | {share:.1} % |", refusals.as_nanos(), whole.as_nanos());
+    }
+}
+
 /// All that is read of a board, added up once.
 fn sum(board: &Board, hot: &[u32]) -> u32 {
     let words = [&board.ids, &board.mixtures, &board.starts, &board.neighbours, hot]

@@ -19,6 +19,7 @@ library payloads EACH SEED   every fault, alone and with another, EACH times, an
 library bench SECONDS [NAME] how long equalize takes, the text's and the library's by turns, SECONDS a board at least; boards with NAME in their name
 library places SECONDS [NAME] how much longer the library's takes with the scratch at other places within a page of memory, by 16 bytes: the best and the worst
 library parts SECONDS        what of the library's time is for refusals and for clearing
+library hubs SECONDS         what of it is for refusals on hubs of 64 to 4,095 links
 library cost MILLISECONDS PICTURE   how long the library's takes on growing boards, as a table and as a picture (SVG)
 library stack                how much stack the deepest board takes; that 2 MiB are enough and half of what it takes isn't";
 
@@ -174,6 +175,7 @@ fn main() {
         ("bench", Some(seconds), None) => bench::table(Duration::from_secs(seconds), words.get(2).map_or("", String::as_str)),
         ("places", Some(seconds), None) => bench::places(Duration::from_secs(seconds), words.get(2).map_or("", String::as_str)),
         ("parts", Some(seconds), None) => bench::parts(Duration::from_secs(seconds)),
+        ("hubs", Some(seconds), None) => bench::hubs(Duration::from_secs(seconds)),
         ("cost", Some(milliseconds), None) if words.len() == 3 => {
             let picture = picture::svg(&bench::cost(Duration::from_millis(milliseconds)), &bench::machine());
             std::fs::write(&words[2], picture).expect("the picture can be written");

@@ -1,12 +1,13 @@
 -- The first part of refusal 4 that is met decides; what passed makes each turf's links a part. Assumes nothing.
-use mathlib.Core.Path.{_∙_, sym}
+use mathlib.Core.Path.{_∙_, sym, subst}
 use mathlib.Core.List.{[], _∷_}
 use lib.ListN.{length}
 use denote.Ref.{now}
 use Rattle.turfs.specs.Tables.{table}
 use native.Mathlib.Omega.{arith}
 use borrow.Author.Tests.{eq-eqb, ne-eqb}
-use Rattle.basics.proofs.Tests.{one-fails, last-is, all-hold, all-none, yes, no}
+use lib.Dec.{T, ltb→lt}
+use Rattle.basics.proofs.Tests.{every-at, one-fails, last-is, all-hold, all-none, yes, no}
 use Rattle.rules_board.specs.Refuse.{linksFit, rowFits}
 use Rattle.turfs.proofs.Tables.{parts-of}
 use borrow.Author.Needs.{needs}
@@ -74,8 +75,14 @@ returns-5 c = sym (one-fails _ 4 (no _ (c .before .all-below2 .ensures) (c .if5 
 
 rows-fit-requires : tie.Need-rows-fit-requires
 rows-fit-requires c κs =
-    let s = c .before .before .before .before .before .before .before .before .before .before .before .before .before in
-    (parts-of _ _ _ (s .pre .0 .turfs) (s .pre .1) (yes _ (c .before .before .before .before .before .before .before .before .before .before .before .rising .ensures) (c .before .before .before .before .before .before .before .before .before .before .if1 .left)) (c .before .before .before .before .before .before .if3 .left), s .pre .0 .links)
+    let entry = c .before .before .before .before .before .before .before .before .before .before .before .before .before in
+    let risen = yes _ (c .before .before .before .before .before .before .before .before .before .before .before .rising .ensures) (c .before .before .before .before .before .before .before .before .before .before .if1 .left) in
+    let below = yes _ (c .before .before .before .before .all-below .ensures) (c .before .before .before .if4 .left) in
+    record {
+      parts = parts-of _ _ _ (entry .pre .0 .turfs) (entry .pre .1) risen (c .before .before .before .before .before .before .if3 .left);
+      few = entry .pre .0 .links;
+      ends = λ k l. ltb→lt _ _ (subst T (sym (every-at _ (table (now (entry .args .rows)) 3) 0 k below l)) tt);
+    }
 
 returns-6 : tie.Need-returns-6
 unfolding linksFit rowFits
