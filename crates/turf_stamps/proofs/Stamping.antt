@@ -21,8 +21,8 @@ abbrev free : ℕ → List ℕ → ℕ → Bool
 free stamp stamps a = not (eqb (getD stamps a 0) stamp)
 
 -- what is left to be tested of a row: none of these neighbours stands twice, none is stamped already
-abbrev pub left : ℕ → List ℕ → List ℕ → Bool
-left stamp stamps near = distinct near && every (free stamp stamps) near
+abbrev pub restFits : ℕ → List ℕ → List ℕ → Bool
+restFits stamp stamps near = distinct near && every (free stamp stamps) near
 
 and-across : (a b c : Bool) → (a && (b && c)) ≡ (b && (a && c))
 and-across true b c = refl
@@ -46,25 +46,25 @@ module _ (stamp : ℕ) (stamps : List ℕ) (a : ℕ) (l : a < length stamps) whe
 
 module _ (stamp : ℕ) (stamps near : List ℕ) (i : ℕ) where
   module _ (h : i < length near) where
-    pub left-twice : getD stamps (getD near i 0) 0 ≡ stamp → left stamp stamps (drop i near) ≡ false
+    pub rest-twice : getD stamps (getD near i 0) 0 ≡ stamp → restFits stamp stamps (drop i near) ≡ false
     unfolding every
-    left-twice e = rw (drop-cons near i 0 h, eq-eqb _ stamp e) (and-false (distinct (getD near i 0 ∷ drop (suc i) near)))
+    rest-twice e = rw (drop-cons near i 0 h, eq-eqb _ stamp e) (and-false (distinct (getD near i 0 ∷ drop (suc i) near)))
 
-    pub left-next : getD near i 0 < length stamps → getD stamps (getD near i 0) 0 ≢ stamp → left stamp stamps (drop i near) ≡ left stamp (set stamps (getD near i 0) stamp) (drop (i + 1) near)
+    pub rest-next : getD near i 0 < length stamps → getD stamps (getD near i 0) 0 ≢ stamp → restFits stamp stamps (drop i near) ≡ restFits stamp (set stamps (getD near i 0) stamp) (drop (i + 1) near)
     unfolding every distinct
-    left-next l n =
+    rest-next l n =
         let rest = drop (suc i) near in
         rw (drop-cons near i 0 h, ne-eqb _ stamp n, add-one i, one-stamped stamp stamps (getD near i 0) l rest) (and-around (not (member (getD near i 0) rest)) (distinct rest) (every (free stamp stamps) rest))
 
-  pub left-end : length near ≤ i → left stamp stamps (drop i near) ≡ true
+  pub rest-end : length near ≤ i → restFits stamp stamps (drop i near) ≡ true
   unfolding every distinct
-  left-end h = rw (drop-of-length-le near h)
+  rest-end h = rw (drop-of-length-le near h)
 
 -- the turf of the row stamped first, over stamps of earlier rows
 module _ (row : ℕ) (stamps near : List ℕ) (l : row < length stamps) (s : Stamps row stamps) where
-  pub left-start : left (row + 1) (set stamps row (row + 1)) near ≡ (not (member row near) && distinct near)
+  pub rest-start : restFits (row + 1) (set stamps row (row + 1)) near ≡ (not (member row near) && distinct near)
   unfolding every
-  left-start = rw (one-stamped (row + 1) stamps row l near, all-free near) (and-across (distinct near) (not (member row near)) true ∙ rw (and-true (distinct near)))
+  rest-start = rw (one-stamped (row + 1) stamps row l near, all-free near) (and-across (distinct near) (not (member row near)) true ∙ rw (and-true (distinct near)))
     where
       all-free : (xs : List ℕ) → every (free (row + 1) stamps) xs ≡ true
       all-free [] = refl

@@ -9,13 +9,13 @@ use borrow.Author.Needs.{needs}
 use Rattle.basics.specs.Loops.{member}
 use Rattle.rules_board.specs.Refuse.{distinct}
 use Rattle.turf_stamps.specs.Stamps.{Stamps}
-use Rattle.turf_stamps.proofs.Stamping.{left, left-start, left-next, left-twice, left-end, stamp-keeps}
+use Rattle.turf_stamps.proofs.Stamping.{restFits, rest-start, rest-next, rest-twice, rest-end, stamp-keeps}
 use Rattle.turf_stamps.proofs.row_fits.Statement.{statement}
 use Rattle.turf_stamps.proofs.row_fits.Tie as tie
 
 abbrev Inv-loop : tie.InvT-loop
 Inv-loop row near stamps₀ i₀ stamp stamps i =
-    ((i ≤ length near) × (length stamps ≡ length stamps₀)) × ((left (row + 1) stamps (drop i near) ≡ (not (member row near) && distinct near)) × Stamps (row + 1) stamps)
+    ((i ≤ length near) × (length stamps ≡ length stamps₀)) × ((restFits (row + 1) stamps (drop i near) ≡ (not (member row near) && distinct near)) × Stamps (row + 1) stamps)
 
 abbrev μ-loop : tie.MeasureT-loop
 μ-loop row near stamps₀ i₀ stamp stamps i = length near - i
@@ -35,7 +35,7 @@ slice-write-stamps c = search needs
 loop-holds : tie.Need-loop-holds Inv-loop μ-loop
 loop-holds c =
     let s = c .args in
-    (search needs, (left-start (s .row) (now (s .stamps)) (now (s .near)) (c .pre .turf) (c .pre .old), stamp-keeps (s .row + 1) (now (s .stamps)) (s .row) (c .pre .turf) (λ a. omega (arith, c .pre .old a))))
+    (search needs, (rest-start (s .row) (now (s .stamps)) (now (s .near)) (c .pre .turf) (c .pre .old), stamp-keeps (s .row + 1) (now (s .stamps)) (s .row) (c .pre .turf) (λ a. omega (arith, c .pre .old a))))
 
 mul-a : tie.Need-mul-a Inv-loop μ-loop
 mul-a c = search needs
@@ -62,7 +62,7 @@ returns : tie.Need-returns Inv-loop μ-loop
 returns c =
     let s = c .before .before .before .before .before .args in
     let loop = c .before .before .before .before .loop in
-    (sym (left-twice (s .row + 1) (loop .stamps) (now (s .near)) (loop .i) (c .before .before .before .loop-test .taken) (c .if1 .taken)) ∙ loop .inv .1 .0, loop .inv .1 .1)
+    (sym (rest-twice (s .row + 1) (loop .stamps) (now (s .near)) (loop .i) (c .before .before .before .loop-test .taken) (c .if1 .taken)) ∙ loop .inv .1 .0, loop .inv .1 .1)
 
 mul-stamps-2 : tie.Need-mul-stamps-2 Inv-loop μ-loop
 mul-stamps-2 c = omega (arith, c .before .before .before .before .before .pre .ends (c .before .before .before .before .loop .i) (c .before .before .before .loop-test .taken), c .before .before .before .before .before .pre .few)
@@ -88,7 +88,7 @@ loop-again c =
     let a = getD (now (s .near)) (loop .i) 0 in
     let e = entry .pre .ends (loop .i) (test .taken) in
     let l : a < length (loop .stamps) = omega (arith, e, loop .inv .0 .1, length-set (now (s .stamps)) (s .row) (s .row + 1)) in
-    let rest = left-next (s .row + 1) (loop .stamps) (now (s .near)) (loop .i) (test .taken) l (c .if1 .left) in
+    let rest = rest-next (s .row + 1) (loop .stamps) (now (s .near)) (loop .i) (test .taken) l (c .if1 .left) in
     ((omega arith, length-set (loop .stamps) _ _ ∙ loop .inv .0 .1), (sym rest ∙ loop .inv .1 .0, stamp-keeps (s .row + 1) (loop .stamps) a l (loop .inv .1 .1)))
 
 same-length-2 : tie.Need-same-length-2 Inv-loop μ-loop
@@ -98,7 +98,7 @@ returns-2 : tie.Need-returns-2 Inv-loop μ-loop
 returns-2 c =
     let s = c .before .before .args in
     let loop = c .before .loop in
-    (sym (left-end (s .row + 1) (loop .stamps) (now (s .near)) (loop .i) (c .loop-test .left)) ∙ loop .inv .1 .0, loop .inv .1 .1)
+    (sym (rest-end (s .row + 1) (loop .stamps) (now (s .near)) (loop .i) (c .loop-test .left)) ∙ loop .inv .1 .0, loop .inv .1 .1)
 
 pub row-fits-spec : {M : Type 1} → statement M
 row-fits-spec =
