@@ -3,7 +3,7 @@
 use mathlib.Core.Path.{_≡_, refl, sym, ap, _∙_, subst}
 use mathlib.Core.Logic.{_⊎_, inl, inr}
 use mathlib.Core.List.{List, [], _∷_}
-use mathlib.Core.Bool.{Bool, true, false, _&&_, _||_, cond}
+use mathlib.Core.Bool.{Bool, true, false, _&&_, _||_, cond, and-false}
 use Prim.Native.Nat.{ℕ, _+_, _≤_, _<_}
 use native.Mathlib.Omega.{arith}
 use lib.Dec.{T, eqb, ltb}
@@ -13,7 +13,6 @@ use borrow.Author.Tests.{ltb-true, ltb-false, le-ltb}
 use Rattle.basics.specs.Loops.{run, snoc}
 use Rattle.basics.specs.Lists.{All}
 use Rattle.basics.proofs.Loops.{All-any, run-keeps, times-keeps, times-rests}
-use Rattle.basics.proofs.Tests.{and-false}
 use Rattle.rules_board.specs.Board.{Board, turfCount, end, enabled, planetary, linksOf}
 use Rattle.rules_events.specs.declared.Event.{Event}
 use Rattle.rules_events.specs.Compared.{isRequest}

@@ -11,7 +11,7 @@ use Rattle.basics.specs.Loops.{member}
 use Rattle.basics.proofs.Lists.{replicate-at}
 use Rattle.rules_board.specs.Board.{Board, turfCount}
 use Rattle.rules_board.specs.Refuse.{pairwise, distinct, rowFits}
-use Rattle.turf_stamps.specs.Stamps.{Stamps, StampFits}
+use Rattle.turf_stamps.specs.Stamps.{AtMost, StampFits}
 use Rattle.turfs.specs.Tables.{Near}
 use Rattle.turfs.specs.Links.{LinksLead, NoStamps}
 use Rattle.turfs.proofs.Near.{near-end, near-inside}
@@ -46,7 +46,7 @@ module _ (b : Board) (row : ℕ) {from : ℕ} {near : List ℕ} (p : Near b row 
   unfolding rowFits
   near-test t e = rw (← p .part) (sym e)
 
-  pub near-stamps : (stamps : List ℕ) → LinksLead b → row < turfCount b → (turfCount b ≤ length stamps) × (length stamps ≤ 4096) → Stamps row stamps → StampFits row near stamps
+  pub near-stamps : (stamps : List ℕ) → LinksLead b → row < turfCount b → (turfCount b ≤ length stamps) × (length stamps ≤ 4096) → AtMost row stamps → StampFits row near stamps
   near-stamps stamps lead l h old = record {
     few = h .1;
     turf = omega arith;

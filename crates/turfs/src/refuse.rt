@@ -14,12 +14,12 @@ ghost use mathlib.Core.List.{[]};
 ghost use Prim.Native.Nat.{_+_};
 ghost use lib.Dec.{ltb};
 ghost use lib.ListN.{length};
-ghost use Rattle.basics.specs.Loops.{every, upFrom};
+ghost use Rattle.basics.specs.Loops.{every};
 ghost use Rattle.rules_board.specs.Board.{turfCount};
-ghost use Rattle.turf_stamps.specs.Stamps.{Stamps};
+ghost use Rattle.turf_stamps.specs.Stamps.{AtMost};
 ghost use Rattle.turfs.specs.Tables.{boardOf, boardAt, Small, BoardSizes};
-ghost use Rattle.turfs.specs.Links.{LinksLead, NoStamps};
-ghost use Rattle.rules_board.specs.Refuse.{within, ascending, rising, rowFits, sizesFit, tablesFit, linksFit};
+ghost use Rattle.turfs.specs.Links.{rowsFit, LinksLead, NoStamps};
+ghost use Rattle.rules_board.specs.Refuse.{within, ascending, rising, sizesFit, tablesFit, linksFit};
 
 // Is n one of the numbers from lo to hi?
 fn within(lo: usize, hi: usize, n: usize) -> bool
@@ -117,7 +117,7 @@ fn all_below(xs: &[u32], n: usize) -> bool
 fn rows_stamped(rows: &Rows, stamps: &mut [u16]) -> bool
     requires { ⌜ LinksLead (boardOf (now rows) [] 0) ⌝ }
     requires { ⌜ NoStamps (turfCount (boardOf (now rows) [] 0)) (now stamps) ⌝ }
-    ensures { λ r. let b = boardOf (now (rows .entry)) [] 0 in ⌜ (r ≡ every (rowFits b) (upFrom 0 (turfCount b))) × Stamps (turfCount b) (now (stamps .exit)) ⌝ }
+    ensures { λ r. let b = boardOf (now (rows .entry)) [] 0 in ⌜ (r ≡ rowsFit b) × AtMost (turfCount b) (now (stamps .exit)) ⌝ }
 {
     let starts = rows[STARTS];
     let neighbours = rows[NEIGHBOURS];
@@ -135,22 +135,22 @@ fn rows_stamped(rows: &Rows, stamps: &mut [u16]) -> bool
     true
 }
 
-// The same of a board of any size, whose table is cleared here and nowhere else.
-fn rows_of_many(rows: &Rows) -> bool
+// The same, with a stamp for every turf that there can be.
+fn large_rows_fit(rows: &Rows) -> bool
     requires { ⌜ LinksLead (boardOf (now rows) [] 0) ⌝ }
-    ensures { λ r. let b = boardOf (now (rows .entry)) [] 0 in ⌜ r ≡ every (rowFits b) (upFrom 0 (turfCount b)) ⌝ }
+    ensures { λ r. ⌜ r ≡ rowsFit (boardOf (now (rows .entry)) [] 0) ⌝ }
 {
     let mut stamps = [0u16; 4096];
     rows_stamped(rows, &mut stamps)
 }
 
-// The same. A small board has a small table, so that it doesn't pay for the large one.
+// The same. A small board has a small table, so that it doesn't pay for clearing the large one.
 fn rows_fit(rows: &Rows) -> bool
     requires { ⌜ LinksLead (boardOf (now rows) [] 0) ⌝ }
-    ensures { λ r. let b = boardOf (now (rows .entry)) [] 0 in ⌜ r ≡ every (rowFits b) (upFrom 0 (turfCount b)) ⌝ }
+    ensures { λ r. ⌜ r ≡ rowsFit (boardOf (now (rows .entry)) [] 0) ⌝ }
 {
     if rows[IDS].len() > 32 {
-        return rows_of_many(rows);
+        return large_rows_fit(rows);
     }
     let mut stamps = [0u16; 32];
     rows_stamped(rows, &mut stamps)

@@ -3,7 +3,7 @@
 use crate::case::{Call, Case, Equalize};
 use crate::paper::board;
 use crate::random::Random;
-use crate::shapes::{chain, grid};
+use crate::shapes::{chain, grid, hub};
 
 fn case(links: &[Vec<u32>], amounts: Vec<f32>, hot: Vec<u32>) -> Case {
     let made = board(&links.iter().map(Vec::as_slice).collect::<Vec<_>>(), &amounts);
@@ -15,16 +15,11 @@ fn random_amounts(turfs: usize) -> Vec<f32> {
     (0..turfs).map(|_| 10.0 + random.below(1_000) as f32 / 8.0).collect()
 }
 
-/// A hub: row 0 linked with all others.
-fn hub(turfs: u32) -> Vec<Vec<u32>> {
-    (0..turfs).map(|row| if row == 0 { (1..turfs).collect() } else { vec![0] }).collect()
-}
-
 /// A hub that has all the gas, with so many empty neighbours, hot.
-fn full_hub(links: u32) -> Case {
-    let mut amounts = vec![0.0; links as usize + 1];
+fn full_hub(links: usize) -> Case {
+    let mut amounts = vec![0.0; links + 1];
     amounts[0] = 100_000.0;
-    case(&hub(links + 1), amounts, vec![10])
+    case(&hub(links + 1, 0), amounts, vec![10])
 }
 
 /// Such hubs, up to the limit.
@@ -63,7 +58,7 @@ pub fn sized() -> Vec<(&'static str, Vec<Case>)> {
         ("grid", (1..=12).map(|power| random(square(power))).collect()),
         ("six links each", powers(3, 12).map(|turfs| random(six(turfs))).collect()),
         ("complete", powers(1, 7).chain([157]).map(|turfs| random(complete(turfs))).collect()),
-        ("hub", powers(1, 12).map(|turfs| random(hub(turfs))).collect()),
+        ("hub", powers(1, 12).map(|turfs| random(hub(turfs as usize, 0))).collect()),
         ("chain, one half full", powers(1, 12).map(|turfs| case(&chain(turfs as usize), half(turfs), vec![turfs * 5])).collect()),
     ]
 }
@@ -78,7 +73,7 @@ pub fn boards() -> Vec<(&'static str, Case)> {
         ("grid 8x8", case(&grid(8, 8), random_amounts(64), vec![10])),
         ("grid 64x64 random", case(&links, random_amounts(4_096), vec![10])),
         ("grid 64x64, one giver in the middle", case(&links, middle, vec![(32 * 64 + 33) * 10])),
-        ("hub of 4096 random", case(&hub(4_096), random_amounts(4_096), vec![10])),
+        ("hub of 4096 random", case(&hub(4_096, 0), random_amounts(4_096), vec![10])),
         ("hub of 4096, all gas in the hub", full_hub(4_095)),
         ("chain 1024", case(&chain(1_024), random_amounts(1_024), vec![10])),
         ("2048 pairs, all hot", case(&pairs(4_096), [32.0, 16.0].repeat(2_048), all(4_096))),

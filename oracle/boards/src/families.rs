@@ -4,7 +4,7 @@ use crate::case::{Board, Call, Case, Equalize, Walk};
 use crate::faults::spoil;
 use crate::paper::board;
 use crate::random::Random;
-use crate::shapes::{amount, any_links, chain, extreme, grid, hub};
+use crate::shapes::{amount, any_links, chain, extreme, grid, scattered_hub};
 
 /// The families; `refusals` and `pairs` are ill-formed by one rule and by two.
 pub const FAMILIES: [&str; 19] = [
@@ -69,7 +69,7 @@ fn family_board(random: &mut Random, family: &str) -> Board {
         "chains" => chain(random.within(1, 60)),
         "hubs" => {
             let turfs = random.within(2, 60);
-            hub(random, turfs)
+            scattered_hub(random, turfs)
         }
         "fast" => grid(random.within(2, 7), random.within(2, 7)),
         "large" => match random.below(4) {
@@ -77,7 +77,7 @@ fn family_board(random: &mut Random, family: &str) -> Board {
             1 => chain(random.within(1_000, 4_096)),
             2 => {
                 let turfs = random.within(1_000, 4_096);
-                hub(random, turfs)
+                scattered_hub(random, turfs)
             }
             _ => any_links(random, 3_000, true),
         },

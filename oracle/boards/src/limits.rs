@@ -4,7 +4,7 @@ use crate::case::{Call, Case, Equalize, Room, Walk};
 use crate::paper::board;
 use crate::random::Random;
 use crate::refusal::refusal;
-use crate::shapes::amount;
+use crate::shapes::{self, amount};
 use std::collections::BTreeSet;
 
 /// Turfs, links, mixtures, gases, hot ids, turns.
@@ -65,8 +65,7 @@ pub fn few(random: &mut Random, call: u32) -> Case {
 /// A crowded row: a hub linked with all other turfs, and the same with a neighbour twice, first and last, and with itself for a neighbour; each with
 /// the refusal that is due.
 fn crowded(random: &mut Random, call: u32, turfs: usize, hub: usize) -> [(&'static str, u32, Case); 3] {
-    let spoke = |row| if row == hub { (0..turfs as u32).filter(|&end| end != hub as u32).collect() } else { vec![hub as u32] };
-    let well = (0..turfs).map(spoke).collect::<Vec<_>>();
+    let well = shapes::hub(turfs, hub);
     let with_last = |end: u32| {
         let mut rows = well.clone();
         *rows[hub].last_mut().expect("a link") = end;

@@ -41,10 +41,16 @@ pub fn chain(turfs: usize) -> Links {
     links
 }
 
-/// Row 0 linked with all others, and a few random links.
-pub fn hub(random: &mut Random, turfs: usize) -> Links {
+/// One row, the hub, linked with all others.
+pub fn hub(turfs: usize, hub: usize) -> Links {
     let mut links = none(turfs);
-    (1..turfs).for_each(|row| join(&mut links, 0, row));
+    (0..turfs).filter(|&row| row != hub).for_each(|row| join(&mut links, hub, row));
+    links
+}
+
+/// Row 0 linked with all others, and a few random links.
+pub fn scattered_hub(random: &mut Random, turfs: usize) -> Links {
+    let mut links = hub(turfs, 0);
     scatter(random, &mut links, turfs / 4, false);
     links
 }
@@ -67,7 +73,7 @@ pub fn any_links(random: &mut Random, most: usize, ways: bool) -> Links {
     let mut links = match random.below(4) {
         0 => grid(random.within(1, 4), random.within(1, most.div_ceil(4))),
         1 => chain(turfs),
-        2 => hub(random, turfs),
+        2 => scattered_hub(random, turfs),
         _ => none(turfs),
     };
     let (turfs, few) = (links.len(), random.within(0, 2));

@@ -8,14 +8,14 @@ use denote.Ref.{now}
 use borrow.Author.Needs.{needs}
 use Rattle.basics.specs.Loops.{member}
 use Rattle.rules_board.specs.Refuse.{distinct}
-use Rattle.turf_stamps.specs.Stamps.{Stamps}
+use Rattle.turf_stamps.specs.Stamps.{AtMost}
 use Rattle.turf_stamps.proofs.Stamping.{restFits, rest-start, rest-next, rest-twice, rest-end, stamp-keeps}
 use Rattle.turf_stamps.proofs.row_fits.Statement.{statement}
 use Rattle.turf_stamps.proofs.row_fits.Tie as tie
 
 abbrev Inv-loop : tie.InvT-loop
 Inv-loop row near stamps₀ i₀ stamp stamps i =
-    ((i ≤ length near) × (length stamps ≡ length stamps₀)) × ((restFits (row + 1) stamps (drop i near) ≡ (not (member row near) && distinct near)) × Stamps (row + 1) stamps)
+    ((i ≤ length near) × (length stamps ≡ length stamps₀)) × ((restFits (row + 1) stamps (drop i near) ≡ (not (member row near) && distinct near)) × AtMost (row + 1) stamps)
 
 abbrev μ-loop : tie.MeasureT-loop
 μ-loop row near stamps₀ i₀ stamp stamps i = length near - i

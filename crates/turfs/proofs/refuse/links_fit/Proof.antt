@@ -1,12 +1,11 @@
 -- The first part of refusal 4 that is met decides; what passed makes each turf's links a part. Assumes nothing.
-use mathlib.Core.Path.{_∙_, sym, subst}
+use mathlib.Core.Path.{_∙_, sym}
 use mathlib.Core.List.{[], _∷_}
 use lib.ListN.{length}
 use denote.Ref.{now}
 use Rattle.turfs.specs.Tables.{table}
 use native.Mathlib.Omega.{arith}
-use borrow.Author.Tests.{eq-eqb, ne-eqb}
-use lib.Dec.{T, ltb→lt}
+use borrow.Author.Tests.{eq-eqb, ne-eqb, ltb-true}
 use Rattle.basics.proofs.Tests.{every-at, one-fails, last-is, all-hold, all-none, yes, no}
 use Rattle.rules_board.specs.Refuse.{linksFit, rowFits}
 use Rattle.turfs.proofs.Tables.{parts-of}
@@ -81,7 +80,7 @@ rows-fit-requires c κs =
     record {
       parts = parts-of _ _ _ (entry .pre .0 .turfs) (entry .pre .1) risen (c .before .before .before .before .before .before .if3 .left);
       few = entry .pre .0 .links;
-      ends = λ k l. ltb→lt _ _ (subst T (sym (every-at _ (table (now (entry .args .rows)) 3) 0 k below l)) tt);
+      ends = λ k l. ltb-true _ _ (every-at _ (table (now (entry .args .rows)) 3) 0 k below l);
     }
 
 returns-6 : tie.Need-returns-6

@@ -8,8 +8,8 @@ use Rattle.turfs.proofs.refuse.rows_fit.Tie as tie
 element-copy-out-if1 : tie.Need-element-copy-out-if1
 element-copy-out-if1 c = search needs
 
-rows-of-many-requires : tie.Need-rows-of-many-requires
-rows-of-many-requires c κs = search needs
+large-rows-fit-requires : tie.Need-large-rows-fit-requires
+large-rows-fit-requires c κs = search needs
 
 returns : tie.Need-returns
 returns c = search needs
@@ -28,7 +28,7 @@ rows-fit-spec =
     tie.close
     (tie.spec
     element-copy-out-if1
-    rows-of-many-requires
+    large-rows-fit-requires
     returns
     slice-aggregate-rows-stamped
     rows-stamped-requires

@@ -11,7 +11,7 @@ use borrow.Author.Tests.{not-true, not-false}
 use Rattle.basics.specs.Loops.{every, upFrom}
 use Rattle.basics.proofs.Tests.{every-up-next, every-up-fails, every-up-end}
 use Rattle.rules_board.specs.Refuse.{rowFits}
-use Rattle.turf_stamps.specs.Stamps.{Stamps}
+use Rattle.turf_stamps.specs.Stamps.{AtMost}
 use Rattle.turfs.specs.Tables.{boardOf}
 use Rattle.turfs.proofs.Near.{part-near, part-order, part-end}
 use Rattle.turfs.proofs.Refused.{near-test, near-stamps}
@@ -20,7 +20,7 @@ use Rattle.turfs.proofs.refuse.rows_stamped.Tie as tie
 
 abbrev Inv-loop : tie.InvT-loop
 Inv-loop rows stamps₀ starts neighbours n row₀ stamps row =
-    ((row ≤ n) × (length stamps ≡ length stamps₀)) × (Stamps row stamps × (every (rowFits (boardOf rows [] 0)) (upFrom row (n - row)) ≡ every (rowFits (boardOf rows [] 0)) (upFrom 0 n)))
+    ((row ≤ n) × (length stamps ≡ length stamps₀)) × (AtMost row stamps × (every (rowFits (boardOf rows [] 0)) (upFrom row (n - row)) ≡ every (rowFits (boardOf rows [] 0)) (upFrom 0 n)))
 
 abbrev μ-loop : tie.MeasureT-loop
 μ-loop rows stamps₀ starts neighbours n row₀ stamps row = n - row

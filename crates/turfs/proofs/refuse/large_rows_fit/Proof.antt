@@ -2,8 +2,8 @@
 use native.Mathlib.Omega.{arith}
 use Rattle.turfs.proofs.Refused.{no-stamps}
 use borrow.Author.Needs.{needs}
-use Rattle.turfs.proofs.refuse.rows_of_many.Statement.{statement}
-use Rattle.turfs.proofs.refuse.rows_of_many.Tie as tie
+use Rattle.turfs.proofs.refuse.large_rows_fit.Statement.{statement}
+use Rattle.turfs.proofs.refuse.large_rows_fit.Tie as tie
 
 slice-aggregate-rows-stamped : tie.Need-slice-aggregate-rows-stamped
 slice-aggregate-rows-stamped c = search needs
@@ -14,5 +14,5 @@ rows-stamped-requires c κs = (c .before .pre, no-stamps _ 4096 (c .before .pre 
 returns : tie.Need-returns
 returns c = c .before .rows-stamped .ensures .0
 
-pub rows-of-many-spec : {M : Type 1} → statement M
-rows-of-many-spec = tie.close (tie.spec slice-aggregate-rows-stamped rows-stamped-requires returns)
+pub large-rows-fit-spec : {M : Type 1} → statement M
+large-rows-fit-spec = tie.close (tie.spec slice-aggregate-rows-stamped rows-stamped-requires returns)
