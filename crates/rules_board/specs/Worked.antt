@@ -1,11 +1,10 @@
 -- Worked tables, which antt computes. Assumes nothing.
-use mathlib.Core.List.{List, [], _∷_}
-use mathlib.Core.Bool.{Bool, not}
-use Prim.Native.Nat.{ℕ}
-use lib.Dec.{T, eqb}
+use mathlib.Core.List.{[], _∷_}
+use mathlib.Core.Bool.{not}
+use lib.Dec.{T}
 use Rattle.basics.specs.Loops.{every, allOf, upFrom, member, first, same}
-use Rattle.rules_board.specs.Board.{Board, anyBit, lockBit, linksOf, neighboursOf, enabled, firelock}
-use Rattle.rules_board.specs.Refuse.{within, pairwise, ascending, distinct, sizesFit, tablesFit, idsFit, rowFits, linksFit}
+use Rattle.rules_board.specs.Board.{anyBit, lockBit, linksOf, neighboursOf, enabled, firelock}
+use Rattle.rules_board.specs.Refuse.{within, pairwise, distinct, sizesFit, tablesFit, idsFit, rowFits, linksFit}
 use Rattle.rules_board.specs.Draw.{to, lock, turf, startsFrom, allWays, draw, sharing, withGases, boardA, chain}
 
 pub worked : T (allOf (
