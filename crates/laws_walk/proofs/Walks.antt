@@ -3,7 +3,7 @@
 use mathlib.Core.Path.{_≡_, refl, sym, ap, _∙_, subst}
 use mathlib.Core.Logic.{_⊎_, inl, inr}
 use mathlib.Core.List.{[], _∷_}
-use mathlib.Core.Bool.{Bool, true, false, not, _&&_, cond}
+use mathlib.Core.Bool.{Bool, true, false, not, _&&_, cond, and-false}
 use Prim.Native.Nat.{ℕ, _+_, _*_, _≤_, _<_}
 use native.Mathlib.Nat.{le-refl}
 use native.Mathlib.Omega.{arith}
@@ -12,7 +12,6 @@ use lib.ListN.{length, getD, length-append, List·getD-append}
 use borrow.Author.Tests.{le-ltb}
 use Rattle.basics.specs.Loops.{times, member, snoc}
 use Rattle.basics.proofs.Loops.{All-any, run-keeps, times-keeps, times-rests, and-right}
-use Rattle.basics.proofs.Tests.{and-false}
 use Rattle.rules_board.specs.Board.{Board, turfCount, idOf, end, enabled, firelock, linksOf}
 use Rattle.turfs.proofs.Line.{Line, line-snoc}
 use Rattle.rules_events.specs.Events.{kindOf, sizeOf}

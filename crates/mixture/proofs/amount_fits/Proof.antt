@@ -1,7 +1,7 @@
 -- Both tests, in the other order. Assumes nothing.
+use mathlib.Core.Bool.{and-true, and-false}
 use mathlib.Core.Path.{sym, _∙_}
 use Rattle.basics.specs.Floats.{finiteSignClear}
-use Rattle.basics.proofs.Tests.{and-true, and-false}
 use Rattle.rules_mixture.specs.Mixture.{amountFits}
 use borrow.Author.Needs.{needs}
 use Rattle.mixture.proofs.amount_fits.Statement.{statement}
