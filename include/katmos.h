@@ -62,6 +62,14 @@ enum {
     KATMOS_VENTED = 2
 };
 
+/* Where the arrows of depressurize's records of kind KATMOS_DIFFERENCE run. With KATMOS_AS_TEXT, as the original Rust has it, from a turf to itself. With
+ * anything else, so with KATMOS_TO_SPACE, towards space: the first record of a turf has an arrow from it to the next turf on its way; where that is
+ * space, the second has the same arrow and space's id. All else is the same, the room included. */
+enum {
+    KATMOS_AS_TEXT = 0,
+    KATMOS_TO_SPACE = 1   /* or any other number but 0 */
+};
+
 /* Limits. */
 #define KATMOS_MOST_TURFS 4096u
 #define KATMOS_MOST_MIXTURES 4096u
@@ -125,8 +133,9 @@ struct katmos_ask {
 
 /* What the two walks are asked. */
 struct katmos_walk {
-    uint32_t id;    /* the turf to begin at */
-    uint32_t limit; /* a turf whose place among those that are met exceeds this leads no further */
+    uint32_t id;     /* the turf to begin at */
+    uint32_t limit;  /* a turf whose place among those that are met exceeds this leads no further */
+    uint32_t arrows; /* of depressurize: KATMOS_AS_TEXT or KATMOS_TO_SPACE; the planet walk draws none and ignores it */
 };
 
 /* The answers. Where the number isn't KATMOS_DONE all else is 0. `bytes` is how long the events are that were written. */
@@ -167,13 +176,13 @@ uint32_t katmos_equalize(
     uint8_t *events, size_t events_len, uint32_t *words, size_t words_len, float *floats, size_t floats_len,
     uint32_t answer[7]);
 
-/* Empties the rooms around the turf `id` towards space. answer: number, outcome, bytes. */
+/* Empties the rooms around the turf `id` towards space. `arrows` is KATMOS_AS_TEXT or KATMOS_TO_SPACE. answer: number, outcome, bytes. */
 uint32_t katmos_depressurize(
     const uint32_t *ids, size_t ids_len, const uint8_t *flags, size_t flags_len,
     const uint8_t *planetary, size_t planetary_len, const uint32_t *mixtures, size_t mixtures_len,
     const uint32_t *starts, size_t starts_len, const uint32_t *neighbours, size_t neighbours_len,
     const uint8_t *link_flags, size_t link_flags_len, const uint8_t *immutable, size_t immutable_len,
-    uint32_t gases, float *amounts, size_t amounts_len, uint32_t id, uint32_t limit,
+    uint32_t gases, float *amounts, size_t amounts_len, uint32_t id, uint32_t limit, uint32_t arrows,
     uint8_t *events, size_t events_len, uint32_t *words, size_t words_len, float *floats, size_t floats_len,
     uint32_t answer[3]);
 
@@ -232,7 +241,7 @@ static inline struct katmos_depressurized katmos_depressurize_on(
 {
     struct katmos_depressurized made;
     uint32_t answer[3];
-    katmos_depressurize(KATMOS_TABLES_OF(tables), walk->id, walk->limit, KATMOS_AREAS_OF(areas), answer);
+    katmos_depressurize(KATMOS_TABLES_OF(tables), walk->id, walk->limit, walk->arrows, KATMOS_AREAS_OF(areas), answer);
     made.number = answer[0];
     made.outcome = answer[1];
     made.bytes = answer[2];

@@ -86,7 +86,7 @@ static void answer_request(uint32_t id)
 {
     static const char *const outcomes[] = {"NoSpace", "Planet", "Vented"};
     struct katmos_areas areas = lend(records, sizeof records);
-    struct katmos_walk walk = {.id = id, .limit = 100};
+    struct katmos_walk walk = {.id = id, .limit = 100, .arrows = KATMOS_AS_TEXT};
     struct katmos_depressurized made = katmos_depressurize_on(&station, &walk, &areas);
     done("depressurize", made.number);
     printf("depressurize %" PRIu32 ": %s\n", id, outcomes[made.outcome]);

@@ -6,7 +6,7 @@ use auxcallback::run_all;
 use boards::clock::{cost, own};
 use boards::outcome::{Filling, turn_order};
 use boards::refusal::refusal;
-use boards::{Board, Call, Case, Equalize, Event, Outcome, Played, Walk};
+use boards::{Board, Breach, Call, Case, Equalize, Event, Outcome, Played, Walk};
 use byondapi::{ByondValue, Seen, take_seen};
 use parking_lot::Mutex;
 use std::collections::HashMap;
@@ -95,11 +95,11 @@ fn walked() -> Played {
     Played { amounts: types::amounts(), events, cancelled: false, processed: 0, tests: 0, filling, zones, planned, vented }
 }
 
-/// `explosively_depressurize` by the text.
-fn depressurize(board: &Board, walk: &Walk) -> Played {
+/// `explosively_depressurize` by the text, or by the text with one word mended.
+fn depressurize(board: &Board, breach: &Breach) -> Played {
     load(board);
     watch::begin(0.0, false, false);
-    processing::depressurize(walk.id, walk.limit).expect("the game answers");
+    processing::depressurize(breach.id, breach.limit, breach.to_space()).expect("the game answers");
     walked()
 }
 
@@ -125,7 +125,7 @@ pub fn play(case: &Case) -> Played {
     let _held = ARENAS.lock();
     match &case.call {
         Call::Equalize(ask) => equalize(&case.board, ask),
-        Call::Depressurize(walk) => depressurize(&case.board, walk),
+        Call::Depressurize(breach) => depressurize(&case.board, breach),
         Call::PlanetWalk(walk) => planet_walk(&case.board, walk),
     }
 }

@@ -5,6 +5,8 @@ use crate::layout::Cell;
 /// A room's width and height, and the gaps between rooms.
 pub const ROOM: (f32, f32) = (104.0, 84.0);
 pub const GAP: (f32, f32) = (86.0, 66.0);
+/// How far the marks on a room's upper edge stand out.
+const MARKS: f32 = 13.0;
 
 /// A point, or a direction.
 #[derive(Clone, Copy, Debug, PartialEq)]
@@ -34,6 +36,11 @@ impl Point {
     pub fn turned(self) -> Point {
         Point { x: -self.y, y: self.x }
     }
+
+    /// Whether this direction is across, with little up or down.
+    pub fn is_level(self) -> bool {
+        self.x.abs() > 2.0 * self.y.abs()
+    }
 }
 
 /// The middle of a cell's room.
@@ -56,17 +63,27 @@ pub struct Way {
     pub end: Point,
 }
 
-/// The way between two cells, `shift` points beside the usual one. There and back run over the same points.
-pub fn way(from: Cell, to: Cell, shift: f32) -> Way {
+/// How far apart ways in this direction are that join the same rooms, so that each has room for its amount.
+fn apart(along: Point, near: bool) -> f32 {
+    match (near, along.is_level(), along.turned().is_level()) {
+        (true, _, true) => 15.0,
+        (true, _, false) => 24.0,
+        (false, true, _) => 36.0,
+        (false, false, _) => 75.0,
+    }
+}
+
+/// The way between two cells, so many places beside the usual one. There and back run over the same points.
+pub fn way(from: Cell, to: Cell, aside: f32) -> Way {
     if to < from {
-        let Way { start, bend, end } = way(to, from, shift);
+        let Way { start, bend, end } = way(to, from, aside);
         return Way { start: end, bend, end: start };
     }
     let (a, b) = (middle(from), middle(to));
     let side = b.from(a).unit().turned();
     let near = (from.0 - to.0).abs() <= 1 && (from.1 - to.1).abs() <= 1;
     let bow = if near { 0.0 } else { 0.3 * b.from(a).x.hypot(b.from(a).y) };
-    let bend = a.plus(0.5, b.from(a)).plus(bow + 2.0 * shift, side);
+    let bend = a.plus(0.5, b.from(a)).plus(bow + 2.0 * aside * apart(b.from(a), near), side);
     Way { start: border(a, bend), bend, end: border(b, bend) }
 }
 
@@ -85,6 +102,20 @@ impl Way {
     /// The direction on the whole.
     pub fn along(&self) -> Point {
         self.end.from(self.start).unit()
+    }
+
+    /// Whether it bends to the left of the straight way.
+    pub fn bends_left(&self) -> bool {
+        self.bend.x < self.start.x.midpoint(self.end.x) - 0.1
+    }
+
+    /// The same, but that it keeps off the marks on the upper edges of the rooms that it joins.
+    pub fn off_marks(self, from: Cell, to: Cell) -> Way {
+        let off = |end: Point, cell: Cell| {
+            let upper = middle(cell).y - end.y > ROOM.1 / 2.0 - 0.1;
+            end.plus(if upper { MARKS } else { 0.0 }, self.bend.from(end).unit())
+        };
+        Way { start: off(self.start, from), bend: self.bend, end: off(self.end, to) }
     }
 
     /// As an SVG path that ends so many points early.

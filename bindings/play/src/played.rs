@@ -1,7 +1,7 @@
 //! Plays a script's calls, one after the other.
 
 use crate::text::{Call, Fault, Script};
-use katmos::{Ask, Board, Event, Events, Refusal};
+use katmos::{Arrows, Ask, Board, Event, Events, Refusal};
 
 /// A call that was made: what it was, the amounts before and after, its events and counts.
 #[derive(Clone, Debug)]
@@ -44,9 +44,9 @@ pub fn or_none(script: &Script, played: Vec<Played>) -> Vec<Played> {
 
 /// The call itself; for an answer, what was asked for.
 fn plain_calls(call: &Call, asked: &Events) -> Vec<Call> {
-    let Call::Answer { limit } = *call else { return vec![call.clone()] };
+    let Call::Answer { limit, arrows } = *call else { return vec![call.clone()] };
     let answer = |event: Event| match event {
-        Event::DepressurizeWanted { id } => Some(Call::Depressurize { id, limit }),
+        Event::DepressurizeWanted { id } => Some(Call::Depressurize { id, limit, arrows }),
         Event::PlanetWanted { id } => Some(Call::PlanetWalk { id, limit }),
         _ => None,
     };
@@ -63,7 +63,9 @@ fn make(board: &mut Board, call: &Call) -> Result<(Events, String), Refusal> {
             let counts: Vec<String> = counts.iter().map(|(name, count)| format!("{name} {count}")).collect();
             Ok((a.events, format!("cancelled {}, {}", u32::from(a.cancelled), counts.join(", "))))
         }
-        Call::Depressurize { id, limit } => board.depressurize(*id, *limit).map(|a| (a.events, format!("outcome {}", a.outcome as u32))),
+        Call::Depressurize { id, limit, arrows } => {
+            board.depressurize(*id, *limit, *arrows).map(|a| (a.events, format!("outcome {}", a.outcome as u32)))
+        }
         Call::PlanetWalk { id, limit } => board.planet_walk(*id, *limit).map(|events| (events, "no counts".into())),
         Call::Answer { .. } => Ok((Events::default(), String::new())),
     }
@@ -77,9 +79,17 @@ fn name(call: &Call) -> String {
             let turns = if turns.is_empty() { String::new() } else { format!(" turns={}", list(turns, ",")) };
             format!("equalize {}{turns} threshold={threshold} limit={limit} allowance={allowance}", list(hot, " "))
         }
-        Call::Depressurize { id, limit } => format!("depressurize {id} limit={limit}"),
+        Call::Depressurize { id, limit, arrows } => format!("depressurize {id} limit={limit}{}", setting(*arrows)),
         Call::PlanetWalk { id, limit } => format!("planet {id} limit={limit}"),
-        Call::Answer { limit } => format!("answer limit={limit}"),
+        Call::Answer { limit, arrows } => format!("answer limit={limit}{}", setting(*arrows)),
+    }
+}
+
+/// Where arrows run, as its word would be written; of the usual setting nothing.
+fn setting(arrows: Arrows) -> &'static str {
+    match arrows {
+        Arrows::AsText => "",
+        Arrows::ToSpace => " arrows=to-space",
     }
 }
 

@@ -25,7 +25,7 @@ pub fn plate(script: &Script, played: &[Played]) -> String {
         body += &format!("<g transform='translate(0 {y:.1})'>\n{text}</g>\n");
         y += height;
     }
-    body += &format!("<g transform='translate(0 {y:.1})'>\n{}</g>\n", sheet.key());
+    body += &format!("<g transform='translate(0 {y:.1})'>\n{}</g>\n", sheet.key(arrows(played)));
     let (width, height) = (sheet.width + 2.0 * MARGIN, y + 72.0 + 2.0 * MARGIN);
     let page = (0.24 * width).min(400.0);
     format!(
@@ -34,6 +34,16 @@ pub fn plate(script: &Script, played: &[Played]) -> String {
          <rect width='100%' height='100%' fill='white'/>\n<g transform='translate({MARGIN} {MARGIN})'>\n{body}</g>\n</svg>\n",
         page * height / width
     )
+}
+
+/// What red arrows mean: of a difference they are loops, unless one leads to another room.
+fn arrows(played: &[Played]) -> &'static str {
+    let leads = |event| matches!(event, Event::Difference { from, to, .. } if from != to);
+    if played.iter().flat_map(|played| played.events.iter().flatten()).any(leads) {
+        "gives; depressurize: difference"
+    } else {
+        "gives, as planned; loop: difference"
+    }
 }
 
 /// Text between tags.
@@ -92,10 +102,13 @@ fn head(tip: Point, along: Point, color: &str) -> String {
     format!("<path d='M{:.1} {:.1}L{:.1} {:.1}L{:.1} {:.1}Z' fill='{color}'/>\n", tip.x, tip.y, a.x, a.y, b.x, b.y)
 }
 
-/// An amount beside a point of an arrow, so that it doesn't lie on it.
-fn beside(at: Point, along: Point, amount: f32) -> String {
-    let level = along.x.abs() > along.y.abs();
-    let (x, y, anchor) = if level { (at.x, at.y - 14.0, "middle") } else { (at.x + 14.0, at.y + 4.0, "start") };
+/// An amount beside a point of an arrow's way, so that it doesn't lie on it: above, or at the side to which the way bends.
+fn beside(at: Point, way: &Way, amount: f32) -> String {
+    let (x, y, anchor) = match (way.along().is_level(), way.bends_left()) {
+        (true, _) => (at.x, at.y - 14.0, "middle"),
+        (false, true) => (at.x - 12.0, at.y + 4.0, "end"),
+        (false, false) => (at.x + 14.0, at.y + 4.0, "start"),
+    };
     let halo = "stroke='white' stroke-width='3' paint-order='stroke'";
     format!("<text x='{x:.1}' y='{y:.1}' font-weight='bold' fill='{GIVES}' text-anchor='{anchor}' {halo}>{}</text>\n", short(amount))
 }
@@ -230,11 +243,13 @@ impl<'a> Sheet<'a> {
     /// A record between two rooms: an arrow with its amount, or only its number.
     fn between(&self, event: &Event, number: usize, (from, to): (u32, u32), amount: Option<f32>, used: &mut Used) -> String {
         let (Some(&a), Some(&b)) = (self.rows.get(&from), self.rows.get(&to)) else { return String::new() };
-        let way = way(self.cells[a], self.cells[b], 24.0 * count(used, (a.min(b), a.max(b), 0)) as f32);
-        let at = way.at(0.45);
+        let (from, to) = (self.cells[a], self.cells[b]);
+        let way = way(from, to, aside(count(used, (a.min(b), a.max(b), 0))));
         let Some(amount) = amount else { return numbered(way.at(0.5), event, number) };
+        let way = if matches!(event, Event::Difference { .. }) { way.off_marks(from, to) } else { way };
+        let at = way.at(0.45);
         let line = format!("<path d='{}' fill='none' stroke='{GIVES}' stroke-width='3.2'/>\n", way.path(8.0));
-        [line, head(way.end, way.arrival(), GIVES), numbered(at, event, number), beside(at, way.along(), amount)].concat()
+        [line, head(way.end, way.arrival(), GIVES), numbered(at, event, number), beside(at, &way, amount)].concat()
     }
 
     /// An arrow from a room to itself, below it, with its amount.
@@ -276,14 +291,14 @@ impl<'a> Sheet<'a> {
     }
 
     /// What colours and marks mean.
-    fn key(&self) -> String {
+    fn key(&self, arrows: &str) -> String {
         let bar: String = (0..40)
             .map(|at| format!("<rect x='{}' y='12' width='4' height='12' fill='{}'/>", at * 4, self.color(self.most * at as f32 / 39.0).0))
             .collect();
         let scale =
             format!("{bar}<text y='38' font-size='10'>0</text><text x='160' y='38' font-size='10' text-anchor='end'>{}</text>\n", short(self.most));
         let marks = [
-            (Event::Pressure { zone: 0, amount: 0.0, from: 0, to: 0 }, "gives, as planned; loop: difference", (210, 18)),
+            (Event::Pressure { zone: 0, amount: 0.0, from: 0, to: 0 }, arrows, (210, 18)),
             (Event::DepressurizeWanted { id: 0 }, "asks", (445, 18)),
             (Event::Firelock { id: 0, neighbour: 0 }, "firelock shuts", (530, 18)),
             (Event::Target { id: 0, target: 0 }, "empties towards space", (210, 42)),
@@ -314,6 +329,16 @@ fn count(used: &mut Used, place: (usize, usize, u8)) -> usize {
     let count = used.entry(place).or_insert(0);
     *count += 1;
     *count - 1
+}
+
+/// How many places beside the usual way a record is drawn, behind so many others: none, then on one side and on the other by turns.
+fn aside(others: usize) -> f32 {
+    let places = others.div_ceil(2) as f32;
+    if others % 2 == 1 {
+        places
+    } else {
+        -places
+    }
 }
 
 /// A firelock's bar across a link, near its start.

@@ -1,6 +1,6 @@
 //! A board as text: a line for each turf, link and call. docs/BOARDS.md says how it is written.
 
-use katmos::{most, Board, Link, Mixture, Turf, ENABLED, FIRELOCK};
+use katmos::{most, Arrows, Board, Link, Mixture, Turf, ENABLED, FIRELOCK};
 use std::collections::HashMap;
 use std::fmt;
 
@@ -38,6 +38,7 @@ pub enum Call {
     Depressurize {
         id: u32,
         limit: u32,
+        arrows: Arrows,
     },
     PlanetWalk {
         id: u32,
@@ -46,6 +47,7 @@ pub enum Call {
     /// Depressurize and planet walks, as the last equalize asked for them.
     Answer {
         limit: u32,
+        arrows: Arrows,
     },
 }
 
@@ -83,6 +85,15 @@ impl<'a> Words<'a> {
     /// Takes the number of a key, or gives the usual one.
     fn number(&mut self, name: &str, usual: u32) -> Read<u32> {
         self.key(name).map_or(Ok(usual), |word| whole(name, word))
+    }
+
+    /// Takes where arrows are to run, or gives the text's.
+    fn arrows(&mut self) -> Read<Arrows> {
+        match self.key("arrows").map(str::to_ascii_lowercase).as_deref() {
+            None | Some("as-text") => Ok(Arrows::AsText),
+            Some("to-space") => Ok(Arrows::ToSpace),
+            Some(word) => Err(format!("arrows '{word}' isn't as-text or to-space")),
+        }
     }
 
     /// Takes a word that stands alone.
@@ -346,9 +357,9 @@ fn call(keyword: &str, words: &mut Words) -> Read<Call> {
     let limit = |words: &mut Words| words.number("limit", 1000);
     match keyword {
         "equalize" => equalize(words),
-        "depressurize" => Ok(Call::Depressurize { limit: limit(words)?, id: words.id()? }),
+        "depressurize" => Ok(Call::Depressurize { limit: limit(words)?, arrows: words.arrows()?, id: words.id()? }),
         "planet" => Ok(Call::PlanetWalk { limit: limit(words)?, id: words.id()? }),
-        "answer" => Ok(Call::Answer { limit: limit(words)? }),
+        "answer" => Ok(Call::Answer { limit: limit(words)?, arrows: words.arrows()? }),
         _ => Err(format!("'{keyword}' isn't one of: title, gases, turf, link, oneway, equalize, depressurize, planet, answer")),
     }
 }

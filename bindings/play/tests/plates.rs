@@ -22,7 +22,7 @@ fn fan(turfs: usize) -> String {
 /// With WRITE_PLATES=1 the files are written anew.
 #[test]
 fn the_plates_are_todays() {
-    for name in ["airlock", "chain", "turns", "hub"] {
+    for name in ["airlock", "chain", "turns", "hub", "airlock-out"] {
         let (file, due) = (format!("{PLATES}/{name}.svg"), drawn(name));
         if std::env::var("WRITE_PLATES").is_ok() {
             write(&file, &due).expect("a file");
@@ -40,6 +40,61 @@ fn arrows_are_numbered_in_the_order_of_the_records() {
     for line in ["3 1 42200000 30 31", "3 0 41500000 10 11", "3 0 41200000 11 12", "3 1 41c00000 31 32"] {
         assert_eq!(plate.matches(&format!(">{line}</text>")).count(), 1, "{line}");
     }
+}
+
+/// A breach by way of a firelock, two rooms and space at these places, with arrows as this word says.
+fn breach(places: &str, arrows: &str) -> String {
+    let [first, second, space] = places.split(' ').collect::<Vec<_>>()[..] else { panic!("{places}") };
+    let rooms = format!("turf 10 21.375 at={first}\nturf 20 33.125 at={second}\nturf 90 7.625 immutable at={space}\n");
+    format!("{rooms}link 10 20\nlink 20 90 firelock\ndepressurize 10 arrows={arrows}\n")
+}
+
+/// The number of an attribute.
+fn number(tag: &str, name: &str) -> f32 {
+    tag.split(&format!(" {name}='")).nth(1).and_then(|rest| rest.split('\'').next()?.parse().ok()).expect(tag)
+}
+
+/// What a plate's marks cover, and its amounts beside arrows, a letter being 7 wide: left, right, top, bottom. The key is left out.
+fn boxes(plate: &str) -> Vec<[f32; 4]> {
+    let board = plate.split("<path d='M0 0H").next().unwrap_or_default();
+    let mark = |tag: &str| [number(tag, "x"), number(tag, "x") + number(tag, "width"), number(tag, "y"), number(tag, "y") + 18.0];
+    let amount = |tag: &str| {
+        let wide = 7.0 * tag.split(['>', '<']).nth(2).expect(tag).len() as f32;
+        let part = [("start", 0.0), ("middle", 0.5), ("end", 1.0)].into_iter().find(|(word, _)| tag.contains(word)).expect(tag).1;
+        let left = number(tag, "x") - part * wide;
+        [left, left + wide, number(tag, "y") - 9.0, number(tag, "y")]
+    };
+    let marks = board.lines().filter(|line| line.contains(" height='18' rx=")).map(mark);
+    marks.chain(board.lines().filter(|line| line.contains("paint-order")).map(amount)).collect()
+}
+
+#[test]
+fn nothing_lies_on_a_mark() {
+    let rows = ["0,0 1,0 2,0", "2,0 1,0 0,0", "0,0 0,1 0,2", "0,2 0,1 0,0"];
+    let others = ["0,0 1,1 2,0", "2,0 1,1 0,0", "0,2 1,1 0,0", "0,0 2,0 2,3", "2,3 2,0 0,0", "0,0 1,2 3,0", "3,3 0,3 0,0"];
+    for places in rows.iter().chain(&others) {
+        let plate = play::run("breach", &breach(places, "to-space"), true).expect("a plate");
+        let all = boxes(&plate);
+        assert_eq!(all.len(), 14, "{places}");
+        for (at, [left, right, top, bottom]) in all.iter().enumerate() {
+            let meets = |other: &&[f32; 4]| other[0] < *right && *left < other[1] && other[2] < *bottom && *top < other[3];
+            assert_eq!(all[at + 1..].iter().find(meets), None, "{places}: {:?}", all[at]);
+        }
+    }
+}
+
+#[test]
+fn arrows_to_space_lead_from_room_to_room() {
+    let plate = |arrows| play::run("breach", &breach("0,0 1,0 2,0", arrows), true).expect("a plate");
+    let (text, out) = (plate("as-text"), plate("to-space"));
+    let arrows = |plate: &str, width: &str| plate.lines().filter(|line| line.contains(&format!("stroke='#b3390b' stroke-width='{width}'"))).count();
+    assert_eq!([arrows(&text, "2.4"), arrows(&text, "3.2"), arrows(&out, "2.4"), arrows(&out, "3.2")], [3, 0, 0, 3]);
+    assert_eq!([text.contains("loop: difference"), out.contains("loop: difference")], [true, false]);
+    assert!(out.contains(">depressurize 10 limit=1000 arrows=to-space<"));
+    for line in ["7 10 42048000 10 20", "7 20 42230000 20 90", "7 90 42230000 20 90"] {
+        assert_eq!(out.matches(&format!(">{line}</text>")).count(), 1, "{line}");
+    }
+    assert!(out.contains(">difference 40.75 in 90, arrow 20 to 90</text>"));
 }
 
 #[test]

@@ -1,5 +1,6 @@
 //! The text format: what is forgiven, and what each fault says.
 
+use katmos::Arrows;
 use play::played::play;
 use play::text::{read, Call};
 
@@ -68,6 +69,9 @@ fn faults_have_their_lines() {
     assert_eq!(fault("equalize 10 threshold=inf"), "line 5: threshold 'inf' isn't a number from 0 to 3.4028235e38");
     assert_eq!(fault("equalize 10 turns=1,x"), "line 5: turns 'x' isn't a whole number from 0 to 4294967295");
     assert_eq!(fault("depressurize 11"), "line 5: no turf 11");
+    assert_eq!(fault("depressurize 10 arrows=out"), "line 5: arrows 'out' isn't as-text or to-space");
+    assert_eq!(fault("answer arrows="), "line 5: arrows '' isn't as-text or to-space");
+    assert_eq!(fault("planet 10 arrows=to-space"), "line 5: 'arrows=to-space' isn't understood here");
     let keywords = "title, gases, turf, link, oneway, equalize, depressurize, planet, answer";
     assert_eq!(fault("vent 10"), format!("line 5: 'vent' isn't one of: {keywords}"));
     assert_eq!(fault("gases many"), "line 5: gases wants a whole number");
@@ -99,6 +103,38 @@ fn answers_follow_what_was_asked() {
         ["equalize 10 threshold=0.5 limit=1000 allowance=1000000", "depressurize 10 limit=10"]
     );
     assert_eq!((played[1].counts.as_str(), played[1].events.as_bytes().len()), ("outcome 2", 84));
+}
+
+/// The breach of P12, with this line at its end.
+fn breach(line: &str) -> String {
+    format!("turf 10 32\nturf 20 immutable\nlink 10 20\nequalize 10\n{line}")
+}
+
+#[test]
+fn arrows_are_the_texts_unless_they_are_to_point_to_space() {
+    let arrows = |line: &str| match read(&breach(line)).expect("a board").calls[1].1 {
+        Call::Depressurize { arrows, .. } | Call::Answer { arrows, .. } => arrows,
+        ref other => panic!("{other:?}"),
+    };
+    for call in ["depressurize 10", "answer"] {
+        assert_eq!(arrows(call), Arrows::AsText);
+        assert_eq!(arrows(&format!("{call} arrows=as-text")), Arrows::AsText);
+        assert_eq!(arrows(&format!("{call} limit=10 Arrows = To-Space")), Arrows::ToSpace);
+    }
+}
+
+#[test]
+fn arrows_to_space_are_named_and_told() {
+    let last = |line: &str| play(&read(&breach(line)).expect("a board")).expect("accepted").pop().expect("a call");
+    for (call, name) in [("depressurize 10", "depressurize 10 limit=1000"), ("answer limit=7", "depressurize 10 limit=7")] {
+        let (text, out) = (last(&format!("{call} arrows=as-text")), last(&format!("{call} arrows=to-space")));
+        assert_eq!((text.call.as_str(), out.call), (name, format!("{name} arrows=to-space")));
+        assert_eq!(text.events.to_string().replace("7 10 00000000 10 10\n", ""), "5 20 20\n5 10 20\n6 10\n8 10 00000000\n");
+        assert_eq!(out.events.to_string(), "5 20 20\n5 10 20\n6 10\n7 10 00000000 10 20\n7 20 00000000 10 20\n8 10 00000000\n");
+    }
+    let printed = play::run("a", &breach("answer arrows=to-space"), false).expect("a run");
+    assert!(printed.contains("    7 10 00000000 10 20  # 4: difference 0 in 10, arrow 10 to 20\n"), "{printed}");
+    assert!(printed.contains("    7 20 00000000 10 20  # 5: difference 0 in 20, arrow 10 to 20\n"), "{printed}");
 }
 
 #[test]

@@ -1,7 +1,7 @@
 //! A breach, end to end: equalize asks, depressurize answers. A hall and an airlock with a firelock between them; the airlock is open to space.
 #![forbid(unsafe_code)]
 
-use katmos::{Ask, Board, Event, Link, Mixture, Refusal, Turf};
+use katmos::{Arrows, Ask, Board, Event, Link, Mixture, Refusal, Turf};
 
 /// The hall (10), the airlock (20), space (90).
 fn station() -> Board {
@@ -18,7 +18,7 @@ fn main() -> Result<(), Refusal> {
     println!("equalize: {} zones, {} clock tests\n{}", asked.zones, asked.tests, asked.events);
     for event in &asked.events {
         if let Event::DepressurizeWanted { id } = event? {
-            let answer = board.depressurize(id, 100)?;
+            let answer = board.depressurize(id, 100, Arrows::AsText)?;
             println!("depressurize {id}: {:?}\n{}", answer.outcome, answer.events);
         }
     }

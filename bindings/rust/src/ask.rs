@@ -1,4 +1,4 @@
-//! What equalize is asked.
+//! What equalize is asked, and how depressurize draws its arrows.
 
 /// What equalize is asked.
 #[derive(Clone, Copy, Debug, PartialEq)]
@@ -20,4 +20,14 @@ impl Default for Ask<'_> {
     fn default() -> Self {
         Ask { hot: &[], turns: &[], threshold: 0.5, limit: u32::MAX, allowance: u32::MAX }
     }
+}
+
+/// Where the arrows of depressurize's pressure differences ([`Event::Difference`](crate::Event::Difference)) run.
+#[derive(Clone, Copy, Debug, Default, PartialEq, Eq)]
+pub enum Arrows {
+    /// From a turf to itself, as the original Rust has it.
+    #[default]
+    AsText = 0,
+    /// From a turf to the next one on its way to space. Where that is space itself, a second record with the same arrow is the space's.
+    ToSpace = 1,
 }

@@ -1,6 +1,6 @@
 //! The three calls.
 
-use crate::ask::Ask;
+use crate::ask::{Arrows, Ask};
 use crate::board::{Board, Room};
 use crate::events::Events;
 use crate::raw::{self, Areas};
@@ -64,10 +64,10 @@ impl Board {
     }
 
     /// Empties the rooms around this turf towards space.
-    pub fn depressurize(&mut self, id: u32, limit: u32) -> Result<Depressurized, Refusal> {
+    pub fn depressurize(&mut self, id: u32, limit: u32, arrows: Arrows) -> Result<Depressurized, Refusal> {
         let mut events = self.lend(self.depressurize_room());
         let areas = Areas { events: &mut events, words: &mut self.words, floats: &mut self.floats };
-        let [number, outcome, bytes] = raw::depressurize(&mut self.tables, id, limit, areas);
+        let [number, outcome, bytes] = raw::depressurize(&mut self.tables, id, limit, arrows as u32, areas);
         self.accepted(number, None)?;
         let outcome = match outcome {
             0 => Outcome::NoSpace,

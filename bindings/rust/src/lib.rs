@@ -26,7 +26,7 @@ pub mod most;
 mod raw;
 mod refusal;
 
-pub use ask::Ask;
+pub use ask::{Arrows, Ask};
 pub use board::{Board, Link, Mixture, Room, Tables, Turf, ENABLED, FIRELOCK};
 pub use calls::{Depressurized, Equalized, Outcome};
 pub use events::{Event, Events, Reader};

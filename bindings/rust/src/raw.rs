@@ -19,7 +19,7 @@ macro_rules! calls {
 
 calls! {
     fn katmos_equalize(amounts: *mut f32, amounts_len: usize, hot: *const u32, hot_len: usize, turns: *const u32, turns_len: usize, threshold: f32, limit: u32, allowance: u32);
-    fn katmos_depressurize(amounts: *mut f32, amounts_len: usize, id: u32, limit: u32);
+    fn katmos_depressurize(amounts: *mut f32, amounts_len: usize, id: u32, limit: u32, arrows: u32);
     fn katmos_planet_walk(amounts: *const f32, amounts_len: usize, id: u32, limit: u32);
 }
 
@@ -62,9 +62,9 @@ pub fn equalize(t: &mut Tables, hot: &[u32], turns: &[u32], (threshold, limit, a
 }
 
 /// `katmos_depressurize`: number, outcome, bytes.
-pub fn depressurize(t: &mut Tables, id: u32, limit: u32, areas: Areas) -> [u32; 3] {
+pub fn depressurize(t: &mut Tables, id: u32, limit: u32, arrows: u32, areas: Areas) -> [u32; 3] {
     let (amounts, len) = (t.amounts.as_mut_ptr(), t.amounts.len());
-    call!(katmos_depressurize, 3, t, areas, amounts, len, id, limit)
+    call!(katmos_depressurize, 3, t, areas, amounts, len, id, limit, arrows)
 }
 
 /// `katmos_planet_walk`: number, bytes.

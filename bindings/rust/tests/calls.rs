@@ -1,6 +1,6 @@
 //! The worked boards, threads, and a recursion as deep as a board can be.
 
-use katmos::{Ask, Board, Event, Events, Link, Mixture, Outcome, Refusal, Room, Tables, Turf};
+use katmos::{Arrows, Ask, Board, Depressurized, Event, Events, Link, Mixture, Outcome, Refusal, Room, Tables, Turf};
 
 /// Board A: 10 and 20, linked both ways.
 fn board_a(first: f32, second: f32) -> Board {
@@ -21,6 +21,11 @@ const ASK: Ask = Ask { hot: &[10], turns: &[], threshold: 0.5, limit: 10, allowa
 /// The events of a call, all sound.
 fn all(events: &Events) -> Vec<Event> {
     events.iter().collect::<Result<_, _>>().expect("sound records")
+}
+
+/// What an accepted call of depressurize comes to, with the text's arrows.
+fn vent(board: &mut Board, id: u32, limit: u32) -> Depressurized {
+    board.depressurize(id, limit, Arrows::AsText).expect("accepted")
 }
 
 /// A chain in which each turf waits for the next one's gas.
@@ -58,7 +63,7 @@ fn p7_asks_and_p12_answers() {
     let asked = board.equalize(&ASK).expect("accepted");
     assert_eq!((asked.events.as_bytes(), asked.zones, asked.tests), (&[8, 0, 1, 0, 10, 0, 0, 0][..], 0, 4));
     let [Event::DepressurizeWanted { id }] = all(&asked.events)[..] else { panic!("{}", asked.events) };
-    let answer = board.depressurize(id, 10).expect("accepted");
+    let answer = vent(&mut board, id, 10);
     assert_eq!(answer.outcome, Outcome::Vented);
     let kinds: Vec<u32> = all(&answer.events).iter().map(Event::kind).collect();
     assert_eq!((kinds, answer.events.as_bytes().len()), (vec![5, 5, 6, 7, 7, 8], 84));
@@ -67,11 +72,39 @@ fn p7_asks_and_p12_answers() {
 
 #[test]
 fn other_outcomes() {
-    assert_eq!(breach().depressurize(10, 0).expect("accepted").outcome, Outcome::NoSpace);
-    assert_eq!(breach().depressurize(11, 10).expect("accepted").outcome, Outcome::NoSpace);
+    assert_eq!(vent(&mut breach(), 10, 0).outcome, Outcome::NoSpace);
+    assert_eq!(vent(&mut breach(), 11, 10).outcome, Outcome::NoSpace);
     let mut planet = breach();
     planet.tables.planetary[1] = 1;
-    assert_eq!(planet.depressurize(10, 10).expect("accepted").outcome, Outcome::Planet);
+    assert_eq!(vent(&mut planet, 10, 10).outcome, Outcome::Planet);
+}
+
+/// The arrows of a board that is emptied from turf 10, as the lister prints them; all else must be the same in both settings.
+fn arrows_of(board: &Board, limit: u32, arrows: Arrows) -> String {
+    let vented = |arrows| {
+        let mut board = board.clone();
+        let answer = board.depressurize(10, limit, arrows).expect("accepted");
+        let (differences, others): (Vec<Event>, Vec<Event>) = all(&answer.events).into_iter().partition(|event| event.kind() == 7);
+        (differences, (others, answer.outcome, answer.events.as_bytes().len(), board.tables))
+    };
+    let (differences, rest) = vented(arrows);
+    assert_eq!(rest, vented(Arrows::default()).1);
+    differences.iter().map(|event| format!("{event}\n")).collect()
+}
+
+#[test]
+fn p12_draws_both_arrows_to_space() {
+    assert_eq!(arrows_of(&breach(), 10, Arrows::AsText), "7 10 00000000 10 10\n7 10 00000000 10 10\n");
+    assert_eq!(arrows_of(&breach(), 10, Arrows::ToSpace), "7 10 00000000 10 20\n7 20 00000000 10 20\n");
+}
+
+#[test]
+fn arrows_lead_along_a_chain() {
+    let turfs = [Turf::new(10, 0, &[Link::to(20)]), Turf::new(20, 1, &[Link::to(10), Link::to(30)]), Turf::new(30, 2, &[Link::to(20)])];
+    let space = Mixture { immutable: true, amounts: vec![4.0] };
+    let board = Board::new(1, &[Mixture::of(&[32.0]), Mixture::of(&[16.0]), space], &turfs);
+    assert_eq!(arrows_of(&board, 2, Arrows::AsText), "7 10 41800000 10 10\n7 20 41a00000 20 20\n7 20 41a00000 20 20\n");
+    assert_eq!(arrows_of(&board, 2, Arrows::ToSpace), "7 10 41800000 10 20\n7 20 41a00000 20 30\n7 30 41a00000 20 30\n");
 }
 
 #[test]
@@ -121,7 +154,7 @@ fn threads_play_at_once() {
             scope.spawn(|| {
                 for _ in 0..20 {
                     assert_eq!(chain(100).equalize(&Ask { hot: &[0], ..ASK }).as_ref(), Ok(&due));
-                    assert_eq!(breach().depressurize(10, 10).expect("accepted").events.as_bytes().len(), 84);
+                    assert_eq!(vent(&mut breach(), 10, 10).events.as_bytes().len(), 84);
                 }
             });
         }

@@ -1,6 +1,6 @@
 //! Each refusal's message, by every call that tests for it. Each board is board A with one thing changed.
 
-use katmos::{Ask, Board, Link, Mixture, Refusal, Tables, Turf};
+use katmos::{Arrows, Ask, Board, Link, Mixture, Refusal, Tables, Turf};
 
 const ASK: Ask = Ask { hot: &[10], turns: &[], threshold: 0.5, limit: 10, allowance: 100 };
 
@@ -12,12 +12,12 @@ fn changed(change: impl Fn(&mut Tables)) -> Board {
     board
 }
 
-/// All three calls refuse the changed board by this number, with this message, and leave it as it was.
+/// All three calls refuse the changed board by this number, with this message, and leave it as it was; depressurize in both settings.
 fn refused(number: u32, message: &str, change: impl Fn(&mut Tables)) {
     let mut board = changed(change);
     let before = format!("{:?}", board.tables);
-    let refusals = [board.equalize(&ASK).err(), board.depressurize(10, 10).err(), board.planet_walk(10, 10).err()];
-    for refusal in refusals {
+    let vented = [Arrows::AsText, Arrows::ToSpace].map(|arrows| board.depressurize(10, 10, arrows).err());
+    for refusal in [board.equalize(&ASK).err(), board.planet_walk(10, 10).err()].into_iter().chain(vented) {
         let refusal = refusal.expect(message);
         assert_eq!((refusal.number(), refusal.to_string()), (number, message.to_string()));
     }

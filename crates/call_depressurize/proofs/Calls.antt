@@ -42,6 +42,7 @@ use Rattle.walk_out.specs.Outed.{outAt, outOf, Opens, Outed}
 use Rattle.walk_out.specs.declared.Front.{Front}
 use Rattle.walk_back.specs.Backed.{BackAreas, backAreas, BackStarts, Backed}
 use Rattle.walk_back.proofs.Signs.{fits-every}
+use Rattle.rules_depressurize.specs.declared.Breach.{Breach}
 use Rattle.rules_depressurize.specs.Depressurize.{Depressurized, wayBack, fromWalk, fromRow, depressurize, depressurizeNumber, depressurizeDone, depressurizeResult}
 use Rattle.call_depressurize.specs.Ended.{WalkHeld, Ended, Depressed}
 use Rattle.call_depressurize.specs.declared.Outcome.{Outcome}
@@ -79,10 +80,10 @@ module _ (b : Board) (s : Reach) (gas : List Float) (e w : List ℕ) (f : List F
   space-length : length space ≡ s .spaces
   space-length = length-take-le (s .spaces) (region (outSizes n) 2 w) (omega (arith, spaces-few, cut-length (outSizes n) w 2 (omega arith) (omega (arith, h .words))))
 
-  module _ (limit : ℕ) where
+  module _ (v : Breach) where
     -- nothing more is done
-    stays : (o : ℕ) → ((es : List Event) → record { outcome = o; gas = gas; events = es } ≡ fromWalk b gas limit (walkOf n (walks.walkAt s w e) es))
-        → Ended b limit s (record { outcome = o; used = s .used }) (backAreas gas w f e) (backAreas gas w f e)
+    stays : (o : ℕ) → ((es : List Event) → record { outcome = o; gas = gas; events = es } ≡ fromWalk b gas v (walkOf n (walks.walkAt s w e) es))
+        → Ended b v s (record { outcome = o; used = s .used }) (backAreas gas w f e) (backAreas gas w f e)
     stays o same = record {
       words = refl;
       floats = refl;
@@ -91,16 +92,16 @@ module _ (b : Board) (s : Reach) (gas : List Float) (e w : List ℕ) (f : List F
       same = λ es. ap (λ (fs : List Event). record { outcome = o; gas = gas; events = fs }) (append-nil es) ∙ same es;
     }
 
-    pub ended-planet : s .planet ≡ true → Ended b limit s (record { outcome = 1; used = s .used }) (backAreas gas w f e) (backAreas gas w f e)
+    pub ended-planet : s .planet ≡ true → Ended b v s (record { outcome = 1; used = s .used }) (backAreas gas w f e) (backAreas gas w f e)
     unfolding fromWalk walkOf
     ended-planet p = stays 1 (λ es. rw p)
 
     module _ (p : s .planet ≡ false) where
-      pub ended-none : s .spaces ≡ 0 → Ended b limit s (record { outcome = 0; used = s .used }) (backAreas gas w f e) (backAreas gas w f e)
+      pub ended-none : s .spaces ≡ 0 → Ended b v s (record { outcome = 0; used = s .used }) (backAreas gas w f e) (backAreas gas w f e)
       unfolding fromWalk walkOf
       ended-none z = stays 0 (λ es. rw (p, eq-eqb (length space) 0 (space-length ∙ z)))
 
-      module _ (z : s .spaces ≡ 0 → ⊥) (g : Front) (e₁ w₁ : List ℕ) (o : Outed (bare b) limit (s .spaces) (s .used) g w w₁ e e₁) where
+      module _ (z : s .spaces ≡ 0 → ⊥) (g : Front) (e₁ w₁ : List ℕ) (o : Outed (bare b) (v .limit) (s .spaces) (s .used) g w w₁ e e₁) where
         pub back-fits : BackStarts b (g .count) (g .used) (backAreas gas w₁ f e₁)
         back-fits = record {
           ground = ground-of b (h .tables);
@@ -115,27 +116,27 @@ module _ (b : Board) (s : Reach) (gas : List Float) (e w : List ℕ) (f : List F
           directed = o .fit .directed;
         }
 
-        module _ (to : ℕ) (gas′ : List Float) (e₂ w₂ : List ℕ) (f₂ : List Float) (k : Backed b (g .count) (g .used) to (backAreas gas w₁ f e₁) (backAreas gas′ w₂ f₂ e₂)) where
-          came : (es : List Event) → outOf n (outAt g w₁ e₁) (es ++ o .new) ≡ outward b limit space es
-          came es = o .same es ∙ same-outward b limit space es
+        module _ (to : ℕ) (gas′ : List Float) (e₂ w₂ : List ℕ) (f₂ : List Float) (k : Backed b (v .arrows) (g .count) (g .used) to (backAreas gas w₁ f e₁) (backAreas gas′ w₂ f₂ e₂)) where
+          came : (es : List Event) → outOf n (outAt g w₁ e₁) (es ++ o .new) ≡ outward b (v .limit) space es
+          came es = o .same es ∙ same-outward b (v .limit) space es
 
-          done : (es : List Event) → record { outcome = 2; gas = gas′; events = es ++ (o .new ++ k .new) } ≡ wayBack b gas (outOf n (outAt g w₁ e₁) (es ++ o .new))
+          done : (es : List Event) → record { outcome = 2; gas = gas′; events = es ++ (o .new ++ k .new) } ≡ wayBack b (v .arrows) gas (outOf n (outAt g w₁ e₁) (es ++ o .new))
           unfolding wayBack outOf
           done es =
               let q = k .same (es ++ o .new) in
               ap₂ (λ (x : List Float) (fs : List Event). record { outcome = 2; gas = x; events = fs }) (q .1) (sym (append-assoc es (o .new) (k .new)) ∙ q .0)
 
-          from : (es : List Event) → wayBack b gas (outward b limit space es) ≡ fromWalk b gas limit (walkOf n (walks.walkAt s w e) es)
+          from : (es : List Event) → wayBack b (v .arrows) gas (outward b (v .limit) space es) ≡ fromWalk b gas v (walkOf n (walks.walkAt s w e) es)
           unfolding fromWalk walkOf
           from es = rw (p, ne-eqb (length space) 0 (λ x. z (sym space-length ∙ x)))
 
-          pub ended-done : Ended b limit s (record { outcome = 2; used = to }) (backAreas gas w f e) (backAreas gas′ w₂ f₂ e₂)
+          pub ended-done : Ended b v s (record { outcome = 2; used = to }) (backAreas gas w f e) (backAreas gas′ w₂ f₂ e₂)
           ended-done = record {
             words = k .words ∙ o .beyond;
             floats = k .floats;
             new = o .new ++ k .new;
             wrote = both-wrote (o .new) (k .new) (o .wrote) (k .wrote);
-            same = λ es. done es ∙ ap (wayBack b gas) (came es) ∙ from es;
+            same = λ es. done es ∙ ap (wayBack b (v .arrows) gas) (came es) ∙ from es;
           }
 
 -- ---- from the id
@@ -157,8 +158,8 @@ module _ (b : Board) (l : Lent) (z : refusal b l (84 * turfCount b) noExtra ≡ 
         room = omega (arith, granted .area);
       }
 
-  module _ (limit id : ℕ) where
-    pub no-turf : (o : Spot) → o ≡ rowOf b id → o ≡ Nowhere → Depressed b limit id (record { outcome = 0; used = 0 }) (areasOf l) (areasOf l)
+  module _ (v : Breach) where
+    pub no-turf : (o : Spot) → o ≡ rowOf b (v .id) → o ≡ Nowhere → Depressed b v (record { outcome = 0; used = 0 }) (areasOf l) (areasOf l)
     unfolding depressurize fromRow
     no-turf o r q = record {
       words = refl;
@@ -168,17 +169,17 @@ module _ (b : Board) (l : Lent) (z : refusal b l (84 * turfCount b) noExtra ≡ 
       same = rw (← r, q);
     }
 
-    module _ (o : Spot) (r : o ≡ rowOf b id) (row : ℕ) (q : o ≡ At row) where
+    module _ (o : Spot) (r : o ≡ rowOf b (v .id)) (row : ℕ) (q : o ≡ At row) where
       pub turf-row : row < m
-      turf-row = subst (Found (λ r. r < m)) (sym r ∙ q) (row-below b id)
+      turf-row = subst (Found (λ r. r < m)) (sym r ∙ q) (row-below b (v .id))
 
-      module _ (s : Reach) (e₁ w₁ : List ℕ) (d : walks.Walked Space (bare b) limit row s (l .words) w₁ (l .area) e₁) where
-        view : walkOf m (walks.walkAt s w₁ e₁) (d .events) ≡ walk b (visitSpace b limit) row
-        view = d .same ∙ gasless b Space limit row
+      module _ (s : Reach) (e₁ w₁ : List ℕ) (d : walks.Walked Space (bare b) (v .limit) row s (l .words) w₁ (l .area) e₁) where
+        view : walkOf m (walks.walkAt s w₁ e₁) (d .events) ≡ walk b (visitSpace b (v .limit)) row
+        view = d .same ∙ gasless b Space (v .limit) row
 
         line : Line b (take (s .spaces) (region (outSizes m) 2 w₁))
         unfolding walkOf
-        line = subst (λ (v : Walk). Line b (v .space)) (sym view) (space-walk b (passed b l (84 * m) noExtra z .board) limit row turf-row .space)
+        line = subst (λ (v : Walk). Line b (v .space)) (sym view) (space-walk b (passed b l (84 * m) noExtra z .board) (v .limit) row turf-row .space)
 
         pub walked : WalkHeld b s (backAreas (l .gas) w₁ (l .floats) e₁)
         walked =
@@ -196,26 +197,26 @@ module _ (b : Board) (l : Lent) (z : refusal b l (84 * turfCount b) noExtra ≡ 
               apart = all-apart _ (line .apart);
             }
 
-        pub from-turf : (g : Outcome) (gas′ : List Float) (e₂ w₂ : List ℕ) (f₂ : List Float) → Ended b limit s g (backAreas (l .gas) w₁ (l .floats) e₁) (backAreas gas′ w₂ f₂ e₂)
-            → Depressed b limit id g (areasOf l) (backAreas gas′ w₂ f₂ e₂)
+        pub from-turf : (g : Outcome) (gas′ : List Float) (e₂ w₂ : List ℕ) (f₂ : List Float) → Ended b v s g (backAreas (l .gas) w₁ (l .floats) e₁) (backAreas gas′ w₂ f₂ e₂)
+            → Depressed b v g (areasOf l) (backAreas gas′ w₂ f₂ e₂)
         from-turf g gas′ e₂ w₂ f₂ k = record {
           words = k .words ∙ ap (λ (x : List ℕ). drop m (drop m x)) (d .beyond);
           floats = k .floats;
           events = d .events ++ k .new;
           wrote = both-wrote (d .events) (k .new) (d .wrote) (k .wrote);
-          same = k .same (d .events) ∙ ap (fromWalk b (l .gas) limit) view ∙ from;
+          same = k .same (d .events) ∙ ap (fromWalk b (l .gas) v) view ∙ from;
         }
           where
-            from : fromWalk b (l .gas) limit (walk b (visitSpace b limit) row) ≡ depressurize b (l .gas) limit id
+            from : fromWalk b (l .gas) v (walk b (visitSpace b (v .limit)) row) ≡ depressurize b (l .gas) v
             from = unfold depressurize fromRow in rw (← r, q)
 
 -- ---- the answers
 
-module _ (b : Board) (limit id : ℕ) (l : Lent) (t : ExtraTests) (number : ℕ) (q : Tests noExtra t) (r : (x : Extra) → Tests x t → number ≡ refusal b l (0 * linkCount b + 84 * turfCount b) x) where
+module _ (b : Board) (v : Breach) (l : Lent) (t : ExtraTests) (number : ℕ) (q : Tests noExtra t) (r : (x : Extra) → Tests x t → number ≡ refusal b l (0 * linkCount b + 84 * turfCount b) x) where
   number-is : number ≡ refusal b l (84 * turfCount b) noExtra
   number-is = r noExtra q ∙ rw (no-links (linkCount b) (84 * turfCount b))
 
-  pub refused : (number ≡ 0 → ⊥) → record { answer = record { number = number; outcome = 0; bytes = 0 }; lent = l } ≡ depressurizeResult b limit id l
+  pub refused : (number ≡ 0 → ⊥) → record { answer = record { number = number; outcome = 0; bytes = 0 }; lent = l } ≡ depressurizeResult b v l
   unfolding depressurizeResult depressurizeNumber
   refused z = rw (← number-is, ne-eqb number 0 z)
 
@@ -230,16 +231,16 @@ module _ (b : Board) (limit id : ℕ) (l : Lent) (t : ExtraTests) (number : ℕ)
     pub roomy : (w₁ : List ℕ) (f₁ : List Float) → length w₁ ≡ length (l .words) → length f₁ ≡ length (l .floats) → Roomy (bare b) w₁ f₁
     roomy w₁ f₁ c k = let s = scratch-of b l (84 * turfCount b) given-all in record { small = s .small; words = rw c (s .words); floats = rw k (s .floats) }
 
-    module _ (g : Outcome) (gas′ : List Float) (e′ w₁ : List ℕ) (f₁ : List Float) (d : Depressed b limit id g (areasOf l) (backAreas gas′ w₁ f₁ e′)) where
-      bytes-is : g .used ≡ size (depressurize b (l .gas) limit id .events)
-      bytes-is = d .wrote .end ∙ omega (arith, ap (λ (v : Depressurized). size (v .events)) (d .same))
+    module _ (g : Outcome) (gas′ : List Float) (e′ w₁ : List ℕ) (f₁ : List Float) (d : Depressed b v g (areasOf l) (backAreas gas′ w₁ f₁ e′)) where
+      bytes-is : g .used ≡ size (depressurize b (l .gas) v .events)
+      bytes-is = d .wrote .end ∙ omega (arith, ap (λ (o : Depressurized). size (o .events)) (d .same))
 
       pub few : g .used ≤ 344064
-      few = omega (arith, bytes-is, depressurize-room b (passed b l (84 * turfCount b) noExtra is-zero .board) limit (l .gas) id, given-all .accepted .tables .sizes .small .turfs)
+      few = omega (arith, bytes-is, depressurize-room b (passed b l (84 * turfCount b) noExtra is-zero .board) (l .gas) v, given-all .accepted .tables .sizes .small .turfs)
 
       pub answered : (w′ : List ℕ) (f′ : List Float)
           → w′ ≡ clearedFirst 0 (wordsRoom (bare b)) w₁ → f′ ≡ clearedFirst 0f (floatsRoom (bare b)) f₁
-          → record { answer = record { number = 0; outcome = g .outcome; bytes = g .used }; lent = lent gas′ e′ w′ f′ } ≡ depressurizeResult b limit id l
+          → record { answer = record { number = 0; outcome = g .outcome; bytes = g .used }; lent = lent gas′ e′ w′ f′ } ≡ depressurizeResult b v l
       unfolding depressurizeResult depressurizeNumber depressurizeDone after wordsRoom floatsRoom
       answered w′ f′ c k =
           let n = turfCount b in

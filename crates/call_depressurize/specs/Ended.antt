@@ -1,7 +1,7 @@
 -- What the code of a depressurization promises on the way to its answer.
 use mathlib.Core.Path.{_≡_}
 use mathlib.Core.List.{List, _++_}
-use Prim.Native.Nat.{ℕ, _*_, _≤_}
+use Prim.Native.Nat.{_*_, _≤_}
 use lib.Dec.{T}
 use lib.ListN.{length, take}
 use Rattle.basics.specs.Loops.{every}
@@ -17,6 +17,7 @@ use Rattle.walk_links.specs.Reached.{WalkFits, walkOf}
 use Rattle.walk_links.specs.Reached as walks
 use Rattle.walk_links.specs.declared.Reach.{Reach}
 use Rattle.walk_back.specs.Backed.{notNegative, BackAreas}
+use Rattle.rules_depressurize.specs.declared.Breach.{Breach}
 use Rattle.rules_depressurize.specs.Depressurize.{fromWalk, depressurize}
 use Rattle.call_depressurize.specs.declared.Outcome.{Outcome}
 
@@ -33,18 +34,18 @@ pub record WalkHeld (b : Board) (s : Reach) (a : BackAreas) : Type 0 where
   pub apart : Apart (take (s .spaces) (region (outSizes (turfCount b)) 2 (a .words)))
 
 -- from the first walk on, from a to a′
-pub record Ended (b : Board) (limit : ℕ) (s : Reach) (r : Outcome) (a a′ : BackAreas) : Type 0 where
+pub record Ended (b : Board) (q : Breach) (s : Reach) (r : Outcome) (a a′ : BackAreas) : Type 0 where
   pub words : region (outSizes (turfCount b)) 5 (a′ .words) ≡ region (outSizes (turfCount b)) 5 (a .words)
   pub floats : region (backSizes (turfCount b)) 2 (a′ .floats) ≡ region (backSizes (turfCount b)) 2 (a .floats)
   pub new : List Event
   pub wrote : Wrote (encodeAll new) (s .used) (r .used) (a .area) (a′ .area)
   pub same : (es : List Event) →
-      record { outcome = r .outcome; gas = a′ .gas; events = es ++ new } ≡ fromWalk b (a .gas) limit (walkOf (turfCount b) (walks.walkAt s (a .words) (a .area)) es)
+      record { outcome = r .outcome; gas = a′ .gas; events = es ++ new } ≡ fromWalk b (a .gas) q (walkOf (turfCount b) (walks.walkAt s (a .words) (a .area)) es)
 
--- from the turf `id`, from a to a′
-pub record Depressed (b : Board) (limit id : ℕ) (r : Outcome) (a a′ : BackAreas) : Type 0 where
+-- as asked, from a to a′
+pub record Depressed (b : Board) (q : Breach) (r : Outcome) (a a′ : BackAreas) : Type 0 where
   pub words : region (outSizes (turfCount b)) 5 (a′ .words) ≡ region (outSizes (turfCount b)) 5 (a .words)
   pub floats : region (backSizes (turfCount b)) 2 (a′ .floats) ≡ region (backSizes (turfCount b)) 2 (a .floats)
   pub events : List Event
   pub wrote : Wrote (encodeAll events) 0 (r .used) (a .area) (a′ .area)
-  pub same : record { outcome = r .outcome; gas = a′ .gas; events = events } ≡ depressurize b (a .gas) limit id
+  pub same : record { outcome = r .outcome; gas = a′ .gas; events = events } ≡ depressurize b (a .gas) q

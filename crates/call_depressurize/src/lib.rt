@@ -2,6 +2,7 @@
 use basics::Spot;
 use lent::ExtraTests;
 use lent_room::Room;
+use rules_depressurize::Breach;
 use rules_depressurize::DepressurizeAnswer;
 use rules_walk::Kind;
 use turfs::IDS;
@@ -26,7 +27,7 @@ pub struct Outcome {
 
 // After the first walk: 1 where a planetary turf was met, 0 where no space was; else out from space and back, and 2.
 fn from_walk(
-    limit: u32,
+    breach: Breach,
     s: Reach,
     rows: &Rows,
     marks: &Marks,
@@ -38,7 +39,7 @@ fn from_walk(
 ) -> Outcome
     requires { let b = boardAt rows marks gases in ⌜ WalkHeld b s (backAreas (now gas) (now words) (now floats) (now events)) ⌝ }
     ensures { λ r. let b = boardAt (rows .entry) (marks .entry) gases in
-        ⌜ Ended b limit s r
+        ⌜ Ended b breach s r
         (backAreas (now (gas .entry)) (now (words .entry)) (now (floats .entry)) (now (events .entry)))
         (backAreas (now (gas .exit)) (now (words .exit)) (now (floats .exit)) (now (events .exit))) ⌝ }
 {
@@ -54,8 +55,9 @@ fn from_walk(
             used: s.used,
         };
     }
-    let front = walk_out::outward(limit, s.spaces, s.used, rows, marks, words, events);
+    let front = walk_out::outward(breach.limit, s.spaces, s.used, rows, marks, words, events);
     let used = walk_back::way_back(
+        breach.arrows,
         front.count,
         front.used,
         rows,
@@ -69,10 +71,9 @@ fn from_walk(
     Outcome { outcome: 2, used }
 }
 
-// From the turf `id`; an unknown id is outcome 0.
+// From the turf that is asked; an unknown id is outcome 0.
 fn from_id(
-    id: u32,
-    limit: u32,
+    breach: Breach,
     rows: &Rows,
     marks: &Marks,
     gases: usize,
@@ -83,24 +84,23 @@ fn from_id(
 ) -> Outcome
     requires { let b = boardAt rows marks gases in ⌜ refusal b (lent (now gas) (now events) (now words) (now floats)) (84 * turfCount b) noExtra ≡ 0 ⌝ }
     ensures { λ r. let b = boardAt (rows .entry) (marks .entry) gases in
-        ⌜ Depressed b limit id r
+        ⌜ Depressed b breach r
         (backAreas (now (gas .entry)) (now (words .entry)) (now (floats .entry)) (now (events .entry)))
         (backAreas (now (gas .exit)) (now (words .exit)) (now (floats .exit)) (now (events .exit))) ⌝ }
 {
-    let Spot::At(row) = turfs::find(rows[IDS], id) else {
+    let Spot::At(row) = turfs::find(rows[IDS], breach.id) else {
         return Outcome {
             outcome: 0,
             used: 0,
         };
     };
-    let s = walk_first::walk(Kind::Space, limit, row, rows, marks, words, events);
-    from_walk(limit, s, rows, marks, gases, gas, words, floats, events)
+    let s = walk_first::walk(Kind::Space, breach.limit, row, rows, marks, words, events);
+    from_walk(breach, s, rows, marks, gases, gas, words, floats, events)
 }
 
-// Depressurizes from the turf `id`.
+// Depressurizes as asked.
 pub fn depressurize(
-    id: u32,
-    limit: u32,
+    breach: Breach,
     rows: &Rows,
     marks: &Marks,
     gases: u32,
@@ -111,7 +111,7 @@ pub fn depressurize(
 ) -> DepressurizeAnswer
     ensures { λ r. let b = boardAt (rows .entry) (marks .entry) gases in
         ⌜ record { answer = r; lent = lent (now (gas .exit)) (now (events .exit)) (now (words .exit)) (now (floats .exit)) }
-        ≡ depressurizeResult b limit id (lent (now (gas .entry)) (now (events .entry)) (now (words .entry)) (now (floats .entry))) ⌝ }
+        ≡ depressurizeResult b breach (lent (now (gas .entry)) (now (events .entry)) (now (words .entry)) (now (floats .entry))) ⌝ }
 {
     let room = Room {
         per_turf: 84,
@@ -127,8 +127,7 @@ pub fn depressurize(
         };
     }
     let r = from_id(
-        id,
-        limit,
+        breach,
         rows,
         marks,
         gases as usize,

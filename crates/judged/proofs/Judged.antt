@@ -21,7 +21,7 @@ use Rattle.rules_walk.specs.Walk.{walkLink, spread, walkNext, walk}
 use Rattle.rules_walk.specs.Visit.{visitPlanet, atSpace, visitSpace}
 use Rattle.rules_planet.specs.Planet.{planetFrom, planetWalk, planetNumber, planetDone, planetResult}
 use Rattle.rules_out.specs.Out.{outTo, outLink, outRow, outNext, outward}
-use Rattle.rules_back.specs.Back.{backTo, back}
+use Rattle.rules_back.specs.Back.{differences, backTo, back}
 use Rattle.rules_depressurize.specs.Depressurize.{wayBack, fromWalk, fromRow, depressurize, depressurizeNumber, depressurizeDone, depressurizeResult}
 use Rattle.judged.specs.Judge.{lends, meetsDue, equalizesAs, depressurizesAs, walksPlanetAs}
 use Rattle.judged.specs.Rows.{judgedRows}
@@ -39,6 +39,6 @@ unfolding judgedRows lends meetsDue exact equalizesAs numbers depressurizesAs wa
     afterFill near passedOver fillFrom hotRow hotId fillAll planAll hasMix apart cancel planned played equalize
     equalizeNumber equalizeDone equalizeResult
     walkLink spread walkNext walk visitPlanet planetFrom planetWalk planetNumber planetDone planetResult
-    atSpace visitSpace outTo outLink outRow outNext outward backTo back wayBack fromWalk fromRow depressurize depressurizeNumber depressurizeDone depressurizeResult
+    atSpace visitSpace outTo outLink outRow outNext outward differences backTo back wayBack fromWalk fromRow depressurize depressurizeNumber depressurizeDone depressurizeResult
     add sub isum mul div neg round size span climb units odd ofInt ofBits ofFields toBits lt le eq ne leadingZeros trailingZeros
 judged = tt

@@ -3,7 +3,6 @@ use mathlib.Core.List.{List, [], _∷_, _++_, map}
 use mathlib.Core.Bool.{Bool}
 use Prim.Native.Nat.{ℕ, _+_, _*_, _%_}
 use lib.ListN.{length, drop, replicate}
-use lib.Ieee.{Float}
 use Rattle.basics.specs.Loops.{allOf, upFrom, same}
 use Rattle.basics.specs.Floats.{ofWord, bits, exact}
 use Rattle.rules_board.specs.Board.{Board}
@@ -11,6 +10,7 @@ use Rattle.rules_lent.specs.Lent.{Lent}
 use Rattle.rules_equalize.specs.Equalize.{Ask}
 use Rattle.rules_equalize.specs.Result.{equalizeResult}
 use Rattle.rules_equalize.specs.Worked.{numbers}
+use Rattle.rules_depressurize.specs.declared.Breach.{Breach}
 use Rattle.rules_depressurize.specs.Depressurize.{depressurizeResult}
 use Rattle.rules_planet.specs.Planet.{planetResult}
 
@@ -53,9 +53,9 @@ equalizesAs b q turns gas n d =
     let o = equalizeResult b q turns (lends n gas) in
     meetsDue (numbers (o .answer)) (lends n gas) (o .lent) d
 
-unfoldable pub depressurizesAs : Board → ℕ → ℕ → List ℕ → Lengths → Due → Bool
-depressurizesAs b limit id gas n d =
-    let o = depressurizeResult b limit id (lends n gas) in
+unfoldable pub depressurizesAs : Board → Breach → List ℕ → Lengths → Due → Bool
+depressurizesAs b q gas n d =
+    let o = depressurizeResult b q (lends n gas) in
     meetsDue (o .answer .number ∷ o .answer .outcome ∷ o .answer .bytes ∷ []) (lends n gas) (o .lent) d
 
 unfoldable pub walksPlanetAs : Board → ℕ → ℕ → List ℕ → Lengths → Due → Bool

@@ -1,11 +1,12 @@
 // The C interface: each function writes its answer into an array and returns the number, which is the answer's first.
+use rules_depressurize::Breach;
 use rules_fill::Settings;
 ghost use Rattle.rules_board.specs.Board.{board};
 ghost use Rattle.lent.specs.Given.{lentAt};
 ghost use Rattle.rules_equalize.specs.Equalize.{askOf};
 ghost use Rattle.rules_equalize.specs.Result.{equalizeResult};
 ghost use Rattle.rules_planet.specs.Planet.{planetResult};
-ghost use Rattle.rules_depressurize.specs.Depressurize.{depressurizeResult};
+ghost use Rattle.rules_depressurize.specs.Depressurize.{breachOf, depressurizeResult};
 ghost use Rattle.call_answers.specs.Answers.{Answers, ReadAnswers, WriteAnswers, equalizeNumbers, planetNumbers, depressurizeNumbers};
 
 // Evens out the gas of the rooms around the hot ones: number, cancelled, processed, tests, zones, apart, bytes.
@@ -98,7 +99,7 @@ pub extern "C" fn katmos_planet_walk<'a>(
     a.number
 }
 
-// Depressurizes from the turf `id`: number, outcome, bytes.
+// Depressurizes from the turf `id`; kind 7 is as in the Rust where `arrows` is 0, and else leads towards space. Number, outcome, bytes.
 #[no_mangle]
 pub extern "C" fn katmos_depressurize<'a>(
     ids: &'a [u32],
@@ -113,19 +114,20 @@ pub extern "C" fn katmos_depressurize<'a>(
     amounts: &mut [f32],
     id: u32,
     limit: u32,
+    arrows: u32,
     events: &mut [u8],
     words: &mut [u32],
     floats: &mut [f32],
     answer: &mut [u32; 3],
 ) -> u32
     ensures { λ r. let b = board (now (ids .entry)) (now (flags .entry)) (now (planetary .entry)) (now (mixtures .entry)) (now (starts .entry)) (now (neighbours .entry)) (now («link_flags» .entry)) (now (immutable .entry)) gases in
-        ⌜ Answers depressurizeNumbers b (depressurizeResult b limit id (lentAt (amounts .entry) (events .entry) (words .entry) (floats .entry))) r (now (answer .exit)) (lentAt (amounts .exit) (events .exit) (words .exit) (floats .exit)) ⌝ }
+        ⌜ Answers depressurizeNumbers b (depressurizeResult b (breachOf id limit arrows) (lentAt (amounts .entry) (events .entry) (words .entry) (floats .entry))) r (now (answer .exit)) (lentAt (amounts .exit) (events .exit) (words .exit) (floats .exit)) ⌝ }
 {
     let rows = [ids, mixtures, starts, neighbours];
     let marks = [flags, planetary, link_flags, immutable];
+    let breach = Breach { id, limit, arrows };
     let a = call_depressurize::depressurize(
-        id,
-        limit,
+        breach,
         &rows,
         &marks,
         gases,

@@ -4,11 +4,11 @@
 use mathlib.Core.Path.{_≡_, refl, sym, ap, _∙_, subst}
 use mathlib.Core.Logic.{_≢_, _⊎_, inl, inr}
 use mathlib.Core.List.{List, [], _∷_, _++_, append-assoc, append-nil, reverse}
-use mathlib.Core.Bool.{Bool, true, false, not, _||_, cond}
+use mathlib.Core.Bool.{Bool, true, false, not, cond}
 use Prim.Native.Nat.{ℕ, _+_, _-_, _*_, _≤_, _<_}
 use native.Mathlib.Nat.{le-refl, le-trans}
 use native.Mathlib.Omega.{arith}
-use lib.Dec.{eqb, ltb, leb}
+use lib.Dec.{eqb, ltb}
 use lib.ListN.{length, getD, set, replicate, length-append}
 use lib.Seq.{getD-set-other}
 use lib.Ieee.{Float, nan}
@@ -18,16 +18,16 @@ use Rattle.basics.specs.Floats.{0f, _+f_}
 use Rattle.basics.specs.declared.Spot.{Spot}
 use Rattle.basics.specs.declared.Spot.the-variants.{At, Nowhere}
 use Rattle.basics.specs.Lists.{All, Found, one, count}
-use Rattle.basics.proofs.Loops.{All-any, All-imp, All-getD, run-keeps, times-keeps, times-rests, cond-both}
+use Rattle.basics.proofs.Loops.{All-any, All-imp, All-getD, times-rests, cond-both}
 use Rattle.basics.proofs.Lists.{All-snoc, All-front, apart-snoc, apart-at, not-member, count-append, count-reverse, count-none, count-length, replicate-at}
-use Rattle.rules_board.specs.Board.{Board, turfCount, idOf, mixOf, end, planetary, immutable, linksOf, rowOf}
+use Rattle.rules_board.specs.Board.{Board, turfCount, idOf, mixOf, end, planetary, immutable, rowOf}
 use Rattle.turfs.specs.Tables.{Accepted}
 use Rattle.turfs.proofs.Accepted.{row-below}
 use Rattle.turfs.proofs.Line.{Line, line-short, line-snoc}
 use Rattle.rules_mixture.specs.Mixture.{total, clearAir}
-use Rattle.rules_events.specs.Events.{kindOf, fieldsOf, sizeOf, wordsBytes, encode, encodeAll}
+use Rattle.rules_events.specs.Events.{kindOf, sizeOf, encodeAll}
 use Rattle.rules_events.specs.declared.Event.{Event}
-use Rattle.rules_events.specs.declared.Event.the-variants.{Target, HighPressure, Difference, FloorRip}
+use Rattle.rules_events.specs.declared.Event.the-variants.{Target, HighPressure, FloorRip}
 use Rattle.events.proofs.Sizes.{size, size-append, size-snoc}
 use Rattle.rules_lent.specs.Lent.{Lent, noExtra}
 use Rattle.lent.proofs.Passed.{passed}
@@ -36,11 +36,14 @@ use Rattle.rules_walk.specs.Walk.{Walk, mark, spread, walk}
 use Rattle.rules_walk.specs.Visit.{atSpace, visitSpace}
 use Rattle.rules_walk.specs.declared.Kind.the-variants.{Space}
 use Rattle.laws_walk.proofs.Walks.{going, spreads, walk-keeps, walk-rests}
+use Rattle.laws_walk.proofs.Told.{told-size}
 use Rattle.laws_walk.proofs.Places.{visit-walked as visit-place, row-place}
-use Rattle.rules_out.specs.Out.{Out, outTo, outLink, outRow, outNext, outward}
-use Rattle.rules_back.specs.Back.{Back, backTo, back}
-use Rattle.rules_depressurize.specs.Depressurize.{Depressurized, wayBack, fromWalk, fromRow, depressurize, depressurizeRoom, depressurizeNumber}
+use Rattle.rules_out.specs.Out.{Out, outTo, outNext, outward}
+use Rattle.rules_back.specs.Back.{Back, differences, backTo, back}
+use Rattle.rules_depressurize.specs.declared.Breach.{Breach}
+use Rattle.rules_depressurize.specs.Depressurize.{Depressurized, breachOf, wayBack, fromWalk, fromRow, depressurize, depressurizeRoom, depressurizeNumber}
 use Rattle.rules_depressurize.specs.Worked as worked  -- checked before the laws
+use Rattle.laws_depressurize.proofs.Outward.{startOut, outward-keeps}
 
 target-size : (es : List Event) (i t : ℕ) → size (snoc es (Target i t)) ≡ size es + 12
 target-size es i t = size-snoc es (Target i t) ∙ ap (λ (n : ℕ). size es + n) (unfold sizeOf kindOf in refl)
@@ -119,69 +122,27 @@ module _ (b : Board) {n : ℕ} (h : Accepted b n) (limit : ℕ) where
       pub none : All (λ x. getD (s .direction) x 0 ≡ 0) space
       pub bytes : size (s .events) + 12 * length space ≤ size e₀ + 12 * length (s .order)
 
-    link-outed : (r k : ℕ) (s : Out) → Outed s → Outed (outLink b r k s)
-    unfolding outLink outTo
-    link-outed r k s q = go (immutable b a) (member a (s .order)) refl
+    joined : (s : Out) (p k : ℕ) → member (end b k) (s .order) ≡ false → Outed s → Outed (outTo b (getD (s .order) p 0) (end b k) s)
+    unfolding outTo
+    joined s p k e q = record {
+      line = line-snoc b (s .order) a (h .ends k) e (q .line);
+      rest = (snoc (q .rest .0) a, ap (λ (l : List ℕ). snoc l a) (q .rest .1) ∙ append-assoc space (q .rest .0) (a ∷ []));
+      none = kept space (q .none) (All-front (λ y. y ≢ a) space (q .rest .0) (subst (All (λ y. y ≢ a)) (q .rest .1) (not-member a (s .order) e)));
+      bytes = omega (arith, target-size (s .events) (idOf b a) (getD (s .target) (getD (s .order) p 0) 0), length-append (s .order) (a ∷ []), q .bytes);
+    }
       where
         a : ℕ
         a = end b k
 
-        t : ℕ
-        t = getD (s .target) r 0
-
-        next : Out
-        next = record {
-          order = snoc (s .order) a;
-          place = s .place;
-          direction = set (s .direction) a (r + 1);
-          target = set (s .target) a t;
-          events = snoc (s .events) (Target (idOf b a) t);
-        }
-
-        joins : member a (s .order) ≡ false → Outed next
-        joins e = record {
-          line = line-snoc b (s .order) a (h .ends k) e (q .line);
-          rest = (snoc (q .rest .0) a, ap (λ (l : List ℕ). snoc l a) (q .rest .1) ∙ append-assoc space (q .rest .0) (a ∷ []));
-          none = kept space (q .none) (All-front (λ y. y ≢ a) space (q .rest .0) (subst (All (λ y. y ≢ a)) (q .rest .1) (not-member a (s .order) e)));
-          bytes = omega (arith, target-size (s .events) (idOf b a) t, length-append (s .order) (a ∷ []), q .bytes);
-        }
-          where
-            kept : (xs : List ℕ) → All (λ x. getD (s .direction) x 0 ≡ 0) xs → All (λ y. y ≢ a) xs → All (λ x. getD (set (s .direction) a (r + 1)) x 0 ≡ 0) xs
-            kept [] z ne = tt
-            kept (x ∷ xs) z ne = (getD-set-other (s .direction) a x (r + 1) 0 (ne .0) ∙ z .0, kept xs (z .1) (ne .1))
-
-        go : (i m : Bool) → member a (s .order) ≡ m → Outed (cond (i || m) s next)
-        go true m e = q
-        go false true e = q
-        go false false e = joins e
-
-    abbrev here : Out → Out
-    here s = record { order = s .order; place = s .place + 1; direction = s .direction; target = s .target; events = s .events }
-
-    row-outed : (r : ℕ) (s : Out) → Outed s → Outed (outRow b limit r s)
-    unfolding outRow
-    row-outed r s q = run-keeps (λ k. Unit {0}) Outed (outLink b r) (λ k t u i. link-outed r k t i) _ (here s) (All-any _ (λ k. tt) (cond (leb (s .place + 1) limit) (linksOf b r) []))
-        (record { line = q .line; rest = q .rest; none = q .none; bytes = q .bytes })
+        kept : (xs : List ℕ) → All (λ x. getD (s .direction) x 0 ≡ 0) xs → All (λ y. y ≢ a) xs → All (λ x. getD (set (s .direction) a (getD (s .order) p 0 + 1)) x 0 ≡ 0) xs
+        kept [] z ne = tt
+        kept (x ∷ xs) z ne = (getD-set-other (s .direction) a x (getD (s .order) p 0 + 1) 0 (ne .0) ∙ z .0, kept xs (z .1) (ne .1))
 
     abbrev outGoing : Out → Bool
     outGoing s = ltb (s .place) (length (s .order))
 
-    next-outed : (s : Out) → Outed s → Outed (outNext b limit s)
-    unfolding outNext
-    next-outed s q = cond-both Outed (outGoing s) (outRow b limit (getD (s .order) (s .place) 0) s) s (row-outed (getD (s .order) (s .place) 0) s q) q
-
-    abbrev startOut : Out
-    startOut = record {
-      order = space;
-      place = 0;
-      direction = replicate (turfCount b) 0;
-      target = run (λ r t. set t r (idOf b r)) space (replicate (turfCount b) 0);
-      events = e₀;
-    }
-
     pub outward-outed : Line b space → Outed (outward b limit space e₀)
-    unfolding outward
-    outward-outed l = times-keeps Outed (outNext b limit) next-outed (turfCount b) startOut (record {
+    outward-outed l = outward-keeps b limit Outed (λ s q. record { line = q .line; rest = q .rest; none = q .none; bytes = q .bytes }) (λ s p k i own e q. joined s p k e q) space e₀ (record {
       line = l;
       rest = ([], sym (append-nil space));
       none = All-any (λ x. getD (replicate (turfCount b) 0) x 0 ≡ 0) (λ x. replicate-at {A = ℕ} (turfCount b) x 0) space;
@@ -191,7 +152,7 @@ module _ (b : Board) {n : ℕ} (h : Accepted b n) (limit : ℕ) where
     -- as many steps as there are turfs are enough
     pub outward-rests : Line b space → outGoing (outward b limit space e₀) ≡ false
     unfolding outward
-    outward-rests l = go (times-rests (outNext b limit) outGoing (λ s. s .place) still on (turfCount b) startOut)
+    outward-rests l = go (times-rests (outNext b limit) outGoing (λ s. s .place) still on (turfCount b) (startOut b space e₀))
       where
         still : (s : Out) → outGoing s ≡ false → outNext b limit s ≡ s
         still s e = unfold outNext in rw e
@@ -208,75 +169,71 @@ module _ (b : Board) {n : ℕ} (h : Accepted b n) (limit : ℕ) where
 
   -- ---- back
 
-  module _ (direction : List ℕ) where
-    abbrev directed : ℕ → Bool
-    directed r = not (eqb (getD direction r 0) 0)
+  abbrev directed : List ℕ → ℕ → Bool
+  directed direction r = not (eqb (getD direction r 0) 0)
 
-    abbrev written : Back → ℕ
-    written s = size (s .events) + size (s .rips)
+  abbrev written : Back → ℕ
+  written s = size (s .events) + size (s .rips)
 
-    -- kinds 6 and 7, and 7 again where the next has no direction
-    kinds : (i : ℕ) (x y : Float) (u : Bool) → size (HighPressure i ∷ Difference i x i i ∷ cond u (Difference i y i i ∷ []) []) ≤ 48
-    unfolding encodeAll encode fieldsOf wordsBytes
-    kinds i x y true = le-refl 48
-    kinds i x y false = omega arith
-
-    to-room : (r d : ℕ) (s : Back) → written (backTo b direction r d s) ≤ written s + 60
+  module _ (arrows : ℕ) (direction : List ℕ) where
+    to-room : (r d : ℕ) (s : Back) → written (backTo b arrows direction r d s) ≤ written s + 60
     unfolding backTo
     to-room r d s =
         let sum = total b (clearAir b (mixOf b r) (s .gas)) d in
         let mine = getD (s .amount) r nan +f sum in
         let theirs = getD (set (s .amount) r mine) d nan +f mine in
-        let u = eqb (getD direction d 0) 0 in
+        let last = eqb (getD direction d 0) 0 in
         let i = idOf b r in
         let rip : size (snoc (s .rips) (FloorRip i sum)) ≡ size (s .rips) + 12 = size-snoc (s .rips) (FloorRip i sum) ∙ ap (λ (m : ℕ). size (s .rips) + m) (unfold sizeOf kindOf in refl) in
-        omega (arith, rip, kinds i mine theirs u, size-append (s .events) (HighPressure i ∷ Difference i mine i i ∷ cond u (Difference i theirs i i ∷ []) []))
+        omega (arith, rip, told-size arrows i (idOf b d) mine theirs last, size-append (s .events) (HighPressure i ∷ differences arrows i (idOf b d) mine theirs last))
 
-    back-room : (xs : List ℕ) (s : Back) → written (run (back b direction) xs s) ≤ written s + 60 * count directed xs
+    back-room : (xs : List ℕ) (s : Back) → written (run (back b arrows direction) xs s) ≤ written s + 60 * count (directed direction) xs
     unfolding run count
     back-room [] s = omega arith
-    back-room (r ∷ xs) s = omega (arith, back-room xs (back b direction r s), one-room (eqb (getD direction r 0) 0) refl)
+    back-room (r ∷ xs) s = omega (arith, back-room xs (back b arrows direction r s), one-room (eqb (getD direction r 0) 0) refl)
       where
-        one-room : (t : Bool) → eqb (getD direction r 0) 0 ≡ t → written (back b direction r s) ≤ written s + 60 * one (not t)
+        one-room : (t : Bool) → eqb (getD direction r 0) 0 ≡ t → written (back b arrows direction r s) ≤ written s + 60 * one (not t)
         one-room true e = unfold back in rw e (omega arith)
         one-room false e = unfold back in rw e (to-room r (getD direction r 0 - 1) s)
 
   -- ---- the whole
 
-  back-bytes : (gas : List Float) (space : List ℕ) (e₀ : List Event) (o : Out) → Outed space e₀ o → size (wayBack b gas o .events) + 12 * length space ≤ size e₀ + 72 * length (o .order)
+  back-bytes : (arrows : ℕ) (gas : List Float) (space : List ℕ) (e₀ : List Event) (o : Out) → Outed space e₀ o → size (wayBack b arrows gas o .events) + 12 * length space ≤ size e₀ + 72 * length (o .order)
   unfolding wayBack
-  back-bytes gas space e₀ o q =
-      let t = run (back b (o .direction)) (reverse (o .order)) (record { gas = gas; amount = replicate (turfCount b) 0f; events = o .events; rips = [] }) in
+  back-bytes arrows gas space e₀ o q =
+      let t = run (back b arrows (o .direction)) (reverse (o .order)) (record { gas = gas; amount = replicate (turfCount b) 0f; events = o .events; rips = [] }) in
       let p = directed (o .direction) in
-      let r : written (o .direction) t ≤ size (o .events) + 0 + 60 * count p (reverse (o .order)) = unfold encodeAll in back-room (o .direction) (reverse (o .order)) _ in
+      let r : written t ≤ size (o .events) + 0 + 60 * count p (reverse (o .order)) = unfold encodeAll in back-room arrows (o .direction) (reverse (o .order)) _ in
       let c : count p (o .order) ≡ count p space + count p (q .rest .0) = ap (count p) (q .rest .1) ∙ count-append p space (q .rest .0) in
       let z : count p space ≡ 0 = count-none p space (All-imp _ (λ x. p x ≡ false) space (λ x e. ap (λ (y : ℕ). not (eqb y 0)) e) (q .none)) in
       let l : length (o .order) ≡ length space + length (q .rest .0) = ap length (q .rest .1) ∙ length-append space (q .rest .0) in
       omega (arith, r, c, z, l, count-reverse p (o .order), count-length p (q .rest .0), q .bytes, size-append (t .events) (t .rips))
 
-  walk-room : (gas : List Float) (w : Walk) → Walked w → size (fromWalk b gas limit w .events) ≤ depressurizeRoom b
-  unfolding fromWalk
-  walk-room gas w q =
-      let short : length (w .queue) ≤ turfCount b = line-short b (w .queue) (q .line) in
-      let spaces : length (w .space) ≤ turfCount b = line-short b (w .space) (q .space) in
-      let few : size (w .events) ≤ depressurizeRoom b = omega (arith, q .bytes) in
-      let o = outward b limit (w .space) (w .events) in
-      let g = outward-outed (w .space) (w .events) (q .space) in
-      let all : length (o .order) ≤ turfCount b = line-short b (o .order) (g .line) in
-      let Fits : Depressurized → Type 0 = λ e. size (e .events) ≤ depressurizeRoom b in
-      cond-both Fits (w .planet) _ (cond (eqb (length (w .space)) 0) _ (wayBack b gas o)) few
-      (cond-both Fits (eqb (length (w .space)) 0) _ (wayBack b gas o) few (omega (arith, back-bytes gas (w .space) (w .events) o g, q .bytes)))
+  module _ (arrows : ℕ) (gas : List Float) where
+    walk-room : (id : ℕ) (w : Walk) → Walked w → size (fromWalk b gas (breachOf id limit arrows) w .events) ≤ depressurizeRoom b
+    unfolding fromWalk
+    walk-room id w q =
+        let short : length (w .queue) ≤ turfCount b = line-short b (w .queue) (q .line) in
+        let spaces : length (w .space) ≤ turfCount b = line-short b (w .space) (q .space) in
+        let few : size (w .events) ≤ depressurizeRoom b = omega (arith, q .bytes) in
+        let o = outward b limit (w .space) (w .events) in
+        let g = outward-outed (w .space) (w .events) (q .space) in
+        let all : length (o .order) ≤ turfCount b = line-short b (o .order) (g .line) in
+        let Fits : Depressurized → Type 0 = λ e. size (e .events) ≤ depressurizeRoom b in
+        cond-both Fits (w .planet) _ (cond (eqb (length (w .space)) 0) _ (wayBack b arrows gas o)) few
+        (cond-both Fits (eqb (length (w .space)) 0) _ (wayBack b arrows gas o) few (omega (arith, back-bytes arrows gas (w .space) (w .events) o g, q .bytes)))
 
-  row-room : (gas : List Float) (o : Spot) → Found (λ r. r < turfCount b) o → size (fromRow b gas limit o .events) ≤ depressurizeRoom b
-  unfolding fromRow encodeAll
-  row-room gas Nowhere f = omega arith
-  row-room gas (At r) f = walk-room gas (walk b (visitSpace b limit) r) (space-walk r f)
+    row-room : (id : ℕ) (o : Spot) → Found (λ r. r < turfCount b) o → size (fromRow b gas (breachOf id limit arrows) o .events) ≤ depressurizeRoom b
+    unfolding fromRow encodeAll
+    row-room id Nowhere f = omega arith
+    row-room id (At r) f = walk-room id (walk b (visitSpace b limit) r) (space-walk r f)
 
-  pub depressurize-room : (gas : List Float) (id : ℕ) → size (depressurize b gas limit id .events) ≤ depressurizeRoom b
-  unfolding depressurize
-  depressurize-room gas id = row-room gas (rowOf b id) (row-below b id)
+-- the events of a call take no more than the room that it asks for
+pub depressurize-room : (b : Board) {n : ℕ} → Accepted b n → (gas : List Float) (q : Breach) → size (depressurize b gas q .events) ≤ depressurizeRoom b
+unfolding depressurize
+depressurize-room b h gas q = row-room b h (q .limit) (q .arrows) gas (q .id) (rowOf b (q .id)) (row-below b (q .id))
 
--- the events of a call that was done fit the area that it was lent
-pub depressurize-fits : (b : Board) (limit id : ℕ) (l : Lent) → depressurizeNumber b limit id l ≡ 0 → size (depressurize b (l .gas) limit id .events) ≤ length (l .area)
+-- those of a call that was done fit the area that it was lent
+pub depressurize-fits : (b : Board) (q : Breach) (l : Lent) → depressurizeNumber b q l ≡ 0 → size (depressurize b (l .gas) q .events) ≤ length (l .area)
 unfolding depressurizeNumber
-depressurize-fits b limit id l e = let p = passed b l (depressurizeRoom b) noExtra e in le-trans (depressurize-room b (p .board) limit (l .gas) id) (p .area)
+depressurize-fits b q l e = let p = passed b l (depressurizeRoom b) noExtra e in le-trans (depressurize-room b (p .board) (l .gas) q) (p .area)

@@ -2,7 +2,7 @@
 -- those without direction hold no more together than turfs were passed. Assumes nothing.
 use mathlib.Core.Path.{_≡_, refl, sym, ap, _∙_, subst}
 use mathlib.Core.Logic.{_≢_, _⊎_, inl, inr}
-use mathlib.Core.Bool.{Bool, true, false, cond}
+use mathlib.Core.Bool.{Bool, true, false}
 use mathlib.Core.List.{List, [], _∷_}
 use Prim.Native.Nat.{ℕ, _+_, _-_, _*_, _^_, _≤_, _<_}
 use native.Mathlib.Nat.{le-of-eq}
@@ -23,11 +23,11 @@ use Rattle.basics.proofs.Lists.{All-append, All-snoc, Apart, or-left, or-right,
 use Rattle.rules_board.specs.Board.{Board, turfCount, idOf, mixOf}
 use Rattle.rules_mixture.specs.Mixture.{total, clearAir}
 use Rattle.rules_events.specs.Readings.{Readable}
-use Rattle.rules_events.specs.declared.Event.the-variants.{Difference, FloorRip}
+use Rattle.rules_events.specs.declared.Event.the-variants.{FloorRip}
 use Rattle.rules_back.specs.Back.{Back, backTo, back}
 use Rattle.laws_finite.proofs.Laws.{Within, within-add, under-more, under-finite}
 use Rattle.laws_finite.proofs.Shares.{all, all-at, all-shift, shift, length-shift}
-use Rattle.laws_finite.proofs.EachKind.{Word, high-readable, arrow-readable, rip-readable, total-fit}
+use Rattle.laws_finite.proofs.EachKind.{Word, high-readable, differences-readable, rip-readable, total-fit}
 use Rattle.laws_finite.proofs.Totals.{total-within, clear-within}
 
 module _ (b : Board) (gases : b .gases ≤ 64) (turfs : turfCount b ≤ 4096) where
@@ -137,22 +137,23 @@ module _ (b : Board) (gases : b .gases ≤ 64) (turfs : turfCount b ≤ 4096) wh
             (g .bound x i (live-more r x rest l)))
       ]
 
-      pub passed : Going rest (backTo b direction r d s)
+      pub passed : (arrows : ℕ) → Going rest (backTo b arrows direction r d s)
       unfolding backTo
-      passed = record {
+      passed arrows = record {
         gas = air-within;
         size = length-set (set (s .amount) r mine) d theirs ∙ length-set (s .amount) r mine ∙ g .size;
         ms = ms′;
         sized = length-shift (g .ms) r d (m + 1) ∙ g .sized;
         few = few-units;
         bound = others;
-        events = All-append Readable (s .events) _ (g .events) (high-readable (idOf b r) (ids r), (arrow-readable (idOf b r) mine (ids r) (under-finite mine-within, add-fits binary32 (getD (s .amount) r nan) sum), last (eqb (getD direction d 0) 0) (eqb→eq (getD direction d 0) 0)));
+        events = All-append Readable (s .events) _ (g .events) (
+          high-readable (idOf b r) (ids r),
+          differences-readable arrows (idOf b r) (idOf b d) mine theirs (ids r) (ids d)
+              (under-finite mine-within, add-fits binary32 (getD (s .amount) r nan) sum) (eqb (getD direction d 0) 0)
+              (λ t. (under-finite (theirs-within (inl (eqb→eq (getD direction d 0) 0 t))), add-fits binary32 (getD (set (s .amount) r mine) d nan) mine)),
+        );
         rips = All-snoc Readable (s .rips) (FloorRip (idOf b r) sum) (g .rips) (rip-readable (idOf b r) sum (ids r) (under-finite sum-unit, total-fit b air d));
       }
-        where
-          last : (t : Bool) → (T t → getD direction d 0 ≡ 0) → All Readable (cond t (Difference (idOf b r) theirs (idOf b r) (idOf b r) ∷ []) [])
-          last true e = (arrow-readable (idOf b r) theirs (ids r) (under-finite (theirs-within (inl (e tt))), add-fits binary32 (getD (set (s .amount) r mine) d nan) mine), tt)
-          last false e = tt
 
     fewer : (r : ℕ) (rest : List ℕ) (s : Back) → Going (r ∷ rest) s → Going rest s
     fewer r rest s g = record {
@@ -166,11 +167,11 @@ module _ (b : Board) (gases : b .gases ≤ 64) (turfs : turfCount b ≤ 4096) wh
       rips = g .rips;
     }
 
-    pub all-passed : (xs : List ℕ) (s : Back) → Apart xs → All (λ x. x < turfCount b) xs → Going xs s → Going [] (run (back b direction) xs s)
+    pub all-passed : (arrows : ℕ) (xs : List ℕ) (s : Back) → Apart xs → All (λ x. x < turfCount b) xs → Going xs s → Going [] (run (back b arrows direction) xs s)
     unfolding run
-    all-passed [] s a h g = g
-    all-passed (r ∷ rest) s a h g = all-passed rest (back b direction r s) (a .1) (h .1) (go (eqb (getD direction r 0) 0) refl)
+    all-passed arrows [] s a h g = g
+    all-passed arrows (r ∷ rest) s a h g = all-passed arrows rest (back b arrows direction r s) (a .1) (h .1) (go (eqb (getD direction r 0) 0) refl)
       where
-        go : (t : Bool) → eqb (getD direction r 0) 0 ≡ t → Going rest (back b direction r s)
+        go : (t : Bool) → eqb (getD direction r 0) 0 ≡ t → Going rest (back b arrows direction r s)
         go true e = unfold back in rw e (fewer r rest s g)
-        go false e = unfold back in rw e (passed r rest (h .0) (a .0) (λ z. differ (sym (eq-eqb (getD direction r 0) 0 z) ∙ e)) s g)
+        go false e = unfold back in rw e (passed r rest (h .0) (a .0) (λ z. differ (sym (eq-eqb (getD direction r 0) 0 z) ∙ e)) s g arrows)

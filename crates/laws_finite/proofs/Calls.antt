@@ -14,6 +14,7 @@ use Rattle.rules_events.specs.Readings.{Readable}
 use Rattle.rules_lent.specs.Lent.{Lent, noExtra}
 use Rattle.lent.proofs.Passed.{passed}
 use Rattle.rules_planet.specs.Planet.{planetWalk}
+use Rattle.rules_depressurize.specs.declared.Breach.{Breach}
 use Rattle.rules_depressurize.specs.Depressurize.{depressurize, depressurizeRoom, depressurizeNumber}
 use Rattle.rules_equalize.specs.Equalize.{Ask, equalize}
 use Rattle.rules_equalize.specs.Result.{equalizeRoom, equalizeNumber}
@@ -42,18 +43,18 @@ module _ (b : Board) (ids : All Word (b .ids)) (l : Lent) where
   pub planet-call : (limit id : ℕ) → All Readable (planetWalk b limit id)
   planet-call limit id = planet-walk-readable b id-at limit id
 
-  module _ (limit id : ℕ) (e : depressurizeNumber b limit id l ≡ 0) where
-    pub depressurize-call : All Readable (depressurize b (l .gas) limit id .events)
+  module _ (q : Breach) (e : depressurizeNumber b q l ≡ 0) where
+    pub depressurize-call : All Readable (depressurize b (l .gas) q .events)
     unfolding depressurizeNumber
     depressurize-call =
         let p = passed b l (depressurizeRoom b) noExtra e in
-        depressurize-readable b (p .board) id-at (l .gas) (is-true (every amountFits (l .gas)) (p .amounts)) limit id
+        depressurize-readable b (p .board) id-at (l .gas) (is-true (every amountFits (l .gas)) (p .amounts)) q
 
-    pub depressurize-call-gas : All Fin (depressurize b (l .gas) limit id .gas)
+    pub depressurize-call-gas : All Fin (depressurize b (l .gas) q .gas)
     unfolding depressurizeNumber
     depressurize-call-gas =
         let p = passed b l (depressurizeRoom b) noExtra e in
-        depressurize-gas b (p .board) id-at (l .gas) (is-true (every amountFits (l .gas)) (p .amounts)) limit id
+        depressurize-gas b (p .board) id-at (l .gas) (is-true (every amountFits (l .gas)) (p .amounts)) q
 
 pub equalize-call-gas : (b : Board) (q : Ask) (turns : List ℕ) (l : Lent) → equalizeNumber b q turns l ≡ 0 → All Fin (equalize b (l .gas) q turns .gas)
 unfolding equalizeNumber

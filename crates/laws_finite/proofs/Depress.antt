@@ -1,10 +1,10 @@
 -- Every record that a depressurization writes on an accepted board is read back, and the gas that it leaves is finite. Assumes nothing.
 use mathlib.Core.Path.{_≡_, sym, subst}
-use mathlib.Core.Bool.{Bool, true, false, _||_, cond}
+use mathlib.Core.Bool.{true, false, cond}
 use mathlib.Core.List.{List, [], reverse}
 use Prim.Native.Nat.{ℕ, _+_, _≤_, _<_, zero-le}
 use native.Mathlib.Omega.{arith}
-use lib.Dec.{T, eqb, leb, ltb, ltb→lt}
+use lib.Dec.{T, eqb}
 use lib.ListN.{getD-replicate, length, getD, set, replicate, length-replicate, length-reverse}
 use lib.Ieee.{Float, nan}
 use Rattle.basics.specs.Loops.{run, every, member}
@@ -12,9 +12,9 @@ use Rattle.basics.specs.Floats.{0f}
 use Rattle.basics.specs.declared.Spot.{Spot}
 use Rattle.basics.specs.declared.Spot.the-variants.{At, Nowhere}
 use Rattle.basics.specs.Lists.{All, Found}
-use Rattle.basics.proofs.Loops.{All-any, All-imp, All-getD, run-keeps, times-keeps, cond-both}
+use Rattle.basics.proofs.Loops.{All-any, All-imp, All-getD, run-keeps, cond-both}
 use Rattle.basics.proofs.Lists.{All-append, All-snoc, replicate-at, All-back}
-use Rattle.rules_board.specs.Board.{Board, turfCount, idOf, end, immutable, linksOf, rowOf}
+use Rattle.rules_board.specs.Board.{Board, turfCount, idOf, end, linksOf, rowOf}
 use Rattle.turfs.specs.Tables.{Accepted}
 use Rattle.turfs.proofs.Accepted.{row-below}
 use Rattle.turfs.proofs.Line.{Line, line-short}
@@ -24,9 +24,11 @@ use Rattle.rules_events.specs.declared.Event.{Event}
 use Rattle.rules_events.specs.declared.Event.the-variants.{Target}
 use Rattle.rules_walk.specs.Walk.{Walk, walk}
 use Rattle.rules_walk.specs.Visit.{visitSpace}
-use Rattle.rules_out.specs.Out.{Out, outTo, outLink, outRow, outNext, outward}
+use Rattle.rules_out.specs.Out.{Out, outTo, outward}
 use Rattle.rules_back.specs.Back.{back}
-use Rattle.rules_depressurize.specs.Depressurize.{Depressurized, wayBack, fromWalk, fromRow, depressurize}
+use Rattle.rules_depressurize.specs.declared.Breach.{Breach}
+use Rattle.rules_depressurize.specs.Depressurize.{Depressurized, breachOf, wayBack, fromWalk, fromRow, depressurize}
+use Rattle.laws_depressurize.proofs.Outward.{outward-keeps}
 use Rattle.laws_depressurize.proofs.Room.{space-walk, outward-outed}
 use Rattle.laws_finite.proofs.Laws.{Within, within-zero, under-finite}
 use Rattle.laws_finite.proofs.Shares.{all-replicate}
@@ -51,31 +53,20 @@ module _ (b : Board) {n : ℕ} (h : Accepted b n) (ids : (r : ℕ) → Word (idO
     low : (x : ℕ) → getD (s .target) x 0 ≤ 4294967295
     told : All Readable (s .events)
 
-  link-aimed : (r : ℕ) → r < turfCount b → (k : ℕ) (s : Out) → Aimed s → Aimed (outLink b r k s)
-  unfolding outLink outTo
-  link-aimed r i k s q = cond-both Aimed (immutable b (end b k) || member (end b k) (s .order)) s (outTo b r (end b k) s) q (record {
-    near = set-most (s .direction) (end b k) (r + 1) (turfCount b) (omega arith) (q .near);
-    rows = All-snoc (λ x. x < turfCount b) (s .order) (end b k) (q .rows) (h .ends k);
-    low = set-most (s .target) (end b k) (getD (s .target) r 0) 4294967295 (q .low r) (q .low);
-    told = All-snoc Readable (s .events) (Target (idOf b (end b k)) (getD (s .target) r 0)) (q .told) (target-readable (idOf b (end b k)) (getD (s .target) r 0) (ids (end b k)) (let i = q .low r in omega arith));
-  })
-
-  row-aimed : (r : ℕ) → r < turfCount b → (s : Out) → Aimed s → Aimed (outRow b limit r s)
-  unfolding outRow
-  row-aimed r i s q = run-keeps (λ k. Unit {0}) Aimed (outLink b r) (λ k t u j. link-aimed r i k t j) _ _ (All-any _ (λ k. tt) (cond (leb (s .place + 1) limit) (linksOf b r) []))
-      (record { near = q .near; rows = q .rows; low = q .low; told = q .told })
-
-  next-aimed : (s : Out) → Aimed s → Aimed (outNext b limit s)
-  unfolding outNext
-  next-aimed s q = go (ltb (s .place) (length (s .order))) (ltb→lt (s .place) (length (s .order)))
-    where
-      go : (t : Bool) → (T t → s .place < length (s .order)) → Aimed (cond t (outRow b limit (getD (s .order) (s .place) 0) s) s)
-      go true l = row-aimed (getD (s .order) (s .place) 0) (All-getD (λ x. x < turfCount b) (s .order) (s .place) 0 (q .rows) (l tt)) s q
-      go false l = q
+  joins-aimed : (s : Out) (p k : ℕ) → p < length (s .order) → T (member k (linksOf b (getD (s .order) p 0))) → member (end b k) (s .order) ≡ false → Aimed s → Aimed (outTo b (getD (s .order) p 0) (end b k) s)
+  unfolding outTo
+  joins-aimed s p k l own new q =
+      let r = getD (s .order) p 0 in
+      let i = All-getD (λ x. x < turfCount b) (s .order) p 0 (q .rows) l in
+      record {
+        near = set-most (s .direction) (end b k) (r + 1) (turfCount b) (omega arith) (q .near);
+        rows = All-snoc (λ x. x < turfCount b) (s .order) (end b k) (q .rows) (h .ends k);
+        low = set-most (s .target) (end b k) (getD (s .target) r 0) 4294967295 (q .low r) (q .low);
+        told = All-snoc Readable (s .events) (Target (idOf b (end b k)) (getD (s .target) r 0)) (q .told) (target-readable (idOf b (end b k)) (getD (s .target) r 0) (ids (end b k)) (let i = q .low r in omega arith));
+      }
 
   outward-aimed : (space : List ℕ) (es : List Event) → All (λ x. x < turfCount b) space → All Readable es → Aimed (outward b limit space es)
-  unfolding outward
-  outward-aimed space es rows told = times-keeps Aimed (outNext b limit) next-aimed (turfCount b) _ (record {
+  outward-aimed space es rows told = outward-keeps b limit Aimed (λ s q. record { near = q .near; rows = q .rows; low = q .low; told = q .told }) joins-aimed space es (record {
     near = λ x. subst (λ z. z ≤ turfCount b) (sym (replicate-at {A = ℕ} (turfCount b) x 0)) zero-le;
     rows = rows;
     low = run-keeps (λ r. Unit {0}) (λ t. (x : ℕ) → getD t x 0 ≤ 4294967295) (λ r t. set t r (idOf b r)) (λ r t u i. set-most t r (idOf b r) 4294967295 (let l = ids r in omega arith) i) space (replicate (turfCount b) 0)
@@ -85,12 +76,12 @@ module _ (b : Board) {n : ℕ} (h : Accepted b n) (ids : (r : ℕ) → Word (idO
 
   -- ---- the whole
 
-  module _ (gas : List Float) (amounts : All (Within 40 1) gas) where
-    back-fine : (o : Out) → Aimed o → Line b (o .order) → Fine (wayBack b gas o)
+  module _ (arrows : ℕ) (gas : List Float) (amounts : All (Within 40 1) gas) where
+    back-fine : (o : Out) → Aimed o → Line b (o .order) → Fine (wayBack b arrows gas o)
     unfolding wayBack
     back-fine o a l =
-        let t = run (back b (o .direction)) (reverse (o .order)) (record { gas = gas; amount = replicate (turfCount b) 0f; events = o .events; rips = [] }) in
-        let g = all-passed b (h .gases .1) (h .turfs .1) ids (o .direction) (a .near) (reverse (o .order)) _ (reverse-apart (o .order) (l .apart)) (All-back (λ x. x < turfCount b) (o .order) (l .rows)) (record {
+        let t = run (back b arrows (o .direction)) (reverse (o .order)) (record { gas = gas; amount = replicate (turfCount b) 0f; events = o .events; rips = [] }) in
+        let g = all-passed b (h .gases .1) (h .turfs .1) ids (o .direction) (a .near) arrows (reverse (o .order)) _ (reverse-apart (o .order) (l .apart)) (All-back (λ x. x < turfCount b) (o .order) (l .rows)) (record {
           gas = amounts;
           size = length-replicate (turfCount b) 0f;
           ms = replicate (turfCount b) 0;
@@ -102,28 +93,28 @@ module _ (b : Board) {n : ℕ} (h : Accepted b n) (ids : (r : ℕ) → Word (idO
         }) in
         record { events = All-append Readable (t .events) (t .rips) (g .events) (g .rips); gas = g .gas }
 
-    walk-fine : (w : Walk) → All Readable (w .events) → Line b (w .space) → Fine (fromWalk b gas limit w)
+    walk-fine : (id : ℕ) (w : Walk) → All Readable (w .events) → Line b (w .space) → Fine (fromWalk b gas (breachOf id limit arrows) w)
     unfolding fromWalk
-    walk-fine w t l =
+    walk-fine id w t l =
         let o = outward b limit (w .space) (w .events) in
         let f = back-fine o (outward-aimed (w .space) (w .events) (l .rows) t) (outward-outed b h limit (w .space) (w .events) l .line) in
-        cond-both Fine (w .planet) _ (cond (eqb (length (w .space)) 0) _ (wayBack b gas o)) (record { events = t; gas = amounts })
-        (cond-both Fine (eqb (length (w .space)) 0) _ (wayBack b gas o) (record { events = t; gas = amounts }) f)
+        cond-both Fine (w .planet) _ (cond (eqb (length (w .space)) 0) _ (wayBack b arrows gas o)) (record { events = t; gas = amounts })
+        (cond-both Fine (eqb (length (w .space)) 0) _ (wayBack b arrows gas o) (record { events = t; gas = amounts }) f)
 
-    row-fine : (o : Spot) → Found (λ r. r < turfCount b) o → Fine (fromRow b gas limit o)
+    row-fine : (id : ℕ) (o : Spot) → Found (λ r. r < turfCount b) o → Fine (fromRow b gas (breachOf id limit arrows) o)
     unfolding fromRow
-    row-fine Nowhere f = record { events = tt; gas = amounts }
-    row-fine (At r) f = walk-fine (walk b (visitSpace b limit) r) (walk-told b ids limit r) (space-walk b h limit r f .space)
+    row-fine id Nowhere f = record { events = tt; gas = amounts }
+    row-fine id (At r) f = walk-fine id (walk b (visitSpace b limit) r) (walk-told b ids limit r) (space-walk b h limit r f .space)
 
-    depressurize-fine : (id : ℕ) → Fine (depressurize b gas limit id)
-    unfolding depressurize
-    depressurize-fine id = row-fine (rowOf b id) (row-below b id)
+module _ (b : Board) {n : ℕ} (h : Accepted b n) (ids : (r : ℕ) → Word (idOf b r)) (gas : List Float) (e : every amountFits gas ≡ true) (q : Breach) where
+  depressurize-fine : Fine (depressurize b gas q)
+  unfolding depressurize
+  depressurize-fine = row-fine b h ids (q .limit) (q .arrows) gas (accepted-within gas e) (q .id) (rowOf b (q .id)) (row-below b (q .id))
 
-module _ (b : Board) {n : ℕ} (h : Accepted b n) (ids : (r : ℕ) → Word (idOf b r)) (gas : List Float) (e : every amountFits gas ≡ true) (limit id : ℕ) where
   -- All that a depressurization writes is read back.
-  pub depressurize-readable : All Readable (depressurize b gas limit id .events)
-  depressurize-readable = depressurize-fine b h ids limit gas (accepted-within gas e) id .events
+  pub depressurize-readable : All Readable (depressurize b gas q .events)
+  depressurize-readable = depressurize-fine .events
 
   -- The gas that it leaves is finite.
-  pub depressurize-gas : All Fin (depressurize b gas limit id .gas)
-  depressurize-gas = All-imp (Within 40 1) Fin (depressurize b gas limit id .gas) (λ x w. under-finite w) (depressurize-fine b h ids limit gas (accepted-within gas e) id .gas)
+  pub depressurize-gas : All Fin (depressurize b gas q .gas)
+  depressurize-gas = All-imp (Within 40 1) Fin (depressurize b gas q .gas) (λ x w. under-finite w) (depressurize-fine .gas)

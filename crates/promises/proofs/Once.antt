@@ -14,6 +14,7 @@ use Rattle.rules_lent.specs.Lent.{Lent, Result, Extra, refusal}
 use Rattle.rules_equalize.specs.Equalize.{Ask}
 use Rattle.rules_equalize.specs.Result.{equalizeResult}
 use Rattle.rules_equalize.specs.declared.EqualizeAnswer.{EqualizeAnswer}
+use Rattle.rules_depressurize.specs.declared.Breach.{Breach}
 use Rattle.rules_depressurize.specs.Depressurize.{depressurizeResult}
 use Rattle.rules_depressurize.specs.declared.DepressurizeAnswer.{DepressurizeAnswer}
 use Rattle.rules_planet.specs.Planet.{planetResult}
@@ -28,8 +29,8 @@ once x o o′ p p′ = p ∙ sym p′
 pub equalize-once : (b : Board) (q : Ask) (turns : List ℕ) (l : Lent) (o o′ : Result EqualizeAnswer) → o ≡ equalizeResult b q turns l → o′ ≡ equalizeResult b q turns l → o ≡ o′
 equalize-once b q turns l = once (equalizeResult b q turns l)
 
-pub depressurize-once : (b : Board) (limit id : ℕ) (l : Lent) (o o′ : Result DepressurizeAnswer) → o ≡ depressurizeResult b limit id l → o′ ≡ depressurizeResult b limit id l → o ≡ o′
-depressurize-once b limit id l = once (depressurizeResult b limit id l)
+pub depressurize-once : (b : Board) (q : Breach) (l : Lent) (o o′ : Result DepressurizeAnswer) → o ≡ depressurizeResult b q l → o′ ≡ depressurizeResult b q l → o ≡ o′
+depressurize-once b q l = once (depressurizeResult b q l)
 
 pub planet-once : (b : Board) (limit id : ℕ) (l : Lent) (o o′ : Result PlanetAnswer) → o ≡ planetResult b limit id l → o′ ≡ planetResult b limit id l → o ≡ o′
 planet-once b limit id l = once (planetResult b limit id l)

@@ -25,6 +25,7 @@ use Rattle.rules_equalize.specs.Result.{equalizeRoom, equalizeNumber, equalizeD
 use Rattle.rules_equalize.specs.declared.EqualizeAnswer.{EqualizeAnswer}
 use Rattle.rules_planet.specs.Planet.{planetWalk, planetRoom, planetNumber, planetDone, planetResult}
 use Rattle.rules_planet.specs.declared.PlanetAnswer.{PlanetAnswer}
+use Rattle.rules_depressurize.specs.declared.Breach.{Breach}
 use Rattle.rules_depressurize.specs.Depressurize.{depressurize, depressurizeRoom, depressurizeNumber, depressurizeDone, depressurizeResult}
 use Rattle.rules_depressurize.specs.declared.DepressurizeAnswer.{DepressurizeAnswer}
 use Rattle.call_answers.specs.Answers.{Answers, Words, equalizeNumbers, planetNumbers, depressurizeNumbers}
@@ -66,23 +67,21 @@ module _ (b : Board) (ids : Words (b .ids)) (l : Lent) where
       let a = passed b l (equalizeRoom b) _ (d .0) .board in
       rw (d .1) (starts-with (equalize b (l .gas) q turns .events) _ (equalize-call b ids l q turns (d .0)) (omega (arith, events-room b (l .gas) a q turns, a .turfs .1, a .links)))
 
-  module _ (limit id : ℕ) where
-    -- what depressurize wrote is read back
-    pub depressurize-reads : (o : Result DepressurizeAnswer) → o ≡ depressurizeResult b limit id l → o .answer .number ≡ 0
-        → ReadsBack (take (o .answer .bytes) (o .lent .area)) (depressurize b (l .gas) limit id .events)
-    unfolding depressurizeResult depressurizeNumber depressurizeDone after
-    depressurize-reads o p z =
-        let d = done-is (depressurizeNumber b limit id l) _ (depressurizeDone b limit id l (depressurize b (l .gas) limit id)) (λ (x : Result DepressurizeAnswer). x .answer .number) refl (sym (ap (λ (x : Result DepressurizeAnswer). x .answer .number) p) ∙ z) in
-        let a = passed b l (depressurizeRoom b) noExtra (d .0) .board in
-        rw (p ∙ d .1) (starts-with (depressurize b (l .gas) limit id .events) _ (depressurize-call b ids l limit id (d .0)) (omega (arith, depressurize-room b a limit (l .gas) id, a .turfs .1)))
+  -- what depressurize wrote is read back
+  pub depressurize-reads : (q : Breach) (o : Result DepressurizeAnswer) → o ≡ depressurizeResult b q l → o .answer .number ≡ 0 → ReadsBack (take (o .answer .bytes) (o .lent .area)) (depressurize b (l .gas) q .events)
+  unfolding depressurizeResult depressurizeNumber depressurizeDone after
+  depressurize-reads q o p z =
+      let d = done-is (depressurizeNumber b q l) _ (depressurizeDone b q l (depressurize b (l .gas) q)) (λ (x : Result DepressurizeAnswer). x .answer .number) refl (sym (ap (λ (x : Result DepressurizeAnswer). x .answer .number) p) ∙ z) in
+      let a = passed b l (depressurizeRoom b) noExtra (d .0) .board in
+      rw (p ∙ d .1) (starts-with (depressurize b (l .gas) q .events) _ (depressurize-call b ids l q (d .0)) (omega (arith, depressurize-room b a (l .gas) q, a .turfs .1)))
 
-    -- what the planet walk wrote is read back
-    pub planet-reads : (o : Result PlanetAnswer) → o ≡ planetResult b limit id l → o .answer .number ≡ 0 → ReadsBack (take (o .answer .bytes) (o .lent .area)) (planetWalk b limit id)
-    unfolding planetResult planetNumber planetDone after
-    planet-reads o p z =
-        let d = done-is (planetNumber b limit id l) _ (planetDone b limit id l (planetWalk b limit id)) (λ (x : Result PlanetAnswer). x .answer .number) refl (sym (ap (λ (x : Result PlanetAnswer). x .answer .number) p) ∙ z) in
-        let a = passed b l (planetRoom b) noExtra (d .0) .board in
-        rw (p ∙ d .1) (starts-with (planetWalk b limit id) _ (planet-call b ids l limit id) (omega (arith, planet-room b a limit id, a .turfs .1)))
+  -- what the planet walk wrote is read back
+  pub planet-reads : (limit id : ℕ) (o : Result PlanetAnswer) → o ≡ planetResult b limit id l → o .answer .number ≡ 0 → ReadsBack (take (o .answer .bytes) (o .lent .area)) (planetWalk b limit id)
+  unfolding planetResult planetNumber planetDone after
+  planet-reads limit id o p z =
+      let d = done-is (planetNumber b limit id l) _ (planetDone b limit id l (planetWalk b limit id)) (λ (x : Result PlanetAnswer). x .answer .number) refl (sym (ap (λ (x : Result PlanetAnswer). x .answer .number) p) ∙ z) in
+      let a = passed b l (planetRoom b) noExtra (d .0) .board in
+      rw (p ∙ d .1) (starts-with (planetWalk b limit id) _ (planet-call b ids l limit id) (omega (arith, planet-room b a limit id, a .turfs .1)))
 
 -- ---- the exported calls, by what they returned, wrote into the answer and left
 
@@ -90,8 +89,8 @@ module _ (b : Board) (l : Lent) (n : ℕ) (a : List ℕ) (left : Lent) (z : n �
   pub katmos-equalize-reads : (q : Ask) (turns : List ℕ) → Answers equalizeNumbers b (equalizeResult b q turns l) n a left → ReadsBack (take (getD a 6 0) (left .area)) (equalize b (l .gas) q turns .events)
   katmos-equalize-reads q turns h = rw (h .written, h .lent) (equalize-reads b (h .ids) l q turns (equalizeResult b q turns l) refl (sym (h .returned) ∙ z))
 
-  pub katmos-depressurize-reads : (limit id : ℕ) → Answers depressurizeNumbers b (depressurizeResult b limit id l) n a left → ReadsBack (take (getD a 2 0) (left .area)) (depressurize b (l .gas) limit id .events)
-  katmos-depressurize-reads limit id h = rw (h .written, h .lent) (depressurize-reads b (h .ids) l limit id (depressurizeResult b limit id l) refl (sym (h .returned) ∙ z))
+  pub katmos-depressurize-reads : (q : Breach) → Answers depressurizeNumbers b (depressurizeResult b q l) n a left → ReadsBack (take (getD a 2 0) (left .area)) (depressurize b (l .gas) q .events)
+  katmos-depressurize-reads q h = rw (h .written, h .lent) (depressurize-reads b (h .ids) l q (depressurizeResult b q l) refl (sym (h .returned) ∙ z))
 
   pub katmos-planet-reads : (limit id : ℕ) → Answers planetNumbers b (planetResult b limit id l) n a left → ReadsBack (take (getD a 1 0) (left .area)) (planetWalk b limit id)
   katmos-planet-reads limit id h = rw (h .written, h .lent) (planet-reads b (h .ids) l limit id (planetResult b limit id l) refl (sym (h .returned) ∙ z))

@@ -1,1 +1,2 @@
 pub mod ReadsBack
+pub mod Arrows

@@ -1,5 +1,6 @@
 // Replays one stored vector of the public calls: lends what its case says, makes its call, and looks at every cell. The program `replay` runs it.
 ghost use Rattle.replay_one.specs.Replayed.{Looked};
+use rules_depressurize::Breach;
 use rules_fill::Settings;
 use vectors_same::Answer;
 use vectors_same::Vector;
@@ -48,7 +49,7 @@ fn equalize(
     }
 }
 
-// Depressurizes as a vector asks.
+// Depressurizes as a vector asks: behind what a walk is asked stands the setting of the arrows.
 fn depressurize(
     numbers: &[u32],
     bytes: &[u8],
@@ -60,9 +61,13 @@ fn depressurize(
     let rows = vectors::rows_of(numbers);
     let marks = vectors::marks_of(numbers, bytes);
     let w = vectors::walk_of(numbers);
+    let breach = Breach {
+        id: w.id,
+        limit: w.limit,
+        arrows: vectors::number_at(numbers, w.due),
+    };
     let r = call_depressurize::depressurize(
-        w.id,
-        w.limit,
+        breach,
         &rows,
         &marks,
         w.gases,
@@ -80,7 +85,7 @@ fn depressurize(
         fifth: 0,
         sixth: 0,
         seventh: 0,
-        due: w.due,
+        due: vectors::further(w.due, 1),
     }
 }
 

@@ -1,6 +1,6 @@
 -- The way back of `explosively_depressurize`, from the last turf to the first.
 use mathlib.Core.List.{List, [], _∷_, _++_}
-use mathlib.Core.Bool.{cond}
+use mathlib.Core.Bool.{Bool, cond}
 use Prim.Native.Nat.{ℕ, _-_}
 use lib.Dec.{eqb}
 use lib.ListN.{getD, set}
@@ -19,8 +19,20 @@ pub record Back : Type 0 where
   pub events : List Event
   pub rips : List Event  -- `floor_rip_turfs`
 
-module _ (b : Board) where
-  -- the turf r, which points at d; both arrows run from the id to itself, as in the Rust
+-- kind 7 of the turf `id`, and again if the next one is the `last` of its way: as in the Rust, both arrows run from the id to itself
+abbrev pub asText : ℕ → ℕ → Float → Float → Bool → List Event
+asText id next mine theirs last = Difference id mine id id ∷ (if last then Difference id theirs id id ∷ [] else [])
+
+-- the same towards space: both arrows run from the id to the next one's, and the second is that one's own
+abbrev pub toSpace : ℕ → ℕ → Float → Float → Bool → List Event
+toSpace id next mine theirs last = Difference id mine id next ∷ (if last then Difference next theirs id next ∷ [] else [])
+
+-- by the setting: 0 is as in the Rust, anything else towards space
+unfoldable pub differences : ℕ → ℕ → ℕ → Float → Float → Bool → List Event
+differences arrows = if eqb arrows 0 then asText else toSpace
+
+module _ (b : Board) (arrows : ℕ) where
+  -- the turf r, which points at d; the last of a way has no direction
   unfoldable pub backTo : List ℕ → ℕ → ℕ → Back → Back
   backTo direction r d s =
       let gas = clearAir b (mixOf b r) (s .gas) in
@@ -28,11 +40,10 @@ module _ (b : Board) where
       let mine = getD (s .amount) r nan +f sum in
       let amount = set (s .amount) r mine in
       let theirs = getD amount d nan +f mine in
-      let arrow : Float → Event = λ x. Difference (idOf b r) x (idOf b r) (idOf b r) in
       record {
         gas = gas;
         amount = set amount d theirs;
-        events = s .events ++ (HighPressure (idOf b r) ∷ arrow mine ∷ (if eqb (getD direction d 0) 0 then arrow theirs ∷ [] else []));
+        events = s .events ++ (HighPressure (idOf b r) ∷ differences arrows (idOf b r) (idOf b d) mine theirs (eqb (getD direction d 0) 0));
         rips = snoc (s .rips) (FloorRip (idOf b r) sum);
       }
 

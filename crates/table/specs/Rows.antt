@@ -7,12 +7,12 @@ use lib.Ieee.{Float}
 use Rattle.basics.specs.Loops.{same}
 use Rattle.basics.specs.Floats.{0f, ofCount, ofWord, whole, exact}
 use Rattle.rules_board.specs.Board.{Board}
-use Rattle.rules_board.specs.Draw.{Turf, to, lock, turf, disabled, planet, space, draw, sharing, withGases, pairWith, twenty, boardA, chain, lockedPair, lockedChain, asIs, star, four, ring, six, breached, twins}
+use Rattle.rules_board.specs.Draw.{to, lock, turf, disabled, planet, space, draw, sharing, withGases, pairWith, twenty, boardA, chain, lockedPair, lockedChain, asIs, star, four, ring, six, breached, twins}
 use Rattle.rules_events.specs.Events.{encodeAll}
 use Rattle.rules_events.specs.Lister.{listing}
 use Rattle.rules_events.specs.Worked.{p1Bytes}
 use Rattle.rules_events.specs.declared.Event.{Event}
-use Rattle.rules_events.specs.declared.Event.the-variants.{DepressurizeWanted, PlanetWanted, Pressure, Firelock, Target, HighPressure, FloorRip}
+use Rattle.rules_events.specs.declared.Event.the-variants.{DepressurizeWanted, PlanetWanted, Pressure, Firelock, Target, HighPressure, Difference, FloorRip}
 use Rattle.rules_lent.specs.Lent.{Lent, wordsRoom, floatsRoom}
 use Rattle.rules_lent.specs.Worked.{lend, lessArea, lessWords, lessFloats}
 use Rattle.rules_equalize.specs.Equalize.{Ask, fillAll, planAll}
@@ -20,7 +20,7 @@ use Rattle.rules_equalize.specs.Result.{equalizeRoom}
 use Rattle.rules_equalize.specs.Worked.{ask, limited, allowed, threshold, done, cancelled, equalizes, refused}
 use Rattle.rules_planet.specs.Planet.{planetRoom}
 use Rattle.rules_planet.specs.Worked.{walksPlanet}
-use Rattle.rules_depressurize.specs.Depressurize.{depressurizeRoom}
+use Rattle.rules_depressurize.specs.Depressurize.{breachOf, depressurizeRoom}
 use Rattle.rules_depressurize.specs.Worked.{depressurizes}
 use Rattle.rules_back.specs.Worked.{difference}
 
@@ -74,9 +74,12 @@ documentRows =
     ∷ equalizes twins (ask (10 ∷ 30 ∷ [])) [] (whole (32 ∷ 16 ∷ 32 ∷ 16 ∷ [])) (done 4 6 2 1 40) (whole (24 ∷ 24 ∷ 24 ∷ 24 ∷ []))
     (Pressure 0 (ofCount 8) 10 20 ∷ Pressure 1 (ofCount 8) 30 40 ∷ [])
     -- P12: limit 10, then limit 0
-    ∷ depressurizes (pairWith (space twenty)) 10 10 (32 ∷ 0 ∷ []) 2 84 (0 ∷ 0 ∷ [])
+    ∷ depressurizes (pairWith (space twenty)) (breachOf 10 10 0) (32 ∷ 0 ∷ []) 2 84 (0 ∷ 0 ∷ [])
     (Target 20 20 ∷ Target 10 20 ∷ HighPressure 10 ∷ difference 10 0 ∷ difference 10 0 ∷ FloorRip 10 0f ∷ [])
-    ∷ depressurizes (pairWith (space twenty)) 0 10 (32 ∷ 0 ∷ []) 0 0 (32 ∷ 0 ∷ []) []
+    -- P12 with arrows towards space
+    ∷ depressurizes (pairWith (space twenty)) (breachOf 10 10 1) (32 ∷ 0 ∷ []) 2 84 (0 ∷ 0 ∷ [])
+    (Target 20 20 ∷ Target 10 20 ∷ HighPressure 10 ∷ Difference 10 0f 10 20 ∷ Difference 20 0f 10 20 ∷ FloorRip 10 0f ∷ [])
+    ∷ depressurizes (pairWith (space twenty)) (breachOf 10 0 0) (32 ∷ 0 ∷ []) 0 0 (32 ∷ 0 ∷ []) []
     -- six nodes, three givers: fast pass; two givers: none
     ∷ marks six (ask (1 ∷ [])) (whole (20 ∷ 0 ∷ 20 ∷ 0 ∷ 20 ∷ 0 ∷ [])) (replicate 6 1)
     ∷ marks six (ask (1 ∷ [])) (whole (30 ∷ 30 ∷ 0 ∷ 0 ∷ 0 ∷ 0 ∷ [])) (replicate 6 0)
@@ -125,7 +128,7 @@ misreadRows =
     ∷ Pressure 0 (ofWord 0x3f63_8e40) 30 40
     ∷ [])
     -- a disabled turf is reached from space
-    ∷ depressurizes (draw (space (turf 10 (to 1 ∷ [])) ∷ disabled (turf 20 (to 0 ∷ [])) ∷ [])) 100 10 (0 ∷ 8 ∷ []) 2 84 (0 ∷ 0 ∷ [])
+    ∷ depressurizes (draw (space (turf 10 (to 1 ∷ [])) ∷ disabled (turf 20 (to 0 ∷ [])) ∷ [])) (breachOf 10 100 0) (0 ∷ 8 ∷ []) 2 84 (0 ∷ 0 ∷ [])
     (Target 10 10 ∷ Target 20 10 ∷ HighPressure 20 ∷ difference 20 0 ∷ difference 20 0 ∷ FloorRip 20 0f ∷ [])
     -- the planet turf's total is not added
     ∷ equalizes star (limited 3 (ask (10 ∷ []))) [] (whole (32 ∷ 16 ∷ 16 ∷ 8 ∷ [])) (done 4 6 1 1 20) (whole (24 ∷ 16 ∷ 16 ∷ 16 ∷ []))
@@ -173,16 +176,16 @@ ruleRows =
     -- a break at the planet limit leaves a turf in two zones: not apart
     ∷ equalizes (draw (planet (turf 10 (to 1 ∷ [])) ∷ twenty ∷ [])) (limited 0 (ask (10 ∷ 20 ∷ []))) [] (whole (32 ∷ 16 ∷ [])) (done 3 4 2 0 0) (whole (32 ∷ 16 ∷ [])) []
     -- kind 4; the limit counts from 1 on both walks
-    ∷ depressurizes (lockedChain asIs space) 2 10 (32 ∷ 16 ∷ 4 ∷ []) 2 160 (0 ∷ 0 ∷ 4 ∷ [])
+    ∷ depressurizes (lockedChain asIs space) (breachOf 10 2 0) (32 ∷ 16 ∷ 4 ∷ []) 2 160 (0 ∷ 0 ∷ 4 ∷ [])
     (Firelock 10 20 ∷ Firelock 20 30 ∷ Target 30 30 ∷ Target 20 30 ∷ Target 10 30
     ∷ HighPressure 10 ∷ difference 10 16
     ∷ HighPressure 20 ∷ difference 20 20 ∷ difference 20 20
     ∷ FloorRip 10 (ofCount 16) ∷ FloorRip 20 (ofCount 4) ∷ [])
     -- the limit on the way out
-    ∷ depressurizes (draw (turf 10 (to 1 ∷ []) ∷ turf 20 (to 0 ∷ to 2 ∷ []) ∷ space (turf 30 (to 1 ∷ [])) ∷ [])) 1 20 (32 ∷ 16 ∷ 4 ∷ []) 2 84 (32 ∷ 0 ∷ 4 ∷ [])
+    ∷ depressurizes (draw (turf 10 (to 1 ∷ []) ∷ turf 20 (to 0 ∷ to 2 ∷ []) ∷ space (turf 30 (to 1 ∷ [])) ∷ [])) (breachOf 20 1 0) (32 ∷ 16 ∷ 4 ∷ []) 2 84 (32 ∷ 0 ∷ 4 ∷ [])
     (Target 30 30 ∷ Target 20 30 ∷ HighPressure 20 ∷ difference 20 4 ∷ difference 20 4 ∷ FloorRip 20 (ofCount 4) ∷ [])
     -- outcome 1, events so far staying
-    ∷ depressurizes (draw (turf 10 (lock 1 ∷ to 2 ∷ []) ∷ space twenty ∷ planet (turf 30 (to 0 ∷ [])) ∷ [])) 10 10 (32 ∷ 0 ∷ 4 ∷ []) 1 24 (32 ∷ 0 ∷ 4 ∷ [])
+    ∷ depressurizes (draw (turf 10 (lock 1 ∷ to 2 ∷ []) ∷ space twenty ∷ planet (turf 30 (to 0 ∷ [])) ∷ [])) (breachOf 10 10 0) (32 ∷ 0 ∷ 4 ∷ []) 1 24 (32 ∷ 0 ∷ 4 ∷ [])
     (Firelock 10 20 ∷ Target 20 20 ∷ [])
     -- a planetary turf expands, within the limit
     ∷ walksPlanet (draw (planet (turf 10 (lock 1 ∷ [])) ∷ turf 20 (to 0 ∷ lock 2 ∷ []) ∷ turf 30 (to 1 ∷ lock 3 ∷ []) ∷ turf 40 (to 2 ∷ []) ∷ []))
@@ -194,7 +197,7 @@ ruleRows =
     10 10 (32 ∷ 0 ∷ 4 ∷ 4 ∷ []) 24 (Firelock 10 20 ∷ Firelock 10 30 ∷ [])
     -- unknown ids
     ∷ equalizes boardA (ask (11 ∷ [])) [] (whole (32 ∷ 16 ∷ [])) (done 0 2 0 1 0) (whole (32 ∷ 16 ∷ [])) []
-    ∷ depressurizes (pairWith (space twenty)) 10 11 (32 ∷ 0 ∷ []) 0 0 (32 ∷ 0 ∷ []) []
+    ∷ depressurizes (pairWith (space twenty)) (breachOf 11 10 0) (32 ∷ 0 ∷ []) 0 0 (32 ∷ 0 ∷ []) []
     ∷ walksPlanet (lockedPair (planet twenty)) 10 11 (32 ∷ 0 ∷ []) 0 []
     ∷ []
 

@@ -1,5 +1,5 @@
 -- One turf of the way back: its air, its amounts, its events and its rip, each in an area of its own. Assumes nothing.
-use Prim.Native.Nat.{ℕ, _+_, _-_, _*_, _≤_, _<_}
+use Prim.Native.Nat.{ℕ, _+_, _-_, _≤_, _<_}
 use native.Mathlib.Omega.{arith}
 use native.Mathlib.Numerals.{add-one}
 use mathlib.Core.Path.{_≡_, refl, ap, ap₂, _∙_, sym, subst}
@@ -19,13 +19,14 @@ use Rattle.events.specs.Area.{Wrote}
 use Rattle.rules_events.specs.declared.Event.{Event}
 use Rattle.rules_events.specs.declared.Event.the-variants.{FloorRip}
 use Rattle.events.proofs.Areas.{wrote-length}
+use Rattle.events.proofs.Sizes.{size}
 use Rattle.index_set.specs.Line.{Below}
 use Rattle.index_set.proofs.Queue.{Below-snoc}
 use Rattle.scratch.specs.Layout.{outSizes, backSizes, waysAt, sumsAt}
 use Rattle.walk_links.specs.Does.{WalkDoes}
 use Rattle.rules_back.specs.Back.{backTo}
 use Rattle.walk_steps.specs.Steps.{told}
-use Rattle.walk_steps.proofs.Steps.{told-size}
+use Rattle.laws_walk.proofs.Told.{told-size}
 use Rattle.walk_back.specs.Backed.{notNegative, BackState, backAt, ripsOf, backIn, backOf, BackFits, backing, Points, directions, Settled}
 use Rattle.walk_back.specs.declared.Way.{Way}
 use Rattle.walk_back.specs.declared.Sums.{Sums}
@@ -133,9 +134,17 @@ module _ (b : Board) (row d : ℕ) (s : Way) (gas : List Float) (e w : List ℕ)
   pub direction-at : (ways : ℕ) → ways ≡ waysAt n → getD w (ways + d) 0 ≡ getD (directions n w) d 0
   direction-at ways o = cut-get (outSizes n) w 0 3 d (ways + d) (omega arith) (p .to) (omega (arith, o))
 
-  module _ (place : ℕ) (at-place : place ≡ sumsAt n) (last : Bool) (o : last ≡ eqb (getD (directions n w) d 0) 0) (e′ : List ℕ) (used : ℕ) (wr : Wrote (encodeAll (told (getD (b .ids) row 0) (sums .mine) (sums .theirs) last)) (s .used) used e e′) (lg : length gas′ ≡ length gas) where
+  -- what is told of the turf
+  abbrev tells : ℕ → Bool → List Event
+  tells arrows last = told arrows (getD (b .ids) row 0) (getD (b .ids) d 0) (sums .mine) (sums .theirs) last
+
+  module _ (place : ℕ) (at-place : place ≡ sumsAt n) (arrows : ℕ) (last : Bool) (o : last ≡ eqb (getD (directions n w) d 0) 0) (e′ : List ℕ) (used : ℕ) (wr : Wrote (encodeAll (tells arrows last)) (s .used) used e e′) (lg : length gas′ ≡ length gas) where
     abbrev g : Way
     g = record { left = s .left; rips = s .rips + 1; used = used }
+
+    tells-size : size (tells arrows last) ≤ 48
+    unfolding told
+    tells-size = told-size arrows (getD (b .ids) row 0) (getD (b .ids) d 0) (sums .mine) (sums .theirs) last
 
     f₁-length : length f₁ ≡ length f
     f₁-length = ap length (q .amounts) ∙ length-set (set f row (sums .mine)) d (sums .theirs) ∙ length-set f row (sums .mine)
@@ -143,20 +152,20 @@ module _ (b : Board) (row d : ℕ) (s : Way) (gas : List Float) (e w : List ℕ)
     f-length : length (f′ place) ≡ length f
     f-length = length-set f₁ (place + s .rips) (sums .sum) ∙ f₁-length
 
-    same : (es : List Event) → backOf (b .ids) (backAt g gas′ w′ (f′ place) e′) (es ++ told (getD (b .ids) row 0) (sums .mine) (sums .theirs) last) ≡ backTo b (directions n w) row d (backOf (b .ids) (backAt s gas w f e) es)
+    same : (es : List Event) → backOf (b .ids) (backAt g gas′ w′ (f′ place) e′) (es ++ tells arrows last) ≡ backTo b arrows (directions n w) row d (backOf (b .ids) (backAt s gas w f e) es)
     unfolding backOf backTo told
     same es =
-        ap₂ (λ (ws : List (List ℕ)) (fs : List (List Float)). backIn (b .ids) g gas′ ws fs (es ++ told (getD (b .ids) row 0) (sums .mine) (sums .theirs) last)) stores-w (stores-f place at-place)
+        ap₂ (λ (ws : List (List ℕ)) (fs : List (List Float)). backIn (b .ids) g gas′ ws fs (es ++ tells arrows last)) stores-w (stores-f place at-place)
         ∙ rw (more-rows, more-sums, rips-snoc (b .ids) (take (s .rips) (region (outSizes n) 0 w)) (take (s .rips) (region (backSizes n) 1 f)) row (sums .sum) even) (rw (← q .cleared, ← q .sum, ← mine-is, ← theirs-is, o))
 
-    pub does-back : WalkDoes (backing b) (backTo b (directions n w) row d) (backAt s gas w f e) (backAt g gas′ w′ (f′ place) e′)
+    pub does-back : WalkDoes (backing b) (backTo b arrows (directions n w) row d) (backAt s gas w f e) (backAt g gas′ w′ (f′ place) e′)
     does-back = record {
       fit = record {
         small = h .small;
         words = rw length-set (h .words);
         floats = rw f-length (h .floats);
         bytes = rw (wrote-length wr) (h .bytes);
-        written = omega (arith, h .written, wr .end, told-size (getD (b .ids) row 0) (sums .mine) (sums .theirs) last);
+        written = omega (arith, h .written, wr .end, tells-size);
         few = omega (arith, p .room);
         count = lg ∙ h .count;
         gas = gas-clear;
@@ -167,7 +176,7 @@ module _ (b : Board) (row d : ℕ) (s : Way) (gas : List Float) (e w : List ℕ)
         directed = subst (λ (ws : List (List ℕ)). (x : ℕ) → getD (getD ws 3 []) x 0 ≤ n) (sym stores-w) (h .directed);
       };
       kept = rw (length-set w (s .rips) row, f-length, lg) (ap₂ (λ (ws : List (List ℕ)) (fs : List (List Float)). record { words = length w; arrays = drop 1 ws; floats = length f; beyond = getD fs 2 []; gas = length gas }) stores-w (stores-f place at-place));
-      new = told (getD (b .ids) row 0) (sums .mine) (sums .theirs) last;
+      new = tells arrows last;
       wrote = wr;
       same = same;
     }

@@ -55,9 +55,9 @@ module _ {f f₀ : Back → Back} {b : Board} {a a′ : BackState} (g : Going (b
   kept-directions = ap (λ (r : BackRest). getD (r .arrays) 2 []) (g .kept)
 
   -- a turn, by the order and the directions of the start
-  pub turn-as : (left : ℕ) {a″ : BackState} → WalkDoes (backing b) (backNext b left (a′ .words)) a′ a″
-      → WalkDoes (backing b) (back b (directions (turfCount b) (a .words)) (getD (region (outSizes (turfCount b)) 2 (a .words)) (left - 1) 0)) a′ a″
-  turn-as left d = does-as (backing b) d (λ es. rw (kept-order, kept-directions))
+  pub turn-as : (arrows left : ℕ) {a″ : BackState} → WalkDoes (backing b) (backNext b arrows left (a′ .words)) a′ a″
+      → WalkDoes (backing b) (back b arrows (directions (turfCount b) (a .words)) (getD (region (outSizes (turfCount b)) 2 (a .words)) (left - 1) 0)) a′ a″
+  turn-as arrows left d = does-as (backing b) d (λ es. rw (kept-order, kept-directions))
 
 -- ---- the last turf of those that are left
 
@@ -104,8 +104,8 @@ module _ (b : Board) (s : Way) (gas : List Float) (e w : List ℕ) (f : List Flo
   pub points : Ground b → (getD w (ways + row) 0 ≡ 0 → ⊥) → Points b row (getD w (ways + row) 0 - 1) (backAt t gas w f e)
   points g z = record { ground = g; fit = left-fit; from = row-below; to = omega (arith, way-below); room = omega (arith, h .few) }
 
-  pub back-skip : getD w (ways + row) 0 ≡ 0 → WalkDoes (backing b) (backNext b (s .left) w) (backAt s gas w f e) (backAt t gas w f e)
-  back-skip z = record {
+  pub back-skip : (arrows : ℕ) → getD w (ways + row) 0 ≡ 0 → WalkDoes (backing b) (backNext b arrows (s .left) w) (backAt s gas w f e) (backAt t gas w f e)
+  back-skip arrows z = record {
     fit = left-fit;
     kept = refl;
     new = [];
@@ -116,17 +116,17 @@ module _ (b : Board) (s : Way) (gas : List Float) (e w : List ℕ) (f : List Flo
       none : eqb (getD (directions n w) (getD (region (outSizes n) 2 w) (s .left - 1) 0) 0) 0 ≡ true
       none = eq-eqb _ 0 (ap (λ (x : ℕ). getD (directions n w) x 0) (sym row-at) ∙ sym way-at ∙ z)
 
-      skip : (es : List Event) → backOf (b .ids) (backAt t gas w f e) (es ++ []) ≡ backNext b (s .left) w (backOf (b .ids) (backAt s gas w f e) es)
+      skip : (es : List Event) → backOf (b .ids) (backAt t gas w f e) (es ++ []) ≡ backNext b arrows (s .left) w (backOf (b .ids) (backAt s gas w f e) es)
       skip es = unfold backOf back in rw (none, append-nil es)
 
-  pub back-on : (getD w (ways + row) 0 ≡ 0 → ⊥) → {a : BackState} → WalkDoes (backing b) (backTo b (directions n w) row (getD w (ways + row) 0 - 1)) (backAt t gas w f e) a
-      → WalkDoes (backing b) (backNext b (s .left) w) (backAt s gas w f e) a
-  back-on z {a} d = record { fit = d .fit; kept = d .kept; new = d .new; wrote = d .wrote; same = λ es. d .same es ∙ on es }
+  pub back-on : (arrows : ℕ) → (getD w (ways + row) 0 ≡ 0 → ⊥) → {a : BackState} → WalkDoes (backing b) (backTo b arrows (directions n w) row (getD w (ways + row) 0 - 1)) (backAt t gas w f e) a
+      → WalkDoes (backing b) (backNext b arrows (s .left) w) (backAt s gas w f e) a
+  back-on arrows z {a} d = record { fit = d .fit; kept = d .kept; new = d .new; wrote = d .wrote; same = λ es. d .same es ∙ on es }
     where
       some : eqb (getD (directions n w) (getD (region (outSizes n) 2 w) (s .left - 1) 0) 0) 0 ≡ false
       some = ne-eqb _ 0 (λ q. z (way-at ∙ ap (λ (x : ℕ). getD (directions n w) x 0) row-at ∙ q))
 
-      on : (es : List Event) → backTo b (directions n w) row (getD w (ways + row) 0 - 1) (backOf (b .ids) (backAt t gas w f e) es) ≡ backNext b (s .left) w (backOf (b .ids) (backAt s gas w f e) es)
+      on : (es : List Event) → backTo b arrows (directions n w) row (getD w (ways + row) 0 - 1) (backOf (b .ids) (backAt t gas w f e) es) ≡ backNext b arrows (s .left) w (backOf (b .ids) (backAt s gas w f e) es)
       on es = unfold back backOf in rw (some, way-at, row-at)
 
 -- ---- the loop
@@ -247,8 +247,8 @@ module _ (b : Board) (count used : ℕ) (gas : List Float) (e w : List ℕ) (f f
   pub first-goes : BackGoes b (backAt first gas w f₁ e)
   first-goes = record { ground = h .ground; fit = first-fit }
 
-  module _ (t : Way) (gas′ : List Float) (e′ w′ : List ℕ) (f′ : List Float)
-      (d : WalkDoes (backing b) (run (back b (directions m w)) (reverse (take count (region (outSizes m) 2 w)))) (backAt first gas w f₁ e) (backAt t gas′ w′ f′ e′)) where
+  module _ (arrows : ℕ) (t : Way) (gas′ : List Float) (e′ w′ : List ℕ) (f′ : List Float)
+      (d : WalkDoes (backing b) (run (back b arrows (directions m w)) (reverse (take count (region (outSizes m) 2 w)))) (backAt first gas w f₁ e) (backAt t gas′ w′ f′ e′)) where
     rows-same : take (t .rips) (region (outSizes m) 0 w′) ≡ take (t .rips) w′
     rows-same = take-take (t .rips) m w′ (omega (arith, d .fit .few))
 
@@ -265,7 +265,7 @@ module _ (b : Board) (count used : ℕ) (gas : List Float) (e w : List ℕ) (f f
       room = omega (arith, d .fit .bytes, d .fit .written, d .fit .few);
     }
 
-    pub backed : (to : ℕ) (e″ : List ℕ) → Wrote (encodeAll (ripsOf (b .ids) (take (t .rips) w′) (take (t .rips) (drop m f′)))) (t .used) to e′ e″ → Backed b count used to (backAreas gas w f e) (backAreas gas′ w′ f′ e″)
+    pub backed : (to : ℕ) (e″ : List ℕ) → Wrote (encodeAll (ripsOf (b .ids) (take (t .rips) w′) (take (t .rips) (drop m f′)))) (t .used) to e′ e″ → Backed b arrows count used to (backAreas gas w f e) (backAreas gas′ w′ f′ e″)
     backed to e″ wr = record {
       words = ap (λ (r : BackRest). getD (r .arrays) 4 []) (d .kept);
       floats = ap (λ (r : BackRest). r .beyond) (d .kept) ∙ ap (drop m) past-is;
@@ -284,5 +284,5 @@ module _ (b : Board) (count used : ℕ) (gas : List Float) (e w : List ℕ) (f f
         view es = unfold backOf in rw (rows-same, sums-same)
 
         ends : (es : List Event) → record { gas = gas′; amount = region (backSizes m) 0 f′; events = es ++ d .new; rips = ripsOf (b .ids) (take (t .rips) w′) (take (t .rips) (drop m f′)) }
-            ≡ run (back b (directions m w)) (reverse (take count (region (outSizes m) 2 w))) (record { gas = gas; amount = replicate m 0f; events = es; rips = [] })
-        ends es = view (es ++ d .new) ∙ d .same es ∙ ap (run (back b (directions m w)) (reverse (take count (region (outSizes m) 2 w)))) (start es)
+            ≡ run (back b arrows (directions m w)) (reverse (take count (region (outSizes m) 2 w))) (record { gas = gas; amount = replicate m 0f; events = es; rips = [] })
+        ends es = view (es ++ d .new) ∙ d .same es ∙ ap (run (back b arrows (directions m w)) (reverse (take count (region (outSizes m) 2 w)))) (start es)

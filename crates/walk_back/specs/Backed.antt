@@ -140,8 +140,8 @@ pub record Settled (b : Board) (row d : ℕ) (r : Sums) (gas gas′ f f′ : Lis
   pub amounts : f′ ≡ set (set f row (r .mine)) d (r .theirs)
 
 -- `back` of the turf before those that are left
-abbrev pub backNext : Board → ℕ → List ℕ → Back → Back
-backNext b left w s = back b (directions (turfCount b) w) (getD (region (outSizes (turfCount b)) 2 w) (left - 1) 0) s
+abbrev pub backNext : Board → ℕ → ℕ → List ℕ → Back → Back
+backNext b arrows left w s = back b arrows (directions (turfCount b) w) (getD (region (outSizes (turfCount b)) 2 w) (left - 1) 0) s
 
 -- the rip number j can be written after `used` bytes
 pub record Rips (ids : List ℕ) (j used : ℕ) (w : List ℕ) (f : List Float) (e : List ℕ) : Type 0 where
@@ -179,12 +179,12 @@ pub record BackStarts (b : Board) (count used : ℕ) (a : BackAreas) : Type 0 wh
   pub directed : (r : ℕ) → getD (region (outSizes (turfCount b)) 3 (a .words)) r 0 ≤ turfCount b
 
 -- the way back is done, from a to a′
-pub record Backed (b : Board) (count used to : ℕ) (a a′ : BackAreas) : Type 0 where
+pub record Backed (b : Board) (arrows count used to : ℕ) (a a′ : BackAreas) : Type 0 where
   pub words : region (outSizes (turfCount b)) 5 (a′ .words) ≡ region (outSizes (turfCount b)) 5 (a .words)
   pub floats : region (backSizes (turfCount b)) 2 (a′ .floats) ≡ region (backSizes (turfCount b)) 2 (a .floats)
   pub new : List Event
   pub wrote : Wrote (encodeAll new) used to (a .area) (a′ .area)
   pub same : (es : List Event) →
       let order = take count (region (outSizes (turfCount b)) 2 (a .words)) in
-      let t = run (back b (directions (turfCount b) (a .words))) (reverse order) (record { gas = a .gas; amount = replicate (turfCount b) 0f; events = es; rips = [] }) in
+      let t = run (back b arrows (directions (turfCount b) (a .words))) (reverse order) (record { gas = a .gas; amount = replicate (turfCount b) 0f; events = es; rips = [] }) in
       (es ++ new ≡ t .events ++ t .rips) × (a′ .gas ≡ t .gas)

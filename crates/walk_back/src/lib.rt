@@ -34,6 +34,13 @@ pub struct Sums {
     pub theirs: f32,
 }
 
+// A turf of the way back, the next one, and where its arrows lead.
+struct Leg {
+    row: u32,
+    next: usize,
+    arrows: u32,
+}
+
 // Clears the turf's air, and adds the total of the next one to its amount and that amount to the next one's.
 fn settle(
     row: usize,
@@ -57,10 +64,9 @@ fn settle(
     Sums { sum, mine, theirs }
 }
 
-// The turf at `row`, which points at the turf at d.
+// The turf of a leg, which points at the next one.
 fn back_to(
-    row: u32,
-    d: usize,
+    leg: Leg,
     s: Way,
     rows: &Rows,
     marks: &Marks,
@@ -70,21 +76,31 @@ fn back_to(
     floats: &mut [f32],
     events: &mut [u8],
 ) -> Way
-    requires { let b = boardAt rows marks gases in ⌜ Points b row d (backAt s (now gas) (now words) (now floats) (now events)) ⌝ }
+    requires { let b = boardAt rows marks gases in ⌜ Points b (leg .row) (leg .next) (backAt s (now gas) (now words) (now floats) (now events)) ⌝ }
     ensures { λ r. let b = boardAt (rows .entry) (marks .entry) gases in
-        ⌜ WalkDoes (backing b) (backTo b (directions (turfCount b) (now (words .entry))) row d)
+        ⌜ WalkDoes (backing b) (backTo b (leg .arrows) (directions (turfCount b) (now (words .entry))) (leg .row) (leg .next))
         (backAt s (now (gas .entry)) (now (words .entry)) (now (floats .entry)) (now (events .entry)))
         (backAt r (now (gas .exit)) (now (words .exit)) (now (floats .exit)) (now (events .exit))) ⌝ }
     ensures { λ r. ⌜ r .left ≡ s .left ⌝ }
 {
     let ids = rows[IDS];
     let n = ids.len();
-    let r = row as usize;
+    let r = leg.row as usize;
+    let d = leg.next;
     let sums = settle(r, d, rows, marks, gases, gas, floats);
     let last = words[scratch::ways_at(n) + d] == 0;
-    let used = walk_steps::tell(ids[r], sums.mine, sums.theirs, last, s.used, events);
+    let used = walk_steps::tell(
+        leg.arrows,
+        ids[r],
+        ids[d],
+        sums.mine,
+        sums.theirs,
+        last,
+        s.used,
+        events,
+    );
     let k = s.rips;
-    words[k] = row;
+    words[k] = leg.row;
     floats[scratch::sums_at(n) + k] = sums.sum;
     Way {
         left: s.left,
@@ -95,6 +111,7 @@ fn back_to(
 
 // The last turf of those that are left; one without direction is skipped.
 fn back(
+    arrows: u32,
     s: Way,
     rows: &Rows,
     marks: &Marks,
@@ -107,7 +124,7 @@ fn back(
     requires { let b = boardAt rows marks gases in ⌜ BackGoes b (backAt s (now gas) (now words) (now floats) (now events)) ⌝ }
     requires { ⌜ 0 < s .left ⌝ }
     ensures { λ r. let b = boardAt (rows .entry) (marks .entry) gases in
-        ⌜ WalkDoes (backing b) (backNext b (s .left) (now (words .entry)))
+        ⌜ WalkDoes (backing b) (backNext b arrows (s .left) (now (words .entry)))
         (backAt s (now (gas .entry)) (now (words .entry)) (now (floats .entry)) (now (events .entry)))
         (backAt r (now (gas .exit)) (now (words .exit)) (now (floats .exit)) (now (events .exit))) ⌝ }
     ensures { λ r. ⌜ r .left + 1 ≡ s .left ⌝ }
@@ -128,11 +145,17 @@ fn back(
         return t;
     }
     let d = way as usize - 1;
-    back_to(row, d, t, rows, marks, gases, gas, words, floats, events)
+    let leg = Leg {
+        row,
+        next: d,
+        arrows,
+    };
+    back_to(leg, t, rows, marks, gases, gas, words, floats, events)
 }
 
 // The order from its end.
 fn back_all(
+    arrows: u32,
     s: Way,
     rows: &Rows,
     marks: &Marks,
@@ -146,14 +169,14 @@ fn back_all(
     ensures { λ r. let b = boardAt (rows .entry) (marks .entry) gases in
         let w = now (words .entry) in
         let order = take (s .left) (region (outSizes (turfCount b)) 2 w) in
-        ⌜ WalkDoes (backing b) (run (back b (directions (turfCount b) w)) (reverse order))
+        ⌜ WalkDoes (backing b) (run (back b arrows (directions (turfCount b) w)) (reverse order))
         (backAt s (now (gas .entry)) (now (words .entry)) (now (floats .entry)) (now (events .entry)))
         (backAt r (now (gas .exit)) (now (words .exit)) (now (floats .exit)) (now (events .exit))) ⌝ }
     ensures { λ r. ⌜ r .left ≡ 0 ⌝ }
 {
     let mut t = s;
     while t.left > 0 {
-        t = back(t, rows, marks, gases, gas, words, floats, events);
+        t = back(arrows, t, rows, marks, gases, gas, words, floats, events);
     }
     t
 }
@@ -202,6 +225,7 @@ fn rips(
 
 // Back from the last of the `count` turfs of the order to the first, and then the floor rips. Answers how many event bytes are written then.
 pub fn way_back(
+    arrows: u32,
     count: usize,
     used: usize,
     rows: &Rows,
@@ -214,7 +238,7 @@ pub fn way_back(
 ) -> usize
     requires { let b = boardAt rows marks gases in ⌜ BackStarts b count used (backAreas (now gas) (now words) (now floats) (now events)) ⌝ }
     ensures { λ r. let b = boardAt (rows .entry) (marks .entry) gases in
-        ⌜ Backed b count used r
+        ⌜ Backed b arrows count used r
         (backAreas (now (gas .entry)) (now (words .entry)) (now (floats .entry)) (now (events .entry)))
         (backAreas (now (gas .exit)) (now (words .exit)) (now (floats .exit)) (now (events .exit))) ⌝ }
 {
@@ -225,6 +249,6 @@ pub fn way_back(
         rips: 0,
         used,
     };
-    let t = back_all(s, rows, marks, gases, gas, words, floats, events);
+    let t = back_all(arrows, s, rows, marks, gases, gas, words, floats, events);
     rips(t.rips, t.used, ids, words, floats, events)
 }

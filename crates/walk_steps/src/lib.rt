@@ -3,7 +3,7 @@ use rules_events::Event;
 ghost use mathlib.Core.Path.{_≡_};
 ghost use Rattle.rules_events.specs.Events.{encodeAll};
 ghost use Rattle.events.specs.Area.{Wrote};
-ghost use Rattle.walk_steps.specs.Steps.{Owns, ownAt, told, BackTells};
+ghost use Rattle.walk_steps.specs.Steps.{Owns, ownAt, tipOf, told, BackTells};
 
 // The space turf number i has its place, and is its own target.
 pub fn own_target(i: usize, ids: &[u32], words: &mut [u32])
@@ -19,11 +19,31 @@ pub fn own_target(i: usize, ids: &[u32], words: &mut [u32])
     words[targets + row] = ids[row];
 }
 
-// Writes kinds 6 and 7, and 7 again where the next turf has no direction; both arrows run from the id to itself.
-pub fn tell(id: u32, mine: f32, theirs: f32, last: bool, used: usize, events: &mut [u8]) -> usize
-    requires { ⌜ BackTells mine theirs used (now events) ⌝ }
-    ensures { λ r. ⌜ Wrote (encodeAll (told id mine theirs last)) used r (now (events .entry)) (now (events .exit)) ⌝ }
+// Where a turf's arrows end: as in the Rust at itself, else at the next one.
+fn tip(arrows: u32, id: u32, next: u32) -> u32
+    ensures { λ r. ⌜ r ≡ tipOf arrows id next ⌝ }
 {
+    if arrows == 0 {
+        return id;
+    }
+    next
+}
+
+// Writes kinds 6 and 7, and 7 again if the next turf is the last of its way; that second record is of the turf at which the arrows end.
+pub fn tell(
+    arrows: u32,
+    id: u32,
+    next: u32,
+    mine: f32,
+    theirs: f32,
+    last: bool,
+    used: usize,
+    events: &mut [u8],
+) -> usize
+    requires { ⌜ BackTells mine theirs used (now events) ⌝ }
+    ensures { λ r. ⌜ Wrote (encodeAll (told arrows id next mine theirs last)) used r (now (events .entry)) (now (events .exit)) ⌝ }
+{
+    let tip = tip(arrows, id, next);
     let at = events::append(events, used, Event::HighPressure(id));
     let to = events::append(
         events,
@@ -32,7 +52,7 @@ pub fn tell(id: u32, mine: f32, theirs: f32, last: bool, used: usize, events: &m
             id,
             amount: mine,
             from: id,
-            to: id,
+            to: tip,
         },
     );
     if !last {
@@ -42,10 +62,10 @@ pub fn tell(id: u32, mine: f32, theirs: f32, last: bool, used: usize, events: &m
         events,
         to,
         Event::Difference {
-            id,
+            id: tip,
             amount: theirs,
             from: id,
-            to: id,
+            to: tip,
         },
     )
 }

@@ -1,6 +1,6 @@
 //! Cases with the text's answers as rows that the checker computes by the definitions: crates/judged/specs/Rows.antt.
 
-use crate::small;
+use crate::{small, small_vented};
 use boards::families::with_turns;
 use boards::{Board, Call, Case, Outcome};
 
@@ -49,7 +49,7 @@ fn row(case: &Case, outcome: &Outcome) -> String {
             );
             (format!("{record} {}", words(&ask.turns)), "equalizesAs")
         }
-        Call::Depressurize(walk) => (format!("{} {}", walk.limit, walk.id), "depressurizesAs"),
+        Call::Depressurize(breach) => (format!("(breachOf {} {} {})", breach.id, breach.limit, breach.arrows), "depressurizesAs"),
         Call::PlanetWalk(walk) => (format!("{} {}", walk.limit, walk.id), "walksPlanetAs"),
     };
     let done = outcome.answer[0] == 0;
@@ -70,7 +70,8 @@ fn row(case: &Case, outcome: &Outcome) -> String {
     )
 }
 
-/// The file: so many small boards of every family and call from a seed, each equalize with and without turns.
+/// The file: so many small boards of every family and call from a seed, each equalize with and without turns; then of every family the first on
+/// which arrows towards space make a difference, with both settings.
 pub fn rows(each: u64, seed: u64) -> String {
     let mut cases = Vec::new();
     small(each, seed, |case| {
@@ -79,12 +80,14 @@ pub fn rows(each: u64, seed: u64) -> String {
             cases.push(with_turns(case.clone(), seed));
         }
     });
+    cases.extend(small_vented(seed));
     let rows: Vec<String> = cases.iter().map(|case| row(case, &filled::play::outcome(case))).collect();
     format!(
         "-- {} small boards of every family from seed {seed} with the Rust's answers; written by `beside judged {each} {seed}` in oracle/.
 use mathlib.Core.List.{{List, [], _∷_}}
 use mathlib.Core.Bool.{{Bool}}
 use Rattle.basics.specs.Floats.{{ofWord}}
+use Rattle.rules_depressurize.specs.Depressurize.{{breachOf}}
 use Rattle.judged.specs.Judge.{{equalizesAs, depressurizesAs, walksPlanetAs}}
 
 -- each call answers and leaves what the Rust does

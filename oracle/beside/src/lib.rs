@@ -4,6 +4,7 @@ pub mod judged;
 pub mod lister;
 pub mod outcomes;
 
+use boards::case::with_both_arrows;
 use boards::families::{FAMILIES, case, with_turns};
 use boards::paper::{ask_a, board, rows, six};
 use boards::refusal::refusal;
@@ -21,13 +22,13 @@ pub struct Agreement {
 
 impl Agreement {
     /// Compares one case; the first disagreement is kept.
-    pub fn test(&mut self, label: impl FnOnce() -> String, case: &Case) {
+    pub fn test(&mut self, label: &str, case: &Case) {
         self.boards += 1;
         match refusal(case) {
             0 => {
                 let (text, paper) = (filled::play::play(case), model::play(case));
                 if self.first.is_none() && (text != paper || case.done(&text) != case.done(&paper)) {
-                    self.first = Some(format!("{}: {case:?}\ntext: {text:?}\npaper: {paper:?}", label()));
+                    self.first = Some(format!("{label}: {case:?}\ntext: {text:?}\npaper: {paper:?}"));
                 }
             }
             number => self.refused[number as usize - 1] += 1,
@@ -35,40 +36,47 @@ impl Agreement {
     }
 }
 
-/// Boards of every family and call, so many each, equalize with and without turns; large boards are a fiftieth.
+/// Boards of every family and call, so many each, equalize with and without turns, depressurize with both settings of its arrows; large boards are a
+/// fiftieth.
 pub fn agree(each: u64, seed: u64) -> Agreement {
     let mut agreement = Agreement::default();
     for (family, name) in FAMILIES.into_iter().enumerate() {
         let count = if name == "large" { each.div_ceil(50) } else { each };
         for (call, seed) in (1..=3).flat_map(|call| (seed..seed + count).map(move |seed| (call, seed))) {
-            let label = |turns| format!("{name} call {call} seed {seed}{turns}");
-            let plain = case(family, call, seed);
-            agreement.test(|| label(""), &plain);
+            let (label, plain) = (format!("{name} call {call} seed {seed}"), case(family, call, seed));
+            with_both_arrows(&label, &plain, &mut |label, case| agreement.test(label, case));
             if call == 1 {
-                agreement.test(|| label(" with turns"), &with_turns(plain, seed));
+                agreement.test(&format!("{label} with turns"), &with_turns(plain, seed));
             }
         }
     }
     agreement
 }
 
+/// The families with their names, but for the large boards.
+fn all_but_large() -> impl Iterator<Item = (usize, &'static str)> {
+    FAMILIES.into_iter().enumerate().filter(|family| family.1 != "large")
+}
+
 /// Cases of some calls with the text's answers, as a file of vectors that a program without the Rust replays: the paper's boards, and of
-/// every family the first so many that `fits` lets pass, of ill-formed ones three times as many; of large boards none.
+/// every family the first so many that `fits` lets pass, of ill-formed ones three times as many; of large boards none. Depressurize
+/// with arrows towards space is there too where that makes a difference.
 pub fn vectors(each: u64, seed: u64, calls: &[u32]) -> String {
     let mut file = format!("# {each} boards a family and call from seed {seed}, answered by the Rust text with the FILLED mixture.\n");
-    file += "# Each with no turns, and equalize with turns too. The format: oracle/boards/src/vectors.rs.\n";
+    file += "# Each with no turns, and equalize with turns too; with arrows towards space too where they differ. The format: oracle/boards/src/vectors.rs.\n";
     let mut add = |name: &str, case: &Case| file += &format!("# {name}\n{}", boards::vectors::write(case, &filled::play::outcome(case)));
     rows().iter().filter(|row| calls.contains(&row.case.call.number())).for_each(|row| add(row.name, &row.case));
     if calls.contains(&1) {
         add("six turfs, three givers", &six([20.0, 0.0, 20.0, 0.0, 20.0, 0.0]));
         add("six turfs, two givers", &six([42.0, 0.0, 0.0, 18.0, 0.0, 0.0]));
     }
-    for (family, name) in FAMILIES.into_iter().enumerate().filter(|family| family.1 != "large") {
+    for (family, name) in all_but_large() {
         let count = if matches!(name, "refusals" | "pairs") { 3 * each } else { each };
         for &call in calls {
             let cases = (seed..).map(|seed| (seed, case(family, call, seed))).filter(|(_, case)| fits(case)).take(count as usize);
             for (seed, plain) in cases {
                 add(&format!("{name} {seed}"), &plain);
+                other_arrows(&plain).iter().for_each(|other| add(&format!("{name} {seed} arrows to space"), other));
                 if call == 1 {
                     add(&format!("{name} {seed} with turns"), &with_turns(plain, seed));
                 }
@@ -76,6 +84,11 @@ pub fn vectors(each: u64, seed: u64, calls: &[u32]) -> String {
         }
     }
     file
+}
+
+/// The same case with arrows towards space, where that makes a difference.
+fn other_arrows(case: &Case) -> Option<Case> {
+    case.to_space().filter(|other| filled::play::outcome(other) != filled::play::outcome(case))
 }
 
 /// Two vectors more, which show that the program that replays them can fail: the paper's first board with another number answered than
@@ -119,7 +132,7 @@ fn asked_of_two(board: Board, test: &mut impl FnMut(&Case)) {
             }
         }
         for id in [10, 20] {
-            test(&Case::new(board.clone(), Call::Depressurize(Walk { id, limit }), 0));
+            test(&Case::new(board.clone(), Call::Depressurize(Walk { id, limit }.into()), 0));
             test(&Case::new(board.clone(), Call::PlanetWalk(Walk { id, limit }), 0));
         }
     }
@@ -221,15 +234,26 @@ pub fn deepest(turfs: usize) -> Case {
     Case::new(board, Call::Equalize(Equalize { threshold: 0.0, allowance: u32::MAX, ..ask_a() }), 0)
 }
 
-/// The first so many boards of every family and call that are small enough for the checker to compute: at most 8 turfs, 24 links and 24
-/// amounts. The families that have none so small, of large boards, are left out.
+/// A family's boards of a call from a seed on that are small enough for the checker to compute: at most 8 turfs, 24 links and 24 amounts.
+fn small_of(family: usize, call: u32, seed: u64) -> impl Iterator<Item = Case> {
+    let fits = |case: &Case| case.board.ids.len() <= 8 && case.board.neighbours.len() <= 24 && case.board.amounts.len() <= 24;
+    (seed..seed + 10_000).map(move |seed| case(family, call, seed)).filter(fits)
+}
+
+/// The first so many small boards of every family and call; of large boards none.
 pub fn small(each: u64, seed: u64, mut test: impl FnMut(&Case)) {
-    for (family, name) in FAMILIES.into_iter().enumerate().filter(|family| family.1 != "large") {
+    for (family, name) in all_but_large() {
         for call in 1..=3 {
-            let fits = |case: &Case| case.board.ids.len() <= 8 && case.board.neighbours.len() <= 24 && case.board.amounts.len() <= 24;
-            let cases: Vec<Case> = (seed..seed + 10_000).map(|seed| case(family, call, seed)).filter(fits).take(each as usize).collect();
+            let cases: Vec<Case> = small_of(family, call, seed).take(each as usize).collect();
             assert_eq!(cases.len(), each as usize, "{name}");
             cases.iter().for_each(&mut test);
         }
     }
+}
+
+/// Of every family the first small board on which arrows towards space make a difference, as the text draws them and with these.
+pub fn small_vented(seed: u64) -> Vec<Case> {
+    let pair = |case: Case| other_arrows(&case).map(|other| [case, other]);
+    let first = |(family, name)| small_of(family, 2, seed).find_map(pair).unwrap_or_else(|| panic!("{name}: no arrows"));
+    all_but_large().flat_map(first).collect()
 }

@@ -3,11 +3,12 @@
 use beside::{
     Agreement, Numbers, Published, accepted, agree, deepest, drop_small, heaviest, judged, lister, outcomes, two_turfs, vectors, wrong_vectors,
 };
+use boards::case::with_both_arrows;
 use boards::refusal::refusal;
 use std::process::Command;
 use std::time::Instant;
 
-const HELP: &str = "beside agree EACH SEED       the text against the document's model: EACH boards a family and call
+const HELP: &str = "beside agree EACH SEED       the text against the document's model: EACH boards a family and call, in each setting
 beside two-turfs             the same, every board of two turfs over a set of values
 beside outcomes CALL EACH SEED   cases of a call (equalize, depressurize, planet-walk, every) with what the text leaves, for `library judge`
 beside outcomes limits EACH SEED   the same, boards at each limit and one beyond
@@ -74,7 +75,7 @@ fn main() {
         ("agree", Some(each), Some(seed)) => say("agree", &agree(each, seed)),
         ("two-turfs", None, None) => {
             let mut agreement = Agreement::default();
-            two_turfs(&mut |case| agreement.test(|| "two turfs".to_string(), case));
+            two_turfs(&mut |case| with_both_arrows("two turfs", case, &mut |label, case| agreement.test(label, case)));
             say("two-turfs", &agreement);
         }
         ("outcomes", ..) => {

@@ -1,5 +1,6 @@
 //! Cases with what the text answers and leaves, as packets to standard output, for a program that has only the library to call.
 
+use boards::case::with_both_arrows;
 use boards::families::cases;
 use boards::vectors::{Sink, put};
 use boards::{Case, faults, limits};
@@ -53,7 +54,7 @@ pub fn outcomes(words: &[&str]) -> Option<()> {
             let mut place = 0;
             crate::two_turfs(&mut |case| {
                 if place % step == first {
-                    send(&format!("two turfs, place {place}"), case);
+                    with_both_arrows(&format!("two turfs, place {place}"), case, &mut send);
                 }
                 place += 1;
             });

@@ -2,9 +2,10 @@
 
 use beside::{Numbers, accepted, vectors};
 use boards::events::encode;
-use boards::paper::{ask_a, board, board_a};
+use boards::families::cases;
+use boards::paper::{ask_a, board, board_a, breached_chain};
 use boards::refusal::refusal;
-use boards::{Board, Call, Case, Equalize, Event, model};
+use boards::{Board, Breach, Call, Case, Equalize, Event, Played, model};
 use filled::play::{outcome, play};
 
 fn equalize(board: Board, ask: Equalize) -> Case {
@@ -89,6 +90,53 @@ fn the_domain_is_not_closed() {
     assert_eq!(after.iter().fold(0.0, |a: f32, &b| a.max(b)), 1.25 * most);
     case.board.amounts = after;
     assert_eq!(refusal(&case), 5);
+}
+
+/// The arrows of kind 7: id, amount, from, to.
+fn arrows(played: &Played) -> Vec<(u32, f32, u32, u32)> {
+    let arrow = |event: &Event| if let Event::Difference { id, amount, from, to } = *event { Some((id, amount, from, to)) } else { None };
+    played.events.iter().filter_map(arrow).collect()
+}
+
+/// All else: an arrow keeps only its place and its amount.
+fn without_arrows(mut played: Played) -> Played {
+    for event in &mut played.events {
+        if let Event::Difference { id, from, to, .. } = event {
+            (*id, *from, *to) = (0, 0, 0);
+        }
+    }
+    played
+}
+
+/// The text names the turf itself where it means the next one on the way to space, so its arrows run from a turf to itself; with that word mended
+/// they run to the next turf, and the second one at the end of the way is the space's.
+#[test]
+fn one_word_points_arrows_to_space() {
+    let drawn = |arrows| play(&Case::new(breached_chain(), Call::Depressurize(Breach { id: 10, limit: 2, arrows }), 0));
+    let (text, mended) = (drawn(0), drawn(1));
+    assert_eq!(arrows(&text), [(10, 16.0, 10, 10), (20, 20.0, 20, 20), (20, 20.0, 20, 20)]);
+    assert_eq!(arrows(&mended), [(10, 16.0, 10, 20), (20, 20.0, 20, 30), (30, 20.0, 20, 30)]);
+    assert_eq!(without_arrows(text), without_arrows(mended));
+}
+
+/// On random boards that word changes nothing else, and whatever number isn't 0 asks for it.
+#[test]
+fn only_arrows_change() {
+    let mut changed = 0;
+    cases(2, 100, 1, &mut |label, case| {
+        let Call::Depressurize(breach) = &case.call else { panic!("{label}") };
+        if refusal(case) != 0 || !breach.to_space() {
+            return;
+        }
+        let with = |arrows| play(&Case { call: Call::Depressurize(Breach { arrows, ..breach.clone() }), ..case.clone() });
+        let (text, mended) = (with(0), with(1));
+        assert_eq!(play(case), mended, "{label}");
+        changed += u32::from(text != mended);
+        assert!(arrows(&text).iter().all(|&(id, _, from, to)| id == from && from == to), "{label}");
+        assert!(arrows(&mended).iter().all(|&(id, _, from, to)| from != to && (id == from || id == to)), "{label}");
+        assert_eq!(without_arrows(text), without_arrows(mended), "{label}");
+    });
+    assert!(changed > 100, "{changed}");
 }
 
 /// floor(log2 n), as the text takes it from an f32, is what the leading zeros say.

@@ -1,4 +1,4 @@
-//! Document 01's P1 to P12 and the six-node boards, by the text and by the document's own model.
+//! Document 01's P1 to P12, two boards with arrows towards space, and the six-node boards, by the text and by the document's own model.
 
 use boards::events::encode;
 use boards::paper::{Row, ask_a, board, board_a, rows, six};
@@ -13,7 +13,7 @@ fn p1_to_p12() {
     };
     let rows = rows();
     let wrong: Vec<String> = rows.iter().filter_map(wrong).collect();
-    assert_eq!(rows.len(), 17);
+    assert_eq!(rows.len(), 19);
     assert!(wrong.is_empty(), "{}", wrong.join("\n"));
 }
 
@@ -52,6 +52,6 @@ fn rows_of_the_table() {
     // unknown ids
     assert_eq!(equalized(board_a(), Equalize { hot: vec![11], ..ask_a() }).answer, [0, 0, 0, 2, 0, 1, 0]);
     let walk = Walk { id: 11, limit: 10 };
-    assert_eq!(outcome(&Case::new(board_a(), Call::Depressurize(walk.clone()), 0)).answer, [0, 0, 0]);
+    assert_eq!(outcome(&Case::new(board_a(), Call::Depressurize(walk.clone().into()), 0)).answer, [0, 0, 0]);
     assert_eq!(outcome(&Case::new(board_a(), Call::PlanetWalk(walk), 0)).answer, [0, 0]);
 }

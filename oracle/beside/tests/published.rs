@@ -16,7 +16,8 @@ fn published_drops_small_amounts() {
 /// The published mixture's empty sum is -0.0: a cleared mixture that the next turf shares is summed to the other zero.
 fn published_sums_nothing_to_minus_zero() {
     let chain = board(&[&[1], &[0, 2], &[1]], &[32.0, 0.0]);
-    let case = Case::new(Board { immutable: vec![0, 1], mixtures: vec![0, 0, 1], ..chain }, Call::Depressurize(Walk { id: 10, limit: 10 }), 0);
+    let walk = Walk { id: 10, limit: 10 };
+    let case = Case::new(Board { immutable: vec![0, 1], mixtures: vec![0, 0, 1], ..chain }, Call::Depressurize(walk.into()), 0);
     let rip = |events: Vec<Event>| {
         events.iter().find_map(|event| if let Event::FloorRip { id: 10, amount } = event { Some(amount.to_bits()) } else { None })
     };

@@ -40,17 +40,42 @@ pub struct Equalize {
     pub allowance: u32,
 }
 
-/// What the two walks are lent beside the board.
+/// What the planet walk is lent beside the board.
 #[derive(Clone, Debug, Default, PartialEq)]
 pub struct Walk {
     pub id: u32,
     pub limit: u32,
 }
 
+/// What depressurize is lent beside the board. With arrows 0 those of kind 7 run from a turf to itself, as in the text; else towards space.
+#[derive(Clone, Debug, Default, PartialEq)]
+pub struct Breach {
+    pub id: u32,
+    pub limit: u32,
+    pub arrows: u32,
+}
+
+impl Breach {
+    /// Whether its arrows point towards space.
+    pub fn to_space(&self) -> bool {
+        self.arrows != 0
+    }
+}
+
+/// With the text's arrows.
+impl From<Walk> for Breach {
+    fn from(Walk { id, limit }: Walk) -> Self {
+        Self { id, limit, arrows: 0 }
+    }
+}
+
+/// Numbers that ask for arrows towards space, as all but 0 do.
+const TO_SPACE: [u32; 6] = [u32::MAX, 1, 2, 0x100, 0x8000_0000, 0x1_0000];
+
 #[derive(Clone, Debug, PartialEq)]
 pub enum Call {
     Equalize(Equalize),
-    Depressurize(Walk),
+    Depressurize(Breach),
     PlanetWalk(Walk),
 }
 
@@ -109,4 +134,17 @@ impl Case {
         self.words = (0..room.words as u32).map(|i| i.wrapping_mul(2_654_435_761).wrapping_add(1)).collect();
         self.floats = (0..room.floats as u32).map(|i| f32::from_bits(0x3f00_0000 + i)).collect();
     }
+
+    /// The same case with arrows towards space, if it is depressurize's; which number asks for them is decided by the board's size.
+    pub fn to_space(&self) -> Option<Self> {
+        let Call::Depressurize(breach) = &self.call else { return None };
+        let arrows = TO_SPACE[(self.board.ids.len() + self.board.neighbours.len()) % TO_SPACE.len()];
+        Some(Self { call: Call::Depressurize(Breach { arrows, ..breach.clone() }), ..self.clone() })
+    }
+}
+
+/// Tests a case, and the same with arrows towards space, if it is depressurize's; each with what it is called.
+pub fn with_both_arrows(label: &str, case: &Case, test: &mut impl FnMut(&str, &Case)) {
+    test(label, case);
+    case.to_space().iter().for_each(|other| test(&format!("{label}, arrows to space"), other));
 }

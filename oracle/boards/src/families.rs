@@ -1,6 +1,6 @@
 //! Random boards by family. A family, a call and a seed decide a case, the same on every machine.
 
-use crate::case::{Board, Call, Case, Equalize, Walk};
+use crate::case::{Board, Call, Case, Equalize, Walk, with_both_arrows};
 use crate::faults::spoil;
 use crate::paper::board;
 use crate::random::Random;
@@ -170,7 +170,7 @@ pub fn case(family: usize, call: u32, seed: u64) -> Case {
     let board = family_board(random, name);
     let asked = match call {
         1 => Call::Equalize(equalize(random, name, &board)),
-        2 => Call::Depressurize(walk(random, name, &board)),
+        2 => Call::Depressurize(walk(random, name, &board).into()),
         _ => Call::PlanetWalk(walk(random, name, &board)),
     };
     let mut case = Case::new(board, asked, random.pick(&[0, 0, 1, 40]));
@@ -190,15 +190,15 @@ pub fn with_turns(mut case: Case, seed: u64) -> Case {
     case
 }
 
-/// A call's cases of every family from a seed on, so many each, of large boards a hundredth, and equalize's with turns too; each with what
-/// it is called.
+/// A call's cases of every family from a seed on, so many each, of large boards a hundredth, equalize's with turns too and depressurize's with both
+/// settings of its arrows; each with what it is called.
 pub fn cases(call: u32, each: u64, seed: u64, test: &mut impl FnMut(&str, &Case)) {
     for (family, name) in FAMILIES.into_iter().enumerate() {
         for seed in seed..seed + if name == "large" { each.div_ceil(100) } else { each } {
-            let plain = case(family, call, seed);
-            test(&format!("{name}, call {call}, seed {seed}"), &plain);
+            let (label, plain) = (format!("{name}, call {call}, seed {seed}"), case(family, call, seed));
+            with_both_arrows(&label, &plain, test);
             if call == 1 {
-                test(&format!("{name}, call {call}, seed {seed}, with turns"), &with_turns(plain, seed));
+                test(&format!("{label}, with turns"), &with_turns(plain, seed));
             }
         }
     }

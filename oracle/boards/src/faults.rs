@@ -1,6 +1,6 @@
 //! The ways in which a case can be ill-formed, each with the refusal that is due where it is the only one.
 
-use crate::case::{Board, Call, Case, Equalize};
+use crate::case::{Board, Call, Case, Equalize, with_both_arrows};
 use crate::limits::few;
 use crate::random::Random;
 use crate::refusal::failed;
@@ -136,21 +136,24 @@ fn both(random: &mut Random, well: &Case, faults: [&Fault; 2]) -> Option<Case> {
     })
 }
 
-/// Every fault alone, and every two that break different rules, in tables of every call; each with what it is called and the two numbers, which are one
-/// where it is alone. What is due is the lesser.
+/// Every fault alone, and every two that break different rules, in tables of every call, of depressurize with both settings of its arrows; each with
+/// what it is called and the two numbers, which are one where it is alone. What is due is the lesser.
 pub fn cases(seed: u64, test: &mut impl FnMut(&str, [u32; 2], &Case)) {
     for call in 1..=3 {
         let mut random = Random::new(seed.wrapping_mul(1_000_003).wrapping_add(u64::from(call)));
         let well = few(&mut random, call);
         let faults = &FAULTS[..if call == 1 { FAULTS.len() } else { OF_TABLES }];
+        let mut one = |label: &str, numbers: [u32; 2], case: &Case| {
+            with_both_arrows(&format!("{label}, call {call}, faults {seed}"), case, &mut |label, case| test(label, numbers, case));
+        };
         for (place, first) in faults.iter().enumerate() {
             let mut alone = well.clone();
             (first.make)(&mut random, &mut alone, [1, 1]);
-            test(&format!("{}, call {call}, faults {seed}", first.name), [first.number; 2], &alone);
+            one(first.name, [first.number; 2], &alone);
             for second in faults[place + 1..].iter().filter(|second| second.number != first.number) {
                 let numbers = [first.number.min(second.number), first.number.max(second.number)];
                 if let Some(case) = both(&mut random, &well, [first, second]) {
-                    test(&format!("{} and {}, call {call}, faults {seed}", first.name, second.name), numbers, &case);
+                    one(&format!("{} and {}", first.name, second.name), numbers, &case);
                 }
             }
         }

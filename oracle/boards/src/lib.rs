@@ -18,6 +18,6 @@ pub mod scratch;
 pub mod shapes;
 pub mod vectors;
 
-pub use case::{Board, Call, Case, Equalize, Room, Walk};
+pub use case::{Board, Breach, Call, Case, Equalize, Room, Walk};
 pub use events::Event;
 pub use outcome::{Outcome, Played, Zone};

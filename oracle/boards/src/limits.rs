@@ -1,6 +1,6 @@
 //! Boards at each limit of document 01 and one beyond, on small boards and on those where all else is at its limit too; crowded rows.
 
-use crate::case::{Call, Case, Equalize, Room, Walk};
+use crate::case::{Call, Case, Equalize, Room, Walk, with_both_arrows};
 use crate::paper::board;
 use crate::random::Random;
 use crate::refusal::refusal;
@@ -53,7 +53,7 @@ fn linked(random: &mut Random, call: u32, links: &[Vec<u32>], [turfs, _, mixture
         space.into_iter().for_each(|byte| *byte = u8::from(call == 2));
         planet.into_iter().for_each(|byte| *byte = u8::from(call == 3));
     }
-    let asked = [Call::Equalize(ask), Call::Depressurize(walk.clone()), Call::PlanetWalk(walk)][call as usize - 1].clone();
+    let asked = [Call::Equalize(ask), Call::Depressurize(walk.clone().into()), Call::PlanetWalk(walk)][call as usize - 1].clone();
     Case::new(made, asked, 0)
 }
 
@@ -123,13 +123,13 @@ fn but(mut sizes: Sizes, place: usize, size: usize) -> Sizes {
     sizes
 }
 
-/// Every such board of every call, each with what it is called.
+/// Every such board of every call, of depressurize with both settings of its arrows; each with what it is called.
 pub fn cases(seed: u64, test: &mut impl FnMut(&str, &Case)) {
     for call in 1..=3 {
         let mut random = Random::new(seed.wrapping_mul(1_000_003).wrapping_add(u64::from(call)));
         let mut one = |label: &str, due: u32, case: &Case| {
             assert_eq!(refusal(case), due, "{label}");
-            test(&format!("{label}, call {call}, limits {seed}"), case);
+            with_both_arrows(&format!("{label}, call {call}, limits {seed}"), case, test);
         };
         one("all least", 0, &sized(&mut random, call, LEAST));
         for place in (0..NAMES.len()).filter(|&place| call == 1 || place < 4) {

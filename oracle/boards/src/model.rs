@@ -1,7 +1,7 @@
 //! Document 01's modules 3 to 10 as plain loops over the tables, written from the document and not from the text: the third voice where the
 //! text and the port are compared, and the judge of lists of turns.
 
-use crate::case::{Board, Call, Case, Equalize, Walk};
+use crate::case::{Board, Breach, Call, Case, Equalize, Walk};
 use crate::events::Event;
 use crate::outcome::{Edge, Filling, Played, Rows, Zone, turn_order};
 
@@ -314,7 +314,7 @@ fn equalize(board: &Board, ask: &Equalize) -> Played {
 }
 
 /// The walk that depressurize and the planet walk begin with; `ends` says of a turf whether the walk ends there, or after it.
-fn first_walk(play: &mut Play, walk: &Walk, first: usize, mut visit: impl FnMut(&mut Play, usize) -> Visit) {
+fn first_walk(play: &mut Play, limit: u32, first: usize, mut visit: impl FnMut(&mut Play, usize) -> Visit) {
     let board = play.board;
     let mut queue = Rows::new(first, board.ids.len());
     let mut place = 0;
@@ -327,7 +327,7 @@ fn first_walk(play: &mut Play, walk: &Walk, first: usize, mut visit: impl FnMut(
             Visit::Expand => (true, false),
             Visit::ExpandAndEnd => (true, true),
         };
-        if expand && board.is_enabled(row) && place <= walk.limit as usize {
+        if expand && board.is_enabled(row) && place <= limit as usize {
             for link in board.links(row) {
                 let neighbour = board.neighbours[link] as usize;
                 if queue.insert(neighbour) && play.firelock(link) {
@@ -349,11 +349,11 @@ enum Visit {
 }
 
 /// Module 9.
-fn depressurize(board: &Board, walk: &Walk) -> Played {
+fn depressurize(board: &Board, breach: &Breach) -> Played {
     let mut play = Play::new(board);
-    let Ok(first) = board.ids.binary_search(&walk.id) else { return play.finished() };
+    let Ok(first) = board.ids.binary_search(&breach.id) else { return play.finished() };
     let (mut space, mut planet) = (Vec::new(), false);
-    first_walk(&mut play, walk, first, |play, row| {
+    first_walk(&mut play, breach.limit, first, |play, row| {
         if board.planetary[row] != 0 {
             planet = true;
             Visit::End
@@ -377,7 +377,7 @@ fn depressurize(board: &Board, walk: &Walk) -> Played {
     while place < order.rows.len() {
         let row = order.rows[place];
         place += 1;
-        if place > walk.limit as usize {
+        if place > breach.limit as usize {
             continue;
         }
         for neighbour in play.neighbours(row) {
@@ -388,11 +388,12 @@ fn depressurize(board: &Board, walk: &Walk) -> Played {
             }
         }
     }
-    way_back(&mut play, &order.rows, &direction);
+    way_back(&mut play, &order.rows, &direction, breach.to_space());
     Played { vented: true, ..play.finished() }
 }
 
-fn way_back(play: &mut Play, order: &[usize], direction: &[Option<usize>]) {
+/// Arrows run to the next turf, or else stay with the turf itself; the second one's id is where they run to.
+fn way_back(play: &mut Play, order: &[usize], direction: &[Option<usize>], to_space: bool) {
     let mut amounts = vec![0.0; direction.len()];
     let mut rips = Vec::new();
     for &row in order.iter().rev() {
@@ -403,9 +404,10 @@ fn way_back(play: &mut Play, order: &[usize], direction: &[Option<usize>]) {
         let sum = play.total(next);
         amounts[row] += sum;
         amounts[next] += amounts[row];
-        play.events.push(Event::Difference { id, amount: amounts[row], from: id, to: id });
+        let to = if to_space { play.board.ids[next] } else { id };
+        play.events.push(Event::Difference { id, amount: amounts[row], from: id, to });
         if direction[next].is_none() {
-            play.events.push(Event::Difference { id, amount: amounts[next], from: id, to: id });
+            play.events.push(Event::Difference { id: to, amount: amounts[next], from: id, to });
         }
         rips.push(Event::FloorRip { id, amount: sum });
     }
@@ -417,7 +419,7 @@ fn planet_walk(board: &Board, walk: &Walk) -> Played {
     let mut play = Play::new(board);
     let Ok(first) = board.ids.binary_search(&walk.id) else { return play.finished() };
     let mut planet = false;
-    first_walk(&mut play, walk, first, |_, row| {
+    first_walk(&mut play, walk.limit, first, |_, row| {
         planet |= board.planetary[row] != 0;
         match (board.is_immutable(row), planet) {
             (true, _) => Visit::End,
@@ -432,7 +434,7 @@ fn planet_walk(board: &Board, walk: &Walk) -> Played {
 pub fn play(case: &Case) -> Played {
     match &case.call {
         Call::Equalize(ask) => equalize(&case.board, ask),
-        Call::Depressurize(walk) => depressurize(&case.board, walk),
+        Call::Depressurize(breach) => depressurize(&case.board, breach),
         Call::PlanetWalk(walk) => planet_walk(&case.board, walk),
     }
 }

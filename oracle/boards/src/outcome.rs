@@ -1,6 +1,6 @@
 //! What a call answers and leaves, put together from what was played.
 
-use crate::case::{Board, Call, Case, Walk};
+use crate::case::{Board, Breach, Call, Case};
 use crate::events::{Event, encode};
 
 /// An edge of a zone with its weight.
@@ -109,8 +109,8 @@ pub fn apart(board: &Board, zones: &[Zone]) -> u32 {
 }
 
 /// Whether depressurize's first walk meets a planetary turf: the text doesn't show it, so it is walked here.
-pub fn meets_planet(board: &Board, walk: &Walk) -> bool {
-    let Ok(first) = board.ids.binary_search(&walk.id) else { return false };
+pub fn meets_planet(board: &Board, breach: &Breach) -> bool {
+    let Ok(first) = board.ids.binary_search(&breach.id) else { return false };
     let mut queue = Rows::new(first, board.ids.len());
     let mut place = 0;
     while let Some(&row) = queue.rows.get(place) {
@@ -118,7 +118,7 @@ pub fn meets_planet(board: &Board, walk: &Walk) -> bool {
         if board.planetary[row] != 0 {
             return true;
         }
-        if !board.is_immutable(row) && board.is_enabled(row) && place <= walk.limit as usize {
+        if !board.is_immutable(row) && board.is_enabled(row) && place <= breach.limit as usize {
             for link in board.links(row) {
                 queue.insert(board.neighbours[link] as usize);
             }
@@ -169,8 +169,8 @@ impl Case {
                 let kept = if played.cancelled { [0, 0] } else { [played.zones.len() as u32, apart(&self.board, &played.zones)] };
                 vec![0, played.cancelled.into(), played.processed, played.tests, kept[0], kept[1], bytes.len() as u32]
             }
-            Call::Depressurize(walk) => {
-                let outcome = if played.vented { 2 } else { meets_planet(&self.board, walk).into() };
+            Call::Depressurize(breach) => {
+                let outcome = if played.vented { 2 } else { meets_planet(&self.board, breach).into() };
                 vec![0, outcome, bytes.len() as u32]
             }
             Call::PlanetWalk(_) => vec![0, bytes.len() as u32],

@@ -1,6 +1,6 @@
-//! Document 01's boards and results, P1 to P12 and the six-node boards, as the document gives them.
+//! Document 01's boards and results, P1 to P12 and the six-node boards, as the document gives them; and two boards with arrows towards space.
 
-use crate::case::{Board, Call, Case, Equalize, Walk};
+use crate::case::{Board, Breach, Call, Case, Equalize};
 use crate::events::{Event, encode};
 use crate::outcome::Outcome;
 
@@ -49,6 +49,11 @@ pub fn board_a() -> Board {
     board(&[&[1], &[0]], &[32.0, 16.0])
 }
 
+/// A chain that is open to space at its end, which holds gas too.
+pub fn breached_chain() -> Board {
+    Board { immutable: vec![0, 0, 1], ..board(&[&[1], &[0, 2], &[1]], &[32.0, 16.0, 4.0]) }
+}
+
 /// What board A is asked.
 pub fn ask_a() -> Equalize {
     Equalize { hot: vec![10], turns: vec![], threshold: 0.5, limit: 10, allowance: 100 }
@@ -65,12 +70,39 @@ fn equalize(name: &'static str, board: Board, ask: Equalize, answer: [u32; 6], a
     Row { name, case, answer: numbers, amounts: amounts.to_vec(), events: events.to_vec() }
 }
 
-fn depressurize(name: &'static str, board: Board, limit: u32, answer: [u32; 2], amounts: &[f32], events: &[Event]) -> Row {
-    let case = Case::new(board, Call::Depressurize(Walk { id: 10, limit }), 5);
+fn depressurize(name: &'static str, board: Board, [limit, arrows]: [u32; 2], answer: [u32; 2], amounts: &[f32], events: &[Event]) -> Row {
+    let case = Case::new(board, Call::Depressurize(Breach { id: 10, limit, arrows }), 5);
     Row { name, case, answer: vec![0, answer[0], answer[1]], amounts: amounts.to_vec(), events: events.to_vec() }
 }
 
-/// The rows P1 to P12. An answer is cancelled, processed, tests, zones, apart, bytes; of depressurize, outcome and bytes.
+/// P12's records, whose arrows both run from 10 to this turf.
+fn p12(to: u32) -> [Event; 6] {
+    [
+        Event::Target { id: 20, target: 20 },
+        Event::Target { id: 10, target: 20 },
+        Event::HighPressure { id: 10 },
+        Event::Difference { id: 10, amount: 0.0, from: 10, to },
+        Event::Difference { id: to, amount: 0.0, from: 10, to },
+        Event::FloorRip { id: 10, amount: 0.0 },
+    ]
+}
+
+/// The records of the chain that is open to space, with arrows that point there.
+const CHAIN_TO_SPACE: [Event; 10] = [
+    Event::Target { id: 30, target: 30 },
+    Event::Target { id: 20, target: 30 },
+    Event::Target { id: 10, target: 30 },
+    Event::HighPressure { id: 10 },
+    Event::Difference { id: 10, amount: 16.0, from: 10, to: 20 },
+    Event::HighPressure { id: 20 },
+    Event::Difference { id: 20, amount: 20.0, from: 20, to: 30 },
+    Event::Difference { id: 30, amount: 20.0, from: 20, to: 30 },
+    Event::FloorRip { id: 10, amount: 16.0 },
+    Event::FloorRip { id: 20, amount: 4.0 },
+];
+
+/// The rows P1 to P12, and two with arrows towards space. An answer is cancelled, processed, tests, zones, apart, bytes; of depressurize, outcome
+/// and bytes.
 pub fn rows() -> Vec<Row> {
     let a = board_a;
     let ask = ask_a;
@@ -82,7 +114,6 @@ pub fn rows() -> Vec<Row> {
     let chain = || board(&[&[1], &[0, 2], &[1]], &[64.0, 11.0, 0.0]);
     let twins = || board(&[&[1], &[0], &[3], &[2]], &[32.0, 16.0, 32.0, 16.0]);
     let twin_ask = |turns: Vec<u32>| Equalize { hot: vec![10, 30], turns, ..ask() };
-    let vented = |amount: f32| Event::Difference { id: 10, amount, from: 10, to: 10 };
     vec![
         equalize("P1", a(), ask(), [0, 2, 4, 1, 1, 20], &even, &p1),
         equalize("P2", a(), Equalize { allowance: 4, ..ask() }, [0, 2, 4, 1, 1, 20], &even, &p1),
@@ -113,22 +144,10 @@ pub fn rows() -> Vec<Row> {
         ),
         equalize("P11 turn 1", twins(), twin_ask(vec![1]), [0, 4, 6, 2, 1, 40], &[24.0; 4], &[pressure(1, 8.0, 30, 40), pressure(0, 8.0, 10, 20)]),
         equalize("P11 no turns", twins(), twin_ask(vec![]), [0, 4, 6, 2, 1, 40], &[24.0; 4], &[pressure(0, 8.0, 10, 20), pressure(1, 8.0, 30, 40)]),
-        depressurize(
-            "P12",
-            space(),
-            10,
-            [2, 84],
-            &[0.0, 0.0],
-            &[
-                Event::Target { id: 20, target: 20 },
-                Event::Target { id: 10, target: 20 },
-                Event::HighPressure { id: 10 },
-                vented(0.0),
-                vented(0.0),
-                Event::FloorRip { id: 10, amount: 0.0 },
-            ],
-        ),
-        depressurize("P12 limit 0", space(), 0, [0, 0], &[32.0, 0.0], &[]),
+        depressurize("P12", space(), [10, 0], [2, 84], &[0.0, 0.0], &p12(10)),
+        depressurize("P12 limit 0", space(), [0, 0], [0, 0], &[32.0, 0.0], &[]),
+        depressurize("P12, arrows to space", space(), [10, 1], [2, 84], &[0.0, 0.0], &p12(20)),
+        depressurize("a chain, arrows to space", breached_chain(), [2, 1], [2, 136], &[0.0, 0.0, 4.0], &CHAIN_TO_SPACE),
     ]
 }
 

@@ -10,7 +10,7 @@
 //! | 1 | gases |
 //! | 1 | the list of amounts |
 //! | 3 | how long the event area, the scratch words and the scratch floats are; `Case::lend` says what they hold |
-//! | 5 or 2 | what is asked: of equalize the lists of hot ids and turns, threshold, limit and allowance; of the walks id and limit |
+//! | 5, 3 or 2 | what is asked: of equalize the lists of hot ids and turns, threshold, limit, allowance; of depressurize id, limit, arrows; else id, limit |
 //! | 1 | the list of numbers answered |
 //! | 1 | the list of amounts afterwards |
 //! | 1 | the list of event bytes written; the area's other bytes are unchanged |
@@ -18,7 +18,7 @@
 //!
 //! The program `replay` reads it, into arrays of a fixed size: `fits` says which cases they hold.
 
-use crate::case::{Board, Call, Case, Equalize, Room, Walk};
+use crate::case::{Board, Breach, Call, Case, Equalize, Room, Walk};
 use crate::outcome::{Outcome, bits};
 use std::fmt::Write;
 
@@ -87,7 +87,8 @@ pub fn put(out: &mut impl Sink, case: &Case, outcome: &Outcome) {
             out.words(&ask.turns);
             [ask.threshold.to_bits(), ask.limit, ask.allowance].into_iter().for_each(|n| out.number(n));
         }
-        Call::Depressurize(walk) | Call::PlanetWalk(walk) => [walk.id, walk.limit].into_iter().for_each(|n| out.number(n)),
+        Call::Depressurize(breach) => [breach.id, breach.limit, breach.arrows].into_iter().for_each(|n| out.number(n)),
+        Call::PlanetWalk(walk) => [walk.id, walk.limit].into_iter().for_each(|n| out.number(n)),
     }
     out.words(&outcome.answer);
     out.words(&bits(&outcome.amounts));
@@ -160,7 +161,7 @@ impl Numbers<'_> {
                 limit: self.0.next()?,
                 allowance: self.0.next()?,
             }),
-            2 => Call::Depressurize(Walk { id: self.0.next()?, limit: self.0.next()? }),
+            2 => Call::Depressurize(Breach { id: self.0.next()?, limit: self.0.next()?, arrows: self.0.next()? }),
             _ => Call::PlanetWalk(Walk { id: self.0.next()?, limit: self.0.next()? }),
         };
         let mut case = Case { board, call, events: Vec::new(), words: Vec::new(), floats: Vec::new() };

@@ -39,8 +39,10 @@ pub fn equalize(limit: u32, hot: &BTreeSet<u32>, allowance: u32) -> (usize, bool
     katmos::equalize(limit as usize, hot, (&Instant::now(), Duration::from_millis(u64::from(allowance) + 1)))
 }
 
-pub fn depressurize(id: u32, limit: u32) -> eyre::Result<()> {
-    katmos::explosively_depressurize(id, limit as usize)
+/// The text's `explosively_depressurize`; with arrows towards space, what the shim `tracing` puts beside it.
+pub fn depressurize(id: u32, limit: u32, to_space: bool) -> eyre::Result<()> {
+    let depressurize = if to_space { katmos::depressurize_mended } else { katmos::explosively_depressurize };
+    depressurize(id, limit as usize)
 }
 
 pub fn planet_walk(id: u32, limit: u32) -> eyre::Result<()> {

@@ -193,7 +193,7 @@ impl Supply {
         if call == 1 {
             lent[HOT..EVENTS].fill_with(|| packet.list());
         }
-        let words = if call == 1 { [0; 3].map(|_| packet.number()) } else { [packet.number(), packet.number(), 0] };
+        let words = if call == 3 { [packet.number(), packet.number(), 0] } else { [0; 3].map(|_| packet.number()) };
         let (answer, amounts, written) = (packet.list(), packet.list(), packet.list());
         lent[ANSWER] = &self.garbage[1][..answer.len()];
         let mut due = lent.map(|bytes| [bytes, &[]]);
@@ -226,7 +226,7 @@ fn make(asked: &Asked, a: &[Area; 15], more: usize) -> u32 {
     let (hot, turns) = (&a[HOT], &a[HOT + 1]);
     match asked.call {
         1 => lent!(katmos_equalize, hot.at.cast(), hot.length / 4 + more, turns.at.cast(), turns.length / 4, f32::from_bits(first), second, third),
-        2 => lent!(katmos_depressurize, first, second),
+        2 => lent!(katmos_depressurize, first, second, third),
         _ => lent!(katmos_planet_walk, first, second),
     }
 }

@@ -2,7 +2,7 @@
 
 use boards::guarded::{Guarded, Lent};
 use boards::outcome::bits;
-use boards::{Board, Call, Case, Equalize, Outcome, Walk, call};
+use boards::{Board, Breach, Call, Case, Equalize, Outcome, Walk, call};
 use std::time::Duration;
 
 pub mod bench;
@@ -13,7 +13,7 @@ pub mod stack;
 
 boards::calls! {
     fn katmos_equalize(amounts: *mut f32, amounts_len: usize, hot: *const u32, hot_len: usize, turns: *const u32, turns_len: usize, threshold: f32, limit: u32, allowance: u32);
-    fn katmos_depressurize(amounts: *mut f32, amounts_len: usize, id: u32, limit: u32);
+    fn katmos_depressurize(amounts: *mut f32, amounts_len: usize, id: u32, limit: u32, arrows: u32);
     fn katmos_planet_walk(amounts: *const f32, amounts_len: usize, id: u32, limit: u32);
 }
 
@@ -27,8 +27,8 @@ fn equalize(board: &Board, ask: &Equalize, lent: &mut Lent) -> u32 {
     call!(katmos_equalize, board, lent, *mut f32, hot.as_ptr(), hot.len(), turns.as_ptr(), turns.len(), ask.threshold, ask.limit, ask.allowance)
 }
 
-fn depressurize(board: &Board, walk: &Walk, lent: &mut Lent) -> u32 {
-    call!(katmos_depressurize, board, lent, *mut f32, walk.id, walk.limit)
+fn depressurize(board: &Board, breach: &Breach, lent: &mut Lent) -> u32 {
+    call!(katmos_depressurize, board, lent, *mut f32, breach.id, breach.limit, breach.arrows)
 }
 
 fn planet_walk(board: &Board, walk: &Walk, lent: &mut Lent) -> u32 {
@@ -40,7 +40,7 @@ pub fn outcome(case: &Case) -> Result<Outcome, &'static str> {
     let (board, mut lent) = (case.board.clone(), Lent::new(case, case.refused(0).answer.len()));
     let number = match &case.call {
         Call::Equalize(ask) => equalize(&board, ask, &mut lent),
-        Call::Depressurize(walk) => depressurize(&board, walk, &mut lent),
+        Call::Depressurize(breach) => depressurize(&board, breach, &mut lent),
         Call::PlanetWalk(walk) => planet_walk(&board, walk, &mut lent),
     };
     lent.outcome(number, &board, case)

@@ -11,7 +11,7 @@ use std::time::{Duration, Instant};
 
 const HELP: &str = "library judge [PLACE]        what `beside outcomes` sends, every area at a wall; PLACE: last, first or heap
 library overstep PLACE       a step out of an area, which must fault at a wall
-library walks EACH SEED      depressurize and the planet walk on EACH boards a family, against the text
+library walks EACH SEED      depressurize, with both settings of its arrows, and the planet walk on EACH boards a family, against the text
 library equalize EACH SEED   equalize on EACH boards a family, with and without turns, against the text
 library paper                document 01's boards
 library events COUNT SEED    the reader and the writer on COUNT areas, against the independent ones

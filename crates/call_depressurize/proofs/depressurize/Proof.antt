@@ -27,12 +27,12 @@ same-length-4 : tie.Need-same-length-4
 same-length-4 c = search needs
 
 returns : tie.Need-returns
-returns c = refused _ _ _ _ _ _ (c .before .before .before .before .before .before .none .ensures) (c .before .refusal .ensures) (c .if1 .taken)
+returns c = refused _ _ _ _ _ (c .before .before .before .before .before .before .none .ensures) (c .before .refusal .ensures) (c .if1 .taken)
 
 from-id-requires : tie.Need-from-id-requires
 from-id-requires c κs =
     let args = c .before .before .before .before .before .before .before .before .before .before .before .before .before .before .before .args in
-    is-zero _ (args .limit) (args .id) _ _ _ (c .before .before .before .before .before .before .before .before .before .before .none .ensures) (c .before .before .before .before .before .refusal .ensures) (c .before .before .before .before .if1 .left)
+    is-zero _ (args .breach) _ _ _ (c .before .before .before .before .before .before .before .before .before .before .none .ensures) (c .before .before .before .before .before .refusal .ensures) (c .before .before .before .before .if1 .left)
 
 clear-scratch-requires : tie.Need-clear-scratch-requires
 clear-scratch-requires c κs =
@@ -44,10 +44,10 @@ clear-scratch-requires c κs =
     let floats = c .before .before .before .before .before .floats in
     let b = boardAt (args .rows) (args .marks) (args .gases) in
     let l = lent (now (args .gas)) (now (args .events)) (now (args .words)) (now (args .floats)) in
-    roomy b (args .limit) (args .id) l _ _ (none .ensures) (refusal .ensures) (if1 .left) _ _ (words .given) (floats .given)
+    roomy b (args .breach) l _ _ (none .ensures) (refusal .ensures) (if1 .left) _ _ (words .given) (floats .given)
 
-cast-t37 : tie.Need-cast-t37
-cast-t37 c =
+cast-t36 : tie.Need-cast-t36
+cast-t36 c =
     let args = c .before .before .before .before .before .before .before .before .before .before .before .before .before .before .before .before .before .before .before .before .before .before .before .before .before .before .before .before .before .before .before .before .args in
     let none = c .before .before .before .before .before .before .before .before .before .before .before .before .before .before .before .before .before .before .before .before .before .before .before .before .before .before .before .none in
     let refusal = c .before .before .before .before .before .before .before .before .before .before .before .before .before .before .before .before .before .before .before .before .before .before .refusal in
@@ -55,7 +55,7 @@ cast-t37 c =
     let from-id = c .before .before .before .before .before .before .before .before .before .before .before .before .before .before .before .before .from-id in
     let b = boardAt (args .rows) (args .marks) (args .gases) in
     let l = lent (now (args .gas)) (now (args .events)) (now (args .words)) (now (args .floats)) in
-    omega (arith, few b (args .limit) (args .id) l _ _ (none .ensures) (refusal .ensures) (if1 .left) _ _ _ _ _ (from-id .ensures))
+    omega (arith, few b (args .breach) l _ _ (none .ensures) (refusal .ensures) (if1 .left) _ _ _ _ _ (from-id .ensures))
 
 same-length-5 : tie.Need-same-length-5
 same-length-5 c = search needs
@@ -77,7 +77,7 @@ returns-2 c =
     let if1 = c .before .before .before .before .before .before .before .before .before .before .before .before .before .before .before .before .before .before .before .before .before .if1 in
     let from-id = c .before .before .before .before .before .before .before .before .before .before .before .before .before .before .before .before .from-id in
     let clear = clear-scratch .ensures in
-    answered _ _ _ _ _ _ (none .ensures) (refusal .ensures) (if1 .left) _ _ _ _ _ (from-id .ensures) _ _ (clear .0) (clear .1)
+    answered _ _ _ _ _ (none .ensures) (refusal .ensures) (if1 .left) _ _ _ _ _ (from-id .ensures) _ _ (clear .0) (clear .1)
 
 pub depressurize-spec : {M : Type 1} → statement M
 depressurize-spec =
@@ -92,7 +92,7 @@ depressurize-spec =
     returns
     from-id-requires
     clear-scratch-requires
-    cast-t37
+    cast-t36
     same-length-5
     same-length-6
     same-length-7

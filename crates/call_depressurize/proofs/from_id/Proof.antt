@@ -18,12 +18,12 @@ enum-told : tie.Need-enum-told
 enum-told c = search needs
 
 returns : tie.Need-returns
-returns c = no-turf _ _ (c .before .before .before .before .before .before .before .before .pre) _ _ _ (c .before .before .find .ensures _ refl) (c .enum-told .given .1)
+returns c = no-turf _ _ (c .before .before .before .before .before .before .before .before .pre) (c .before .before .before .before .before .before .before .before .args .breach) _ (c .before .before .find .ensures _ refl) (c .enum-told .given .1)
 
 walk-requires : tie.Need-walk-requires
 walk-requires c κs =
     let z = c .before .before .before .before .before .before .before .before .before .before .before .pre in
-    starts _ _ z _ (turf-row _ _ z (c .before .before .before .before .before .before .before .before .before .before .before .args .limit) _ _ (c .before .before .before .before .before .find .ensures _ refl) _ (c .before .before .before .row .given .1))
+    starts _ _ z _ (turf-row _ _ z (c .before .before .before .before .before .before .before .before .before .before .before .args .breach) _ (c .before .before .before .before .before .find .ensures _ refl) _ (c .before .before .before .row .given .1))
 
 from-walk-requires : tie.Need-from-walk-requires
 from-walk-requires c κs =
@@ -31,7 +31,7 @@ from-walk-requires c κs =
     let find = c .before .before .before .before .before .before .before .before .before .before .before .before .before .before .find in
     let row = c .before .before .before .before .before .before .before .before .before .before .before .before .row in
     let walk = c .before .before .before .before .before .before .before .before .walk in
-    walked _ _ pre _ _ _ (find .ensures _ refl) _ (row .given .1) _ _ _ (walk .ensures)
+    walked _ _ pre (c .before .before .before .before .before .before .before .before .before .before .before .before .before .before .before .before .before .before .before .before .args .breach) _ (find .ensures _ refl) _ (row .given .1) _ _ _ (walk .ensures)
 
 same-length : tie.Need-same-length
 same-length c = search needs
@@ -52,7 +52,7 @@ returns-2 c =
     let row = c .before .before .before .before .before .before .before .before .before .before .before .before .before .before .before .before .before .before .before .before .before .row in
     let walk = c .before .before .before .before .before .before .before .before .before .before .before .before .before .before .before .before .before .walk in
     let from-walk = c .before .before .before .before .before .before .before .before .from-walk in
-    from-turf _ _ pre _ _ _ (find .ensures _ refl) _ (row .given .1) _ _ _ (walk .ensures) _ _ _ _ _ (from-walk .ensures)
+    from-turf _ _ pre (c .before .before .before .before .before .before .before .before .before .before .before .before .before .before .before .before .before .before .before .before .before .before .before .before .before .before .before .before .before .args .breach) _ (find .ensures _ refl) _ (row .given .1) _ _ _ (walk .ensures) _ _ _ _ _ (from-walk .ensures)
 
 pub from-id-spec : {M : Type 1} → statement M
 from-id-spec =

@@ -5,10 +5,10 @@ use Rattle.call_depressurize.proofs.from_walk.Statement.{statement}
 use Rattle.call_depressurize.proofs.from_walk.Tie as tie
 
 returns : tie.Need-returns
-returns c = ended-planet _ _ _ _ _ _ (c .before .before .before .before .before .pre) _ (c .if1 .taken)
+returns c = ended-planet _ _ _ _ _ _ (c .before .before .before .before .before .pre) (c .before .before .before .before .before .args .breach) (c .if1 .taken)
 
 returns-2 : tie.Need-returns-2
-returns-2 c = ended-none _ _ _ _ _ _ (c .before .before .before .before .before .before .before .pre) _ (c .before .before .if1 .left) (c .if2 .taken)
+returns-2 c = ended-none _ _ _ _ _ _ (c .before .before .before .before .before .before .before .pre) (c .before .before .before .before .before .before .before .args .breach) (c .before .before .if1 .left) (c .if2 .taken)
 
 outward-requires : tie.Need-outward-requires
 outward-requires c κs = opens _ _ _ _ _ _ (c .before .before .before .before .before .before .before .before .before .pre)
@@ -19,7 +19,7 @@ way-back-requires c κs =
     let if1 = c .before .before .before .before .before .before .before .before .before .before .before .before .before .if1 in
     let if2 = c .before .before .before .before .before .before .before .before .before .before .before .if2 in
     let outward = c .before .before .before .before .before .before .before .before .outward in
-    back-fits _ _ _ _ _ _ pre _ (if1 .left) (if2 .left) _ _ _ (outward .ensures)
+    back-fits _ _ _ _ _ _ pre (c .before .before .before .before .before .before .before .before .before .before .before .before .before .before .before .before .before .before .args .breach) (if1 .left) (if2 .left) _ _ _ (outward .ensures)
 
 same-length : tie.Need-same-length
 same-length c = search needs
@@ -40,7 +40,7 @@ returns-3 c =
     let if2 = c .before .before .before .before .before .before .before .before .before .before .before .before .before .before .before .before .before .before .before .before .if2 in
     let outward = c .before .before .before .before .before .before .before .before .before .before .before .before .before .before .before .before .before .outward in
     let way-back = c .before .before .before .before .before .before .before .before .way-back in
-    ended-done _ _ _ _ _ _ pre _ (if1 .left) (if2 .left) _ _ _ (outward .ensures) _ _ _ _ _ (way-back .ensures)
+    ended-done _ _ _ _ _ _ pre (c .before .before .before .before .before .before .before .before .before .before .before .before .before .before .before .before .before .before .before .before .before .before .before .before .before .before .before .args .breach) (if1 .left) (if2 .left) _ _ _ (outward .ensures) _ _ _ _ _ (way-back .ensures)
 
 pub from-walk-spec : {M : Type 1} → statement M
 from-walk-spec =

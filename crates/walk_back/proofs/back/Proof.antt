@@ -43,7 +43,7 @@ returns c =
     let p = c .before .before .before .before .before .before .before .before .before .before .before .pre in
     let order = c .before .before .before .before .order-at .ensures in
     let ways = c .before .before .before .ways-at .ensures in
-    (back-skip _ _ _ _ _ _ (p .0 .fit) (p .1) _ _ order ways (c .if1 .taken), omega (arith, p .1))
+    (back-skip _ _ _ _ _ _ (p .0 .fit) (p .1) _ _ order ways _ (c .if1 .taken), omega (arith, p .1))
 
 cast-d : tie.Need-cast-d
 cast-d c = let p = c .before .before .before .before .before .before .before .before .before .before .before .pre in omega (arith, way-below _ _ _ _ _ _ (p .0 .fit) (p .1) _ _ (c .before .before .before .before .order-at .ensures) (c .before .before .before .ways-at .ensures), p .0 .fit .small)
@@ -77,7 +77,7 @@ returns-2 c =
     let back-to = c .before .before .before .before .before .before .before .before .back-to in
     let order = c .before .before .before .before .before .before .before .before .before .before .before .before .before .before .before .before .before .order-at .ensures in
     let ways = c .before .before .before .before .before .before .before .before .before .before .before .before .before .before .before .before .ways-at .ensures in
-    (back-on _ _ _ _ _ _ (p .0 .fit) (p .1) _ _ order ways (if1 .left) (back-to .ensures .0), omega (arith, back-to .ensures .1, p .1))
+    (back-on _ _ _ _ _ _ (p .0 .fit) (p .1) _ _ order ways _ (if1 .left) (back-to .ensures .0), omega (arith, back-to .ensures .1, p .1))
 
 pub back-spec : {M : Type 1} → statement M
 back-spec =

@@ -19,14 +19,14 @@ use Rattle.walk_back.proofs.back_all.Statement.{statement}
 use Rattle.walk_back.proofs.back_all.Tie as tie
 
 abbrev Inv-loop : tie.InvT-loop
-Inv-loop rows marks gases gas₀ words₀ floats₀ events₀ t₀ gas words floats events t =
+Inv-loop arrows rows marks gases gas₀ words₀ floats₀ events₀ t₀ gas words floats events t =
     let b = boardOf rows marks gases in
     let order = region (outSizes (turfCount b)) 2 words₀ in
-    let step = back b (directions (turfCount b) words₀) in
+    let step = back b arrows (directions (turfCount b) words₀) in
     Going (backing b) (run step (reverse (take (t .left) order))) (run step (reverse (take (t₀ .left) order))) (backAt t₀ gas₀ words₀ floats₀ events₀) (backAt t gas words floats events)
 
 abbrev μ-loop : tie.MeasureT-loop
-μ-loop rows marks gases gas₀ words₀ floats₀ events₀ t₀ gas words floats events t = t .left
+μ-loop arrows rows marks gases gas₀ words₀ floats₀ events₀ t₀ gas words floats events t = t .left
 
 loop-holds : tie.Need-loop-holds Inv-loop μ-loop
 loop-holds c = let p = c .before .before .before .before .pre in going-start (backing _) (p .fit) (written-room _ _ (p .fit)) (λ v. refl)
@@ -44,7 +44,7 @@ loop-again c =
     let inv = c .before .before .before .before .before .before .before .before .before .before .before .before .before .before .before .loop .inv in
     let turn = c .before .before .before .before .before .before .before .before .back .ensures in
     let n = turfCount (boardAt (args .rows) (args .marks) 0) in
-    going-next (backing _) _ _ inv (turn-as inv _ (turn .0)) (λ es. back-next _ _ _ _ _ (turn .1) (order-long n _ (now (args .words)) (p .fit .words) (omega (arith, inv .fit .few))))
+    going-next (backing _) _ _ inv (turn-as inv _ _ (turn .0)) (λ es. back-next _ _ _ _ _ (turn .1) (order-long n _ (now (args .words)) (p .fit .words) (omega (arith, inv .fit .few))))
 
 same-length : tie.Need-same-length Inv-loop μ-loop
 same-length c = kept-gas (c .before .before .loop .inv)

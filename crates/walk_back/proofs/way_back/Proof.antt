@@ -18,7 +18,7 @@ rips-requires c κs =
     let pre = c .before .before .before .before .before .before .before .before .before .before .before .before .before .before .before .before .before .before .before .before .before .before .before .before .before .pre in
     let clear-floats = c .before .before .before .before .before .before .before .before .before .before .before .before .before .before .before .before .before .before .clear-floats in
     let back-all = c .before .before .before .before .before .before .before .before .before .before .before .back-all in
-    ripping _ _ _ _ _ _ _ _ pre (clear-floats .ensures) _ _ _ _ _ (back-all .ensures .0)
+    ripping _ _ _ _ _ _ _ _ pre (clear-floats .ensures) _ _ _ _ _ _ (back-all .ensures .0)
 
 same-length : tie.Need-same-length
 same-length c = search needs
@@ -38,7 +38,7 @@ returns c =
     let clear-floats = c .before .before .before .before .before .before .before .before .before .before .before .before .before .before .before .before .before .before .before .before .before .clear-floats in
     let back-all = c .before .before .before .before .before .before .before .before .before .before .before .before .before .before .back-all in
     let rips = c .before .before .rips in
-    backed _ _ _ _ _ _ _ _ pre (clear-floats .ensures) _ _ _ _ _ (back-all .ensures .0) _ _ (rips .ensures)
+    backed _ _ _ _ _ _ _ _ pre (clear-floats .ensures) _ _ _ _ _ _ (back-all .ensures .0) _ _ (rips .ensures)
 
 pub way-back-spec : {M : Type 1} → statement M
 way-back-spec =

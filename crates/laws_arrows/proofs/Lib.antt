@@ -1,0 +1,4 @@
+pub mod Begun
+pub mod Settings
+pub mod Led
+pub mod Leads
