@@ -99,7 +99,7 @@ fn walked() -> Played {
 fn depressurize(board: &Board, breach: &Breach) -> Played {
     load(board);
     watch::begin(0.0, false, false);
-    processing::depressurize(breach.id, breach.limit, breach.to_space()).expect("the game answers");
+    processing::depressurize(breach.id, breach.limit, breach.is_to_space()).expect("the game answers");
     walked()
 }
 

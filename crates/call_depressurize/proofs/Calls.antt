@@ -179,7 +179,7 @@ module _ (b : Board) (l : Lent) (z : refusal b l (84 * turfCount b) noExtra ≡ 
 
         line : Line b (take (s .spaces) (region (outSizes m) 2 w₁))
         unfolding walkOf
-        line = subst (λ (v : Walk). Line b (v .space)) (sym view) (space-walk b (passed b l (84 * m) noExtra z .board) (v .limit) row turf-row .space)
+        line = subst (λ (x : Walk). Line b (x .space)) (sym view) (space-walk b (passed b l (84 * m) noExtra z .board) (v .limit) row turf-row .space)
 
         pub walked : WalkHeld b s (backAreas (l .gas) w₁ (l .floats) e₁)
         walked =

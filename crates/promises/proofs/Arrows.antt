@@ -8,7 +8,6 @@ use Prim.Native.Nat.{ℕ}
 use lib.Dec.{eqb}
 use lib.ListN.{drop}
 use lib.Seq.{drop-at}
-use borrow.Author.Tests.{eqb-true}
 use Rattle.basics.specs.Lists.{All}
 use Rattle.rules_board.specs.Board.{Board}
 use Rattle.rules_events.specs.Events.{encodeAll}
@@ -25,7 +24,7 @@ use Rattle.laws_arrows.specs.Arrows.{asLoop, looped, ArrowIs, LeadsOut}
 use Rattle.laws_arrows.proofs.Settings.{size-kept, settings-agree}
 use Rattle.laws_arrows.proofs.Leads.{arrows-lead}
 use Rattle.promises.specs.Arrows.{depressurizeEvents, SameButArrows}
-use Rattle.promises.proofs.ReadBack.{katmos-depressurize-reads}
+use Rattle.promises.proofs.ReadBack.{depressurize-done, katmos-depressurize-reads}
 
 -- ---- results
 
@@ -38,16 +37,6 @@ record Alike (o o′ : Result DepressurizeAnswer) : Type 0 where
   rest : drop (o .answer .bytes) (o .lent .area) ≡ drop (o′ .answer .bytes) (o′ .lent .area)
 
 module _ (b : Board) (l : Lent) where
-  -- the number is that of the refusals
-  number-is : (q : Breach) → depressurizeResult b q l .answer .number ≡ depressurizeNumber b q l
-  unfolding depressurizeResult depressurizeDone
-  number-is q = go (eqb (depressurizeNumber b q l) 0) refl
-    where
-      go : (t : Bool) → eqb (depressurizeNumber b q l) 0 ≡ t
-          → cond t (depressurizeDone b q l (depressurize b (l .gas) q)) (record { answer = record { number = depressurizeNumber b q l; outcome = 0; bytes = 0 }; lent = l }) .answer .number ≡ depressurizeNumber b q l
-      go true e = sym (eqb-true (depressurizeNumber b q l) 0 e)
-      go false e = refl
-
   -- a call that was refused leaves what it was lent
   refused-left : (q : Breach) → depressurizeResult b q l .answer .number ≢ 0 → depressurizeResult b q l .lent ≡ l
   unfolding depressurizeResult depressurizeDone
@@ -127,5 +116,5 @@ module _ (b : Board) (l : Lent) (id limit : ℕ) where
   unfolding depressurizeNumber
   katmos-arrows-lead arrows n a left x z out =
       let q = breachOf id limit arrows in
-      let p = passed b l (depressurizeRoom b) noExtra (sym (number-is b l q) ∙ sym (x .returned) ∙ z) in
+      let p = passed b l (depressurizeRoom b) noExtra (depressurize-done b l q (depressurizeResult b q l) refl (sym (x .returned) ∙ z) .0) in
       subst (λ (es : List Event). All (ArrowIs (LeadsOut b es)) es) (sym (found arrows n a left x z)) (arrows-lead b (p .board) (l .gas) id limit arrows out)

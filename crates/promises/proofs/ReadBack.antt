@@ -57,6 +57,14 @@ equalize-done b l q turns o p z =
     let d = done-is (equalizeNumber b q turns l) _ (equalizeDone b q turns l (equalize b (l .gas) q turns)) (λ (x : Result EqualizeAnswer). x .answer .number) refl (sym (ap (λ (x : Result EqualizeAnswer). x .answer .number) p) ∙ z) in
     (d .0, p ∙ d .1)
 
+-- the same of depressurize
+pub depressurize-done : (b : Board) (l : Lent) (q : Breach) (o : Result DepressurizeAnswer) → o ≡ depressurizeResult b q l → o .answer .number ≡ 0
+    → (depressurizeNumber b q l ≡ 0) × (o ≡ depressurizeDone b q l (depressurize b (l .gas) q))
+unfolding depressurizeResult
+depressurize-done b l q o p z =
+    let d = done-is (depressurizeNumber b q l) _ (depressurizeDone b q l (depressurize b (l .gas) q)) (λ (x : Result DepressurizeAnswer). x .answer .number) refl (sym (ap (λ (x : Result DepressurizeAnswer). x .answer .number) p) ∙ z) in
+    (d .0, p ∙ d .1)
+
 module _ (b : Board) (ids : Words (b .ids)) (l : Lent) where
   -- what equalize wrote is read back
   pub equalize-reads : (q : Ask) (turns : List ℕ) (o : Result EqualizeAnswer) → o ≡ equalizeResult b q turns l → o .answer .number ≡ 0
@@ -69,11 +77,11 @@ module _ (b : Board) (ids : Words (b .ids)) (l : Lent) where
 
   -- what depressurize wrote is read back
   pub depressurize-reads : (q : Breach) (o : Result DepressurizeAnswer) → o ≡ depressurizeResult b q l → o .answer .number ≡ 0 → ReadsBack (take (o .answer .bytes) (o .lent .area)) (depressurize b (l .gas) q .events)
-  unfolding depressurizeResult depressurizeNumber depressurizeDone after
+  unfolding depressurizeNumber depressurizeDone after
   depressurize-reads q o p z =
-      let d = done-is (depressurizeNumber b q l) _ (depressurizeDone b q l (depressurize b (l .gas) q)) (λ (x : Result DepressurizeAnswer). x .answer .number) refl (sym (ap (λ (x : Result DepressurizeAnswer). x .answer .number) p) ∙ z) in
+      let d = depressurize-done b l q o p z in
       let a = passed b l (depressurizeRoom b) noExtra (d .0) .board in
-      rw (p ∙ d .1) (starts-with (depressurize b (l .gas) q .events) _ (depressurize-call b ids l q (d .0)) (omega (arith, depressurize-room b a (l .gas) q, a .turfs .1)))
+      rw (d .1) (starts-with (depressurize b (l .gas) q .events) _ (depressurize-call b ids l q (d .0)) (omega (arith, depressurize-room b a (l .gas) q, a .turfs .1)))
 
   -- what the planet walk wrote is read back
   pub planet-reads : (limit id : ℕ) (o : Result PlanetAnswer) → o ≡ planetResult b limit id l → o .answer .number ≡ 0 → ReadsBack (take (o .answer .bytes) (o .lent .area)) (planetWalk b limit id)

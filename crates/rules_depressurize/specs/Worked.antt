@@ -33,7 +33,7 @@ depressurizes b q gas outcome bytes gas′ es =
     ∷ [])
 
 -- the records of a chain whose last turf is space, around those of the way back
-abbrev chainEvents : List Event → List Event
+abbrev pub chainEvents : List Event → List Event
 chainEvents es = (Firelock 10 20 ∷ Firelock 20 30 ∷ Target 30 30 ∷ Target 20 30 ∷ Target 10 30 ∷ []) ++ (es ++ (FloorRip 10 (ofCount 16) ∷ FloorRip 20 (ofCount 4) ∷ []))
 
 pub worked : T (allOf (

@@ -21,8 +21,8 @@ use Rattle.rules_equalize.specs.Worked.{ask, limited, allowed, threshold, done,
 use Rattle.rules_planet.specs.Planet.{planetRoom}
 use Rattle.rules_planet.specs.Worked.{walksPlanet}
 use Rattle.rules_depressurize.specs.Depressurize.{breachOf, depressurizeRoom}
-use Rattle.rules_depressurize.specs.Worked.{depressurizes}
-use Rattle.rules_back.specs.Worked.{difference}
+use Rattle.rules_depressurize.specs.Worked.{depressurizes, chainEvents}
+use Rattle.rules_back.specs.Worked.{difference, loopsOfChain}
 
 -- which turfs have the fast mark after planning
 unfoldable pub marks : Board → Ask → List Float → List ℕ → Bool
@@ -76,10 +76,10 @@ documentRows =
     -- P12: limit 10, then limit 0
     ∷ depressurizes (pairWith (space twenty)) (breachOf 10 10 0) (32 ∷ 0 ∷ []) 2 84 (0 ∷ 0 ∷ [])
     (Target 20 20 ∷ Target 10 20 ∷ HighPressure 10 ∷ difference 10 0 ∷ difference 10 0 ∷ FloorRip 10 0f ∷ [])
+    ∷ depressurizes (pairWith (space twenty)) (breachOf 10 0 0) (32 ∷ 0 ∷ []) 0 0 (32 ∷ 0 ∷ []) []
     -- P12 with arrows towards space
     ∷ depressurizes (pairWith (space twenty)) (breachOf 10 10 1) (32 ∷ 0 ∷ []) 2 84 (0 ∷ 0 ∷ [])
     (Target 20 20 ∷ Target 10 20 ∷ HighPressure 10 ∷ Difference 10 0f 10 20 ∷ Difference 20 0f 10 20 ∷ FloorRip 10 0f ∷ [])
-    ∷ depressurizes (pairWith (space twenty)) (breachOf 10 0 0) (32 ∷ 0 ∷ []) 0 0 (32 ∷ 0 ∷ []) []
     -- six nodes, three givers: fast pass; two givers: none
     ∷ marks six (ask (1 ∷ [])) (whole (20 ∷ 0 ∷ 20 ∷ 0 ∷ 20 ∷ 0 ∷ [])) (replicate 6 1)
     ∷ marks six (ask (1 ∷ [])) (whole (30 ∷ 30 ∷ 0 ∷ 0 ∷ 0 ∷ 0 ∷ [])) (replicate 6 0)
@@ -176,11 +176,7 @@ ruleRows =
     -- a break at the planet limit leaves a turf in two zones: not apart
     ∷ equalizes (draw (planet (turf 10 (to 1 ∷ [])) ∷ twenty ∷ [])) (limited 0 (ask (10 ∷ 20 ∷ []))) [] (whole (32 ∷ 16 ∷ [])) (done 3 4 2 0 0) (whole (32 ∷ 16 ∷ [])) []
     -- kind 4; the limit counts from 1 on both walks
-    ∷ depressurizes (lockedChain asIs space) (breachOf 10 2 0) (32 ∷ 16 ∷ 4 ∷ []) 2 160 (0 ∷ 0 ∷ 4 ∷ [])
-    (Firelock 10 20 ∷ Firelock 20 30 ∷ Target 30 30 ∷ Target 20 30 ∷ Target 10 30
-    ∷ HighPressure 10 ∷ difference 10 16
-    ∷ HighPressure 20 ∷ difference 20 20 ∷ difference 20 20
-    ∷ FloorRip 10 (ofCount 16) ∷ FloorRip 20 (ofCount 4) ∷ [])
+    ∷ depressurizes (lockedChain asIs space) (breachOf 10 2 0) (32 ∷ 16 ∷ 4 ∷ []) 2 160 (0 ∷ 0 ∷ 4 ∷ []) (chainEvents loopsOfChain)
     -- the limit on the way out
     ∷ depressurizes (draw (turf 10 (to 1 ∷ []) ∷ turf 20 (to 0 ∷ to 2 ∷ []) ∷ space (turf 30 (to 1 ∷ [])) ∷ [])) (breachOf 20 1 0) (32 ∷ 16 ∷ 4 ∷ []) 2 84 (32 ∷ 0 ∷ 4 ∷ [])
     (Target 30 30 ∷ Target 20 30 ∷ HighPressure 20 ∷ difference 20 4 ∷ difference 20 4 ∷ FloorRip 20 (ofCount 4) ∷ [])

@@ -125,7 +125,7 @@ fn only_arrows_change() {
     let mut changed = 0;
     cases(2, 100, 1, &mut |label, case| {
         let Call::Depressurize(breach) = &case.call else { panic!("{label}") };
-        if refusal(case) != 0 || !breach.to_space() {
+        if refusal(case) != 0 || !breach.is_to_space() {
             return;
         }
         let with = |arrows| play(&Case { call: Call::Depressurize(Breach { arrows, ..breach.clone() }), ..case.clone() });

@@ -57,7 +57,7 @@ pub struct Breach {
 
 impl Breach {
     /// Whether its arrows point towards space.
-    pub fn to_space(&self) -> bool {
+    pub fn is_to_space(&self) -> bool {
         self.arrows != 0
     }
 }

@@ -388,7 +388,7 @@ fn depressurize(board: &Board, breach: &Breach) -> Played {
             }
         }
     }
-    way_back(&mut play, &order.rows, &direction, breach.to_space());
+    way_back(&mut play, &order.rows, &direction, breach.is_to_space());
     Played { vented: true, ..play.finished() }
 }
 
