@@ -1,4 +1,6 @@
 // Whether the kept zones are apart: one pass over their nodes, which marks each changeable mixture with the zone that has it.
+#![tactic(auto)]
+
 ghost use Rattle.std.specs.Prelude.{◌≡◌, List, ℕ, ◌+◌, ◌<◌, get_or};
 ghost use Rattle.rules_board.specs.Board.{turf_count, link_count, mixture_count, mix_of, immutable_mix};
 ghost use Rattle.turfs.specs.Tables.{board_at};

@@ -1,10 +1,12 @@
 // What every other crate leans on: the answer of a search, and the work area that a caller lends, one list of words that holds several
 // arrays side by side. The loops of the definitions and their laws stand in specs/ and proofs/.
+#![tactic(auto)]
+
 ghost use Rattle.std.specs.Prelude.{◌≡◌, ◌++◌, ◌+◌, ◌≤◌, length, take, drop, replicate};
 ghost use Rattle.basics.specs.Floats.{0f};
 
 // What a search answers: definitions and code share it.
-#[derive(Drop)]
+#[derive(Clone, Copy)]
 pub enum Spot {
     At(usize),
     Nowhere,

@@ -1,4 +1,6 @@
 // The answers as the numbers of the C interface, in its order.
+#![tactic(auto)]
+
 ghost use Rattle.std.specs.Prelude.{◌≡◌};
 ghost use Rattle.call_answers.specs.Answers.{equalize_numbers, planet_numbers, depressurize_numbers};
 

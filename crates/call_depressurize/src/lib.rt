@@ -1,4 +1,6 @@
 // `explosively_depressurize`, module 9 of document 01: the walk to space, out from space, and back.
+#![tactic(auto)]
+
 ghost use Rattle.std.specs.Prelude.{◌≡◌, ◌*◌};
 ghost use Rattle.rules_board.specs.Board.{turf_count};
 ghost use Rattle.turfs.specs.Tables.{board_at};
@@ -17,7 +19,7 @@ use turfs::{IDS, Marks, Rows};
 use walk_links::Reach;
 
 // How it ended, and how many event bytes are written.
-#[derive(Drop)]
+#[derive(Clone, Copy)]
 pub struct Outcome {
     pub outcome: u32,
     pub used: usize,

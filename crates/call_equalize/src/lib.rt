@@ -1,4 +1,6 @@
 // `equalize` as a whole call: refusals, filling, planning, finishing by turns, the answer. Its definition is `equalize_result` of crate rules_equalize.
+#![tactic(auto)]
+
 ghost use Rattle.std.specs.Prelude.{◌≡◌};
 ghost use Rattle.turfs.specs.Tables.{board_at};
 ghost use Rattle.rules_lent.specs.Lent.{Lent};
@@ -21,7 +23,7 @@ const REQUESTS: u8 = 16;
 const PRESSURE: u8 = 20;
 
 // What the parts came to.
-#[derive(Drop)]
+#[derive(Clone, Copy)]
 pub struct Outcome {
     pub cancelled: u32,
     pub processed: usize,

@@ -1,4 +1,6 @@
 // `planet_equalize`: the planet walk, module 10 of document 01.
+#![tactic(auto)]
+
 ghost use Rattle.std.specs.Prelude.{◌≡◌};
 ghost use Rattle.basics.specs.Regions.{region};
 ghost use Rattle.rules_board.specs.Board.{turf_count};

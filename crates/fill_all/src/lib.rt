@@ -1,4 +1,6 @@
 // Filling: zones from the hot turfs. Its definition is `filled_all` of crate rules_equalize; specs/Held.antt says how the work areas hold it.
+#![tactic(auto)]
+
 ghost use Rattle.std.specs.Prelude.{◌≡◌, true, List, ℕ, ◌≤◌, length};
 ghost use Rattle.basics.specs.Floats.{finite_sign_clear};
 ghost use Rattle.rules_board.specs.Board.{turf_count, link_count};
@@ -16,7 +18,7 @@ use rules_fill::{Going, Settings};
 use turfs::{IDS, Marks, NEIGHBOURS, Rows, STARTS};
 
 // What filling has come to: zones kept, the nodes that they have in all, clock tests, bytes of events, whether the clock ran out.
-#[derive(Drop)]
+#[derive(Clone, Copy)]
 pub struct Filling {
     pub zones: usize,
     pub nodes: usize,

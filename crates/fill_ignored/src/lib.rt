@@ -1,4 +1,6 @@
 // An ignored zone gives its links back.
+#![tactic(auto)]
+
 ghost use Rattle.std.specs.Prelude.{◌≡◌, ◌+◌, ◌≤◌, ◌<◌, length, get_or};
 ghost use Rattle.fill_ignored.specs.Held.{give_back, GaveBack};
 ghost use Rattle.fill_ignored.specs.Asked.{Spans, PushedFits};

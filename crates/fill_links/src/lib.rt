@@ -1,4 +1,6 @@
 // `flood_fill_zones`: one zone, from one turf. Its definition stands in crate rules_fill; specs/Held.antt says how the work area holds it.
+#![tactic(auto)]
+
 ghost use Rattle.std.specs.Prelude.{◌≡◌, not, ◌&&◌, ℕ, ◌+◌, ◌≤◌, ◌<◌, eqb, length, get_or};
 ghost use Rattle.basics.specs.Loops.{run};
 ghost use Rattle.rules_board.specs.Board.{turf_count, link_count, links_of, lock_bit};
@@ -15,7 +17,7 @@ use turfs::{
 };
 
 // How far a walk over links has come: rows pushed, nodes of the zone, `ignore_zone`, bytes of events.
-#[derive(Drop)]
+#[derive(Clone, Copy)]
 pub struct Reached {
     pub queued: usize,
     pub nodes: usize,
@@ -24,14 +26,14 @@ pub struct Reached {
 }
 
 // The zone that is filled: its number, and how many nodes the zones kept before it have.
-#[derive(Drop)]
+#[derive(Clone, Copy)]
 pub struct Slot {
     pub z: u32,
     pub kept: usize,
 }
 
 // The neighbour at the end of a link: its row, whether it is enabled, immutable, planetary across a firelock.
-#[derive(Drop)]
+#[derive(Clone, Copy)]
 pub struct Met {
     pub row: u32,
     pub on: bool,

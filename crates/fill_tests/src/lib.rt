@@ -1,4 +1,6 @@
 // Whether a hot turf is passed over: the tests that it must pass before a zone is filled from it.
+#![tactic(auto)]
+
 ghost use Rattle.std.specs.Prelude.{◌≡◌, true, ◌||◌, ◌-◌, ◌≤◌, ◌<◌, eqb, length};
 ghost use Rattle.std.specs.Float.Ieee.{lt};
 ghost use Rattle.basics.specs.Loops.{every, up_from};

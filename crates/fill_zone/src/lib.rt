@@ -1,4 +1,6 @@
 // One zone: `flood_fill_zones` pop by pop.
+#![tactic(auto)]
+
 ghost use Rattle.std.specs.Prelude.{◌≡◌, not, ◌&&◌, ◌||◌, ℕ, ◌+◌, ◌≤◌, ◌<◌, eqb, ltb, length};
 ghost use Rattle.rules_board.specs.Board.{turf_count, link_count};
 ghost use Rattle.turfs.specs.Tables.{board_at, Accepted};
@@ -11,7 +13,7 @@ use rules_fill::{Going, Settings};
 use turfs::{IDS, MIXTURES, Marks, NEIGHBOURS, PLANETARY, Rows};
 
 // How far a fill has come.
-#[derive(Drop)]
+#[derive(Clone, Copy)]
 pub struct Flood {
     pub reach: Reached,
     pub popped: usize,
@@ -22,7 +24,7 @@ pub struct Flood {
 }
 
 // Where a fill starts: from the turf at `row`, as zone z after zones that have `kept` nodes, with so many bytes written and clock tests made.
-#[derive(Drop)]
+#[derive(Clone, Copy)]
 pub struct Seed {
     pub row: u32,
     pub z: u32,

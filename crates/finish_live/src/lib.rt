@@ -1,4 +1,6 @@
 // The unfinished zones, ascending, as the words of n turfs and e links hold them: which they are at first, and how a finished one leaves them.
+#![tactic(auto)]
+
 ghost use Rattle.std.specs.Prelude.{◌+◌, ◌≤◌, ◌<◌, length};
 ghost use Rattle.scratch.specs.Layout.{Sizes};
 ghost use Rattle.finish_zones.specs.Zones.{Laid, AllLaid};

@@ -1,5 +1,7 @@
 // What a turf does with its own edges when it is finished: weights are lifted, and a lifted weight above 0 is sent. Of n turfs and e links the words hold
 // by link the owner and the reverse; the floats hold by link the weight, two arrays by row, and from `up` on by link the lifted weight.
+#![tactic(auto)]
+
 ghost use Rattle.std.specs.Prelude.{◌≡◌, ◌&&◌, ◌+◌, ◌*◌, ◌-◌, ◌≤◌, ◌<◌, length, get_or};
 ghost use Rattle.std.specs.Float.{nan};
 ghost use Rattle.std.specs.Float.Ieee.{lt};
@@ -17,7 +19,7 @@ use rules_events::Event;
 use turfs::{IDS, IMMUTABLE, MIXTURES, Marks, NEIGHBOURS, Rows};
 
 // The turf in hand: its row, its zone, and the board's number of gases.
-#[derive(Drop)]
+#[derive(Clone, Copy)]
 pub struct Turf {
     pub row: usize,
     pub zone: u32,
@@ -25,7 +27,7 @@ pub struct Turf {
 }
 
 // Links from one up to another, and whether sending stops where the turf is short.
-#[derive(Drop)]
+#[derive(Clone, Copy)]
 pub struct Span {
     pub from: usize,
     pub to: usize,
@@ -33,7 +35,7 @@ pub struct Span {
 }
 
 // What goes over a link: the link, the amount, and the total that the turf has.
-#[derive(Drop)]
+#[derive(Clone, Copy)]
 pub struct Load {
     pub link: usize,
     pub amount: f32,
@@ -41,7 +43,7 @@ pub struct Load {
 }
 
 // Where sending stopped, and the bytes written.
-#[derive(Drop)]
+#[derive(Clone, Copy)]
 pub struct Sent {
     pub at: usize,
     pub used: usize,

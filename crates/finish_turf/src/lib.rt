@@ -1,6 +1,8 @@
 // `finalize_eq` and `finalize_eq_neighbors`, which call each other. A call of the second comes after a turf's weights were lifted, one of them above 0, so
 // the number of unfinished nodes of the zone falls: of turfs that have an edge with a weight above 0. What a turf sends is in functions of its own, so that a
 // turf in the cycle takes little of the stack.
+#![tactic(auto)]
+
 ghost use Rattle.std.specs.Prelude.{◌≡◌, ◌<◌};
 ghost use Rattle.turfs.specs.Tables.{board_at};
 ghost use Rattle.finish_send.specs.Areas.{finish_areas_at};

@@ -1,4 +1,6 @@
 // The turns: which node of which zone is finished next, by what the words hold of the zones.
+#![tactic(auto)]
+
 ghost use Rattle.std.specs.Prelude.{◌≡◌};
 ghost use Rattle.rules_board.specs.Board.{turf_count, link_count};
 ghost use Rattle.turfs.specs.Tables.{board_at};
@@ -10,7 +12,7 @@ use finish_send::Turf;
 use turfs::{IDS, Marks, NEIGHBOURS, Rows};
 
 // What a turn leaves: unfinished zones, bytes written.
-#[derive(Drop)]
+#[derive(Clone, Copy)]
 pub struct Left {
     pub live: usize,
     pub used: usize,

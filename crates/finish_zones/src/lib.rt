@@ -1,4 +1,6 @@
 // A zone in its turns, as the words of n turfs and e links hold it: its nodes, and how many of them had their turn.
+#![tactic(auto)]
+
 ghost use Rattle.std.specs.Prelude.{◌≡◌, ◌+◌, ◌<◌, get_or, set};
 ghost use Rattle.scratch.specs.Layout.{Sizes, turns_at, live_at};
 ghost use Rattle.finish_zones.specs.Zones.{node_count_of, zone_nodes, turns_of, Laid, ZoneOpen, Live};

@@ -1,4 +1,6 @@
 // The C interface: each function writes its answer into an array and returns the number, which is the answer's first.
+#![tactic(auto)]
+
 ghost use Rattle.rules_board.specs.Board.{board};
 ghost use Rattle.lent.specs.Given.{lent_at};
 ghost use Rattle.rules_equalize.specs.Equalize.{ask_of};

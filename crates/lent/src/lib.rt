@@ -1,4 +1,6 @@
 // When a call is refused: its tables, its gas, what only equalize is lent, its areas, in this order.
+#![tactic(auto)]
+
 ghost use Rattle.std.specs.Prelude.{◌≡◌};
 ghost use Rattle.turfs.specs.Tables.{board_at};
 ghost use Rattle.rules_lent.specs.Lent.{Extra, no_extra, refusal};
@@ -9,7 +11,7 @@ use lent_room::Room;
 use turfs::{IDS, Marks, Rows};
 
 // What only equalize is lent, and tests itself: the sizes of the hot ids and of the turns, the threshold, the order of the hot ids.
-#[derive(Drop)]
+#[derive(Clone, Copy)]
 pub struct ExtraTests {
     pub sizes: bool,
     pub threshold: bool,

@@ -1,4 +1,6 @@
 // What only equalize is lent, tested; and a mark as the number that it answers.
+#![tactic(auto)]
+
 ghost use Rattle.std.specs.Prelude.{◌≡◌, List, ℕ, ◌&&◌, leb, length};
 ghost use Rattle.lent.specs.Given.{Tests};
 ghost use Rattle.rules_equalize.specs.Equalize.{bit};

@@ -1,4 +1,6 @@
 // The areas that a call is lent: how much room it needs, refusal 7, and the clearing of its scratch.
+#![tactic(auto)]
+
 ghost use Rattle.std.specs.Prelude.{◌≡◌, [], ◌∷◌, leb};
 ghost use Rattle.basics.specs.Loops.{all_of};
 ghost use Rattle.basics.specs.Floats.{0f};
@@ -25,7 +27,7 @@ pub fn floats_room(rows: &Rows) -> usize
 }
 
 // The event bytes that a call may write for each turf, and for each link.
-#[derive(Drop)]
+#[derive(Clone, Copy)]
 pub struct Room {
     pub per_turf: u8,
     pub per_link: u8,

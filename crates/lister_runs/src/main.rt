@@ -1,4 +1,6 @@
 // The lister's rules, one stored input each, listed one after the other with a line of dashes between.
+#![tactic(auto)]
+
 const BETWEEN: [u8; 3] = [b'-', b'-', 10];
 
 // An event of each kind: an id of ten digits, an amount with every hex digit among them.

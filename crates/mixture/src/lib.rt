@@ -1,5 +1,7 @@
 // Mixtures: their totals, and the test of the amounts. Amounts lie mixture by mixture in one list, so a mixture is the part of `gases` amounts
 // that starts at its row times `gases`.
+#![tactic(auto)]
+
 ghost use Rattle.std.specs.Prelude.{◌≡◌, ◌<◌, length, get_or};
 ghost use Rattle.basics.specs.Loops.{every};
 ghost use Rattle.basics.specs.Floats.{finite_sign_clear};

@@ -1,4 +1,6 @@
 // What changes mixtures: the move of air between two of them, a removal and a merge, and clearing.
+#![tactic(auto)]
+
 ghost use Rattle.std.specs.Prelude.{◌≡◌, ◌<◌, length};
 ghost use Rattle.rules_board.specs.Board.{Board};
 ghost use Rattle.rules_mixture.specs.Mixture.{ratio, total_mix, move_air, clear_air};

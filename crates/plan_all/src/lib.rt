@@ -1,4 +1,6 @@
 // Planning of all zones, as filling left them: the reverses once, then zone after zone.
+#![tactic(auto)]
+
 ghost use Rattle.std.specs.Prelude.{◌<◌};
 ghost use Rattle.basics.specs.Loops.{up_from};
 ghost use Rattle.rules_board.specs.Board.{turf_count, link_count};

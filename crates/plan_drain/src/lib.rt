@@ -1,4 +1,6 @@
 // The way back of a search: each turf hands its amount on to the turf from which it was met.
+#![tactic(auto)]
+
 ghost use Rattle.std.specs.Prelude.{reverse, ◌-◌, take, drop};
 ghost use Rattle.basics.specs.Loops.{run};
 ghost use Rattle.plan_state.specs.Held.{area_at, plan_view, PlanDoes, EdgeMoveFits};

@@ -1,4 +1,6 @@
 // The edges of a zone, by link: the reverse of a link, and what an edge gains and its reverse loses.
+#![tactic(auto)]
+
 ghost use Rattle.std.specs.Prelude.{◌≡◌, ◌<◌, length};
 ghost use Rattle.basics.specs.Lists.{Found};
 ghost use Rattle.basics.specs.Floats.{◌+f◌, ◌-f◌};

@@ -1,4 +1,6 @@
 // `monstermos_fast_process`: the fast pass over the nodes of a zone.
+#![tactic(auto)]
+
 ghost use Rattle.std.specs.Prelude.{◌≡◌, ◌+◌, ◌-◌, ◌<◌, get_or};
 ghost use Rattle.basics.specs.Loops.{run, up_from};
 ghost use Rattle.scratch.specs.View.{owner_in, fast_in};
@@ -51,7 +53,7 @@ fn count_eligible(
 }
 
 // A giver of zone z and what it hands to each of its neighbours, on a board of n turfs and e links.
-#[derive(Drop)]
+#[derive(Clone, Copy)]
 pub struct Share {
     pub r: usize,
     pub x: f32,

@@ -1,5 +1,7 @@
 // `give_to_takers` and `take_from_givers` for one turf: a search from it through the zone, then the way back. One body serves both; what differs
 // is the tests.
+#![tactic(auto)]
+
 ghost use Rattle.std.specs.Prelude.{◌-◌, ◌≤◌, ◌<◌};
 ghost use Rattle.basics.specs.Loops.{run, times, up_from};
 ghost use Rattle.turfs.specs.Tables.{board_at};
@@ -19,7 +21,7 @@ use rules_plan::MonstermosInfo;
 use turfs::{Marks, NEIGHBOURS, Rows, STARTS};
 
 // How many rows the queue has, and the link that a pass came to.
-#[derive(Drop)]
+#[derive(Clone, Copy)]
 pub struct Pass {
     pub count: usize,
     pub at: usize,
@@ -111,7 +113,7 @@ fn seek_turf(
 }
 
 // The same after a search, and how many rows it looked at.
-#[derive(Drop)]
+#[derive(Clone, Copy)]
 pub struct Sweep {
     pub count: usize,
     pub first: usize,

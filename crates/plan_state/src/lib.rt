@@ -1,4 +1,6 @@
 // A turf's planning state, in the two work areas that a call is lent, for n turfs and e links.
+#![tactic(auto)]
+
 ghost use Rattle.std.specs.Prelude.{◌≡◌, ◌<◌};
 ghost use Rattle.rules_plan.specs.Plan.{load, store};
 ghost use Rattle.plan_state.specs.Held.{area_at, plan_view, PlanFits, PlanDoes};
@@ -6,7 +8,7 @@ ghost use Rattle.plan_state.specs.Held.{area_at, plan_view, PlanFits, PlanDoes};
 use rules_plan::MonstermosInfo;
 
 // Where a zone stands: its number, its nodes, the `count` words from `first` on, what they hold together, and the turfs and links of the board.
-#[derive(Drop)]
+#[derive(Clone, Copy)]
 pub struct ZoneAt {
     pub z: u32,
     pub first: usize,

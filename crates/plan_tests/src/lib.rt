@@ -1,4 +1,6 @@
 // What planning decides by: the tests of a search's two sides, who gives and who takes, and when the fast pass is worth it.
+#![tactic(auto)]
+
 ghost use Rattle.std.specs.Prelude.{◌≡◌, ◌<◌};
 ghost use Rattle.rules_plan.specs.Plan.{settled, wants, more, picks, log2};
 ghost use Rattle.plan_tests.specs.Sides.{given, side_of, marked};

@@ -1,4 +1,6 @@
 // One link of a search: a turf that is met, and the trade with the turf in hand. One body serves `give_to_takers` and `take_from_givers`; what differs is the tests.
+#![tactic(auto)]
+
 ghost use Rattle.std.specs.Prelude.{◌≡◌, true, false, cond, ◌+◌, ◌≤◌, ◌<◌, length, get_or};
 ghost use Rattle.std.specs.Float.{nan};
 ghost use Rattle.scratch.specs.Layout.{delta_at};
@@ -14,7 +16,7 @@ use plan_tests::{more, settled, wants};
 use rules_plan::{MonstermosInfo, Side};
 
 // The turf in hand and the turf that is met.
-#[derive(Drop)]
+#[derive(Clone, Copy)]
 pub struct Both {
     pub hand: MonstermosInfo,
     pub met: MonstermosInfo,
@@ -157,7 +159,7 @@ pub fn first_traded(traded: bool, first: usize, place: usize) -> usize
 // ---- one link of a search
 
 // The turf in hand: its side, its row, its zone, and the turfs and links of the board.
-#[derive(Drop)]
+#[derive(Clone, Copy)]
 pub struct Hand {
     pub side: Side,
     pub g: usize,
@@ -167,14 +169,14 @@ pub struct Hand {
 }
 
 // How many rows the queue has, and the first place whose row traded; n if none did.
-#[derive(Drop)]
+#[derive(Clone, Copy)]
 pub struct Reach {
     pub count: usize,
     pub first: usize,
 }
 
 // The same after a link, and whether the turf in hand is settled then.
-#[derive(Drop)]
+#[derive(Clone, Copy)]
 pub struct Step {
     pub count: usize,
     pub first: usize,
@@ -233,7 +235,7 @@ pub fn seek_link(
 }
 
 // How many rows the queue has after a link, and whether the link leads to a new row that wants: then nothing is done yet.
-#[derive(Drop)]
+#[derive(Clone, Copy)]
 pub struct Passed {
     pub count: usize,
     pub wants: bool,

@@ -1,4 +1,6 @@
 // `process_zone`: the weights of one zone's edges.
+#![tactic(auto)]
+
 ghost use Rattle.std.specs.Prelude.{◌≡◌, cond, ◌+◌, ◌≤◌, ◌<◌, length, get_or, take, set};
 ghost use Rattle.std.specs.Float.{nan};
 ghost use Rattle.basics.specs.Loops.{run};

@@ -1,1 +1,2 @@
 // What the public promises come to, for a reader: the theorems stand in proofs/.
+#![tactic(auto)]

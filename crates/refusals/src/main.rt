@@ -1,10 +1,12 @@
 // Board A lent with one thing wrong at a time, once with two: a line for each, with the number of its refusal.
+#![tactic(auto)]
+
 use lent::ExtraTests;
 use lent_room::Room;
 use libc::STDOUT_FILENO;
 
 // What may differ from board A: the second turf's id, its neighbour, where its links start; the gases; the amounts; the event bytes for a turf.
-#[derive(Drop)]
+#[derive(Clone, Copy)]
 struct Wrong {
     id: u32,
     neighbour: u32,

@@ -1,6 +1,8 @@
 // Replays stored vectors of the public calls: each is a case with what a call of the Rust answered and left, as oracle/boards/src/vectors.rs
 // writes them. What is found is printed. To show that a replay can fail, each vector is changed and torn, and how many of these are found is
 // printed too; the last but one expects something else than the Rust answered, and the last is torn.
+#![tactic(auto)]
+
 ghost use Rattle.std.specs.Prelude.{◌<◌, length};
 
 use libc::STDOUT_FILENO;

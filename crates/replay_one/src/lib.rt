@@ -1,4 +1,6 @@
 // Replays one stored vector of the public calls: lends what its case says, makes its call, and looks at every cell. The program `replay` runs it.
+#![tactic(auto)]
+
 ghost use Rattle.replay_one.specs.Replayed.{Looked};
 
 use rules_depressurize::Breach;

@@ -1,5 +1,7 @@
 // The reverse of each link, found once a call. Of n turfs and e links, the words hold the links' owners, then the reverses. A link and the one that
 // leads back are found together, by a look through the shorter of their two rows.
+#![tactic(auto)]
+
 ghost use Rattle.std.specs.Prelude.{◌≡◌, ◌+◌, ◌≤◌, ◌<◌, length, get_or};
 ghost use Rattle.scratch.specs.Layout.{reverse_at};
 ghost use Rattle.scratch.specs.View.{reverse_in};

@@ -1,7 +1,8 @@
 // The definitions of `depressurize`, and the types that they share with the code.
+#![tactic(auto)]
 
 // What the call is asked: the turf to begin at, the limit of both walks, and where kind 7's arrows lead: 0 is as in the Rust, anything else towards space.
-#[derive(Drop)]
+#[derive(Clone, Copy)]
 pub struct Breach {
     pub id: u32,
     pub limit: u32,
@@ -9,7 +10,7 @@ pub struct Breach {
 }
 
 // What the call answers.
-#[derive(Drop)]
+#[derive(Clone, Copy)]
 pub struct DepressurizeAnswer {
     pub number: u32,
     pub outcome: u32,

@@ -1,7 +1,8 @@
 // `equalize`: fill from the hot turfs, plan every zone, finish by turns. The definitions stand in specs/; they share this type with the code.
+#![tactic(auto)]
 
 // What the call answers.
-#[derive(Drop)]
+#[derive(Clone, Copy)]
 pub struct EqualizeAnswer {
     pub number: u32,
     pub cancelled: u32,

@@ -1,1 +1,2 @@
 // The definitions of `mixture`, and the types that they share with the code.
+#![tactic(auto)]

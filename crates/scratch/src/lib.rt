@@ -1,4 +1,6 @@
 // The scratch that a call is lent: where each of its arrays stands, for n turfs and e links. The layout itself is in specs/.
+#![tactic(auto)]
+
 ghost use Rattle.std.specs.Prelude.{◌≡◌, ◌≤◌};
 ghost use Rattle.scratch.specs.Layout.{Sizes, queue_at, places_at, list_at, found_at, turns_at, live_at, starts_at, zone_nodes_at, marks_at, lifted_at, moles_at, reverse_at, direction_at, via_at, delta_at, amount_at, fast_at, spots_at, order_at, ways_at, targets_at, sums_at};
 

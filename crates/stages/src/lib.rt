@@ -1,4 +1,6 @@
 // The parts of equalize on their own, for tests that look at what each part leaves: the scratch isn't cleared.
+#![tactic(auto)]
+
 ghost use Rattle.std.specs.Prelude.{◌≡◌, [], ℕ};
 ghost use Rattle.rules_board.specs.Board.{board};
 ghost use Rattle.turfs.specs.Tables.{board_at};
@@ -15,7 +17,7 @@ use rules_fill::Settings;
 use turfs::{Marks, Rows};
 
 // What filling answers: its number, and what it came to.
-#[derive(Drop)]
+#[derive(Clone, Copy)]
 pub struct FillAnswer {
     pub number: u32,
     pub filling: Filling,

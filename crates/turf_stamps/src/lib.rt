@@ -1,4 +1,6 @@
 // No neighbour twice: each turf that a row names is stamped with that row, so that a turf named again shows its stamp.
+#![tactic(auto)]
+
 ghost use Rattle.std.specs.Prelude.{◌≡◌, not, ◌&&◌, ◌+◌};
 ghost use Rattle.basics.specs.Loops.{member};
 ghost use Rattle.rules_board.specs.Refuse.{distinct};

@@ -1,5 +1,7 @@
 // Turfs: the flag types of turfs and links, the search for a turf by its id, the part of the link list that is a turf's own.
 // The tables that a call is lent are defined in specs/; refuse.rt has the tests that refuse them.
+#![tactic(auto)]
+
 pub mod refuse;
 
 ghost use Rattle.std.specs.Prelude.{◌≡◌, true, ◌+◌, ◌<◌, length, get_or};
@@ -33,7 +35,7 @@ pub const LINK_FLAGS: usize = 2;
 pub const IMMUTABLE: usize = 3;
 
 // A turf's flags; bits that have no name here are ignored.
-#[derive(Drop)]
+#[derive(Clone, Copy)]
 pub struct SimulationFlags(pub u8);
 
 impl SimulationFlags {
@@ -48,7 +50,7 @@ impl SimulationFlags {
 }
 
 // A link's flags; bits that have no name here are ignored.
-#[derive(Drop)]
+#[derive(Clone, Copy)]
 pub struct AdjacentFlags(pub u8);
 
 impl AdjacentFlags {
@@ -96,7 +98,7 @@ pub fn find(ids: &[u32], id: u32) -> Spot
 }
 
 // Where a turf's links start and end: its neighbours are `&neighbours[from..to]`.
-#[derive(Drop)]
+#[derive(Clone, Copy)]
 pub struct Links {
     pub from: usize,
     pub to: usize,

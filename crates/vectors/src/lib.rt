@@ -2,6 +2,8 @@
 // what the lent areas hold before a call.
 //
 // A place in a vector only grows, and one beyond the numbers stays beyond: one test of the last place shows that nothing is missing.
+#![tactic(auto)]
+
 ghost use Rattle.std.specs.Prelude.{◌≡◌, ◌-◌, ◌%◌, ◌≤◌, ◌<◌};
 ghost use Rattle.std.specs.Float.{nan};
 ghost use Rattle.vectors.specs.Vectors.{onward, number, section, span_at, table_at, table_span, gases_of, gas_of, asked_at, fitted, behind, CaseAsks, Walks, RowsOf, MarksOf};
@@ -14,14 +16,14 @@ use turfs::{Marks, Rows};
 const TABLES: usize = 8;
 
 // A list's elements: the first one, and the place behind the last.
-#[derive(Drop)]
+#[derive(Clone, Copy)]
 pub struct Span {
     pub from: usize,
     pub to: usize,
 }
 
 // What equalize is asked: how many gases there are, where the hot ids and the turns stand, the settings, and where what is expected begins.
-#[derive(Drop)]
+#[derive(Clone, Copy)]
 pub struct Asked {
     pub gases: u32,
     pub hot: Span,
@@ -33,7 +35,7 @@ pub struct Asked {
 }
 
 // What a walk is asked: how many gases there are, where it starts and its limit, and where what is expected begins.
-#[derive(Drop)]
+#[derive(Clone, Copy)]
 pub struct Walk {
     pub gases: u32,
     pub id: u32,

@@ -1,4 +1,6 @@
 // What came of vectors, and of vectors changed and torn: an array of counts, each at its place.
+#![tactic(auto)]
+
 ghost use Rattle.std.specs.Prelude.{◌≡◌, ◌+◌, ◌<◌};
 ghost use Rattle.vectors_count.specs.Count.{counting, trying, one_vector, tallied};
 

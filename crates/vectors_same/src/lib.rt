@@ -1,4 +1,6 @@
 // Whether the lent areas hold after a call what a stored vector expects.
+#![tactic(auto)]
+
 ghost use Rattle.std.specs.Prelude.{◌≡◌};
 ghost use Rattle.vectors.specs.Amounts.{same_bits};
 ghost use Rattle.vectors_same.specs.Same.{Expects, cells_after, event_after, torn_vector};
@@ -8,7 +10,7 @@ use events_words::wide;
 use vectors::Span;
 
 // What a call answered: so many numbers, and where what is expected begins.
-#[derive(Drop)]
+#[derive(Clone, Copy)]
 pub struct Answer {
     pub count: usize,
     pub number: u32,
@@ -22,7 +24,7 @@ pub struct Answer {
 }
 
 // What a vector expects: where the answer, the gas and the event bytes stand, how many words and floats are 0, and where the next vector begins.
-#[derive(Drop)]
+#[derive(Clone, Copy)]
 struct Due {
     answer: Span,
     gas: Span,
@@ -33,7 +35,7 @@ struct Due {
 }
 
 // One vector replayed: the call, the number it answered, where its expectations begin, whether they were met, and where the next vector begins.
-#[derive(Drop)]
+#[derive(Clone, Copy)]
 pub struct Vector {
     pub call: u32,
     pub number: u32,

@@ -1,4 +1,6 @@
 // The way back of `explosively_depressurize`, and the floor rips at its end: module 9 of document 01.
+#![tactic(auto)]
+
 ghost use Rattle.std.specs.Prelude.{◌≡◌, [], ◌∷◌, reverse, ◌+◌, ◌<◌, length, take, drop};
 ghost use Rattle.basics.specs.Loops.{run};
 ghost use Rattle.basics.specs.Regions.{region};
@@ -15,7 +17,7 @@ use rules_events::Event;
 use turfs::{IDS, IMMUTABLE, MIXTURES, Marks, Rows};
 
 // How far the way back has come: turfs of the order that are left, turfs that the floor rips off, event bytes written.
-#[derive(Drop)]
+#[derive(Clone, Copy)]
 pub struct Way {
     pub left: usize,
     pub rips: usize,
@@ -23,7 +25,7 @@ pub struct Way {
 }
 
 // What one turf's air comes to: the total of the next one, its own amount, and the next one's.
-#[derive(Drop)]
+#[derive(Clone, Copy)]
 pub struct Sums {
     pub sum: f32,
     pub mine: f32,
@@ -31,7 +33,7 @@ pub struct Sums {
 }
 
 // A turf of the way back, the next one, and where its arrows lead.
-#[derive(Drop)]
+#[derive(Clone, Copy)]
 struct Leg {
     row: u32,
     next: usize,

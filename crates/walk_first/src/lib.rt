@@ -1,4 +1,6 @@
 // The walk from one turf that `planet_equalize` and `explosively_depressurize` share: module 10 and the first part of module 9 of document 01.
+#![tactic(auto)]
+
 ghost use Rattle.std.specs.Prelude.{◌≡◌, ◌||◌, ◌<◌, length};
 ghost use Rattle.basics.specs.Loops.{times};
 ghost use Rattle.rules_board.specs.Board as tables;

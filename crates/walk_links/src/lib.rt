@@ -1,4 +1,6 @@
 // The links of one turf in the walk that `planet_equalize` and `explosively_depressurize` share, and how far such a walk has come.
+#![tactic(auto)]
+
 ghost use Rattle.std.specs.Prelude.{◌≡◌, not, ◌&&◌, ◌+◌, ◌<◌, ltb};
 ghost use Rattle.basics.specs.Loops.{run};
 ghost use Rattle.rules_board.specs.Board.{turf_count, links_of};
@@ -13,7 +15,7 @@ use turfs::{
 };
 
 // How far a walk has come: turfs in the queue, turfs visited, space turfs met, whether a planetary turf was met, whether the walk has ended, event bytes written.
-#[derive(Drop)]
+#[derive(Clone, Copy)]
 pub struct Reach {
     pub count: usize,
     pub walked: usize,

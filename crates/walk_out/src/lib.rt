@@ -1,4 +1,6 @@
 // Out from space: the second floodfill of `explosively_depressurize`, module 9 of document 01.
+#![tactic(auto)]
+
 ghost use Rattle.std.specs.Prelude.{◌≡◌, ℕ, ◌<◌};
 ghost use Rattle.basics.specs.Loops.{run, times};
 ghost use Rattle.rules_board.specs.Board.{turf_count, end, links_of, neighbours_of};
@@ -11,7 +13,7 @@ use rules_events::Event;
 use turfs::{IDS, IMMUTABLE, MIXTURES, Marks, NEIGHBOURS, Rows, STARTS};
 
 // How far the way out has come: turfs in the order, turfs passed, event bytes written.
-#[derive(Drop)]
+#[derive(Clone, Copy)]
 pub struct Front {
     pub count: usize,
     pub place: usize,

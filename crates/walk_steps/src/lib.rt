@@ -1,4 +1,6 @@
 // What a turf is given on the way out, and what is told of it on the way back: module 9 of document 01.
+#![tactic(auto)]
+
 ghost use Rattle.std.specs.Prelude.{◌≡◌};
 ghost use Rattle.rules_events.specs.Events.{encode_all};
 ghost use Rattle.events.specs.Area.{Wrote};

@@ -1,0 +1,16 @@
+-- Both rooms are cleared. Assumes nothing.
+use Prim.Native.Nat.{ℕ}
+use mathlib.Core.Path.{◌∙◌, ap}
+use Rattle.basics.specs.Floats.{0f}
+use Rattle.lent_room.specs.Areas.{cleared_first}
+use Rattle.rules_lent.specs.Lent.{floats_room}
+use Rattle.lent_room.proofs.clear_scratch.Goals as goal
+
+pub returns : goal.returns
+unfolding floats_room
+returns c =
+    let cleared-words = c in
+    let entry = cleared-words in (
+      cleared-words.clear.ensures ∙ ap (λ (n : ℕ). cleared_first 0 n entry.args.words.now) cleared-words.words_room.ensures,
+      c.clear_floats.ensures ∙ ap (λ (n : ℕ). cleared_first 0f n entry.args.floats.now) c.floats_room.ensures,
+    )

@@ -1,0 +1,16 @@
+-- A merge and then a removal are the move. Assumes nothing.
+use mathlib.Core.Path.{◌∙◌, ap}
+use Rattle.rules_mixture.specs.Mixture.{ratio}
+use Rattle.mixture_moves.proofs.Moves.{moved}
+use Rattle.mixture_moves.proofs.move_air.Goals as goal
+
+pub returns : goal.returns
+returns c =
+    λ b i e.
+    let share = c.ratio-goes in
+    let entry = c in
+    let a = entry.args in
+    let p = entry.requires in
+    moved b a.giver a.taker p.1.1.0 a.gas.now a.gases e p.1.0.0 p.1.0.1 a.amount share.result
+    (share.ensures ∙ ap (ratio a.amount) (p.1.1.1 b e))
+    _ _ (c.merge.ensures b i e) (c.remove.ensures b i e)

@@ -1,0 +1,67 @@
+use Prim.Native.Nat.{◌-◌}
+use native.Mathlib.Omega.{arith}
+use mathlib.Core.Path.{refl}
+use Rattle.reverse_links.proofs.Places.{but_none, but_then}
+use Rattle.reverse_links.proofs.Pairs.{paired_upto}
+use Rattle.reverse_links.proofs.pair_row.Goals as goal
+
+pub offset_bounds-starts-r : goal.offset_bounds-starts-r
+offset_bounds-starts-r c = omega (arith, c.requires.r_lt_n.0, c.requires.pairing)
+
+pub bounds-starts-r : goal.bounds-starts-r
+bounds-starts-r c = omega (arith, c.requires.r_lt_n.0, c.requires.pairing.linked.starts_n)
+
+pub overflow_cast-from : goal.overflow_cast-from
+overflow_cast-from c = omega (arith, c.requires.pairing.linked.rise _ c.requires.r_lt_n.0, c.requires.pairing.linked.within _ c.requires.r_lt_n.0, c.requires.pairing)
+
+pub overflow_add-to : goal.overflow_add-to
+overflow_add-to c = omega (arith, c.requires.r_lt_n.0, c.requires.pairing)
+
+pub offset_bounds-starts-r-2 : goal.offset_bounds-starts-r-2
+offset_bounds-starts-r-2 c = omega (arith, c.requires.r_lt_n.0, c.requires.pairing)
+
+pub bounds-starts-r-2 : goal.bounds-starts-r-2
+bounds-starts-r-2 c = omega (arith, c.requires.r_lt_n.0, c.requires.pairing.linked.starts_n)
+
+pub overflow_cast-to : goal.overflow_cast-to
+overflow_cast-to c =
+    let pre = c.requires in
+    omega (arith, pre.0.linked.within _ pre.1.0, pre.0)
+
+pub loop-k-init : goal.loop-k-init
+loop-k-init c =
+    let pre = c.requires in
+    ((omega arith, pre.0.linked.rise _ pre.1.0), (but_none, pre.1.1))
+
+pub overflow_cast-r : goal.overflow_cast-r
+overflow_cast-r c = omega (arith, c.requires.r_lt_n.0, c.requires.pairing)
+
+pub overflow_sub-to : goal.overflow_sub-to
+overflow_sub-to c = c.requires.pairing.linked.rise _ c.requires.r_lt_n.0
+
+pub pair-requires : goal.pair-requires
+pair-requires c =
+    let entry = c in record { pairing = record { linked = entry.requires.pairing.linked; all = entry.requires.pairing.all; links = entry.requires.pairing.links; turfs = entry.requires.pairing.turfs; room = omega (arith, entry.requires.pairing, c.loop-k.invariant.1.0.len) }; of_row = (record { row = entry.requires.r_lt_n.0; link = record { from = c.loop-k.invariant.0.0; to = c.loop-k-test.true }; links = refl }, c.loop-k.invariant.1.1); paired =  }
+
+pub overflow_add-k : goal.overflow_add-k
+overflow_add-k c =
+    let pre = c.requires in
+    omega (
+      arith,
+      c.loop-k-test.true,
+      pre.0.linked.within _
+          pre.1.0,
+      pre.0,
+    )
+
+pub loop-k-smaller : goal.loop-k-smaller
+loop-k-smaller c = omega (arith, c.loop-k-test.true)
+
+pub loop-k-preserved : goal.loop-k-preserved
+loop-k-preserved c = ((omega (arith, c.loop-k.invariant.0), omega (arith, c.loop-k-test.true)), (but_then (omega arith) (omega arith) c.loop-k.invariant.1.0 c.pair.ensures.but, c.pair.ensures.paired_2))
+
+pub shape_of-words : goal.shape_of-words
+shape_of-words c = c.loop-k.invariant.1.0.len
+
+pub returns : goal.returns
+returns c = record { but = c.loop-k.invariant.1.0; paired_2 = paired_upto (omega (arith, c.loop-k.invariant.0, c.loop-k-test.false)) c.loop-k.invariant.1.1 }

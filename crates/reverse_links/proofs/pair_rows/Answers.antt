@@ -1,0 +1,28 @@
+use Prim.Native.Nat.{◌-◌}
+use native.Mathlib.Omega.{arith}
+use mathlib.Core.Path.{◌∙◌, sym}
+use Rattle.reverse_links.proofs.Places.{but_none, but_then}
+use Rattle.reverse_links.proofs.Pairs.{paired_upto, rows_end}
+use Rattle.reverse_links.proofs.pair_rows.Goals as goal
+
+pub loop-r-init : goal.loop-r-init
+loop-r-init c = (omega arith, (but_none, paired_upto (sym c.requires.pairing.linked.zero) c.requires.paired))
+
+pub pair_row-requires : goal.pair_row-requires
+pair_row-requires c =
+    let entry = c in record { pairing = record { linked = entry.requires.pairing.linked; all = entry.requires.pairing.all; links = entry.requires.pairing.links; turfs = entry.requires.pairing.turfs; room = omega (arith, entry.requires.pairing, c.loop-r.invariant.1.0.len) }; r_lt_n = (c.loop-r-test.true, c.loop-r.invariant.1.1); paired =  }
+
+pub overflow_add-r : goal.overflow_add-r
+overflow_add-r c = omega (arith, c.loop-r-test.true, c.requires.pairing)
+
+pub loop-r-smaller : goal.loop-r-smaller
+loop-r-smaller c = omega (arith, c.loop-r-test.true)
+
+pub loop-r-preserved : goal.loop-r-preserved
+loop-r-preserved c = (omega (arith, c.loop-r-test.true), (but_then (omega arith) (omega arith) c.loop-r.invariant.1.0 c.pair_row.ensures.but, c.pair_row.ensures.paired_2))
+
+pub shape_of-words : goal.shape_of-words
+shape_of-words c = c.loop-r.invariant.1.0.len
+
+pub returns : goal.returns
+returns c = record { but = c.loop-r.invariant.1.0; paired_2 = paired_upto (rows_end c.requires.pairing.linked _ c.loop-r.invariant.0 c.loop-r-test.false ∙ c.requires.pairing.all) c.loop-r.invariant.1.1 }

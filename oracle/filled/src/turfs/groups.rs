@@ -1,0 +1,1 @@
+//! Excited groups, which no run here has.
