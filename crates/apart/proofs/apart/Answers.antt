@@ -13,8 +13,7 @@ zones_apart-requires c =
     let marks-at = c.marks_at-at in
     let clear-part = c.clear_part in
     let cleared = but_cleared _ (length (table entry.args.marks.now 3)) entry.args.words.now (marks-room entry.requires _ _ _ starts-at.ensures nodes-at.ensures marks-at.ensures) clear-part.ensures in
-    let asked = pass-asks entry.requires _ _ _ starts-at.ensures nodes-at.ensures marks-at.ensures cleared.0 in
-    (asked.0, (asked.1, cleared.1))
+    let asked = pass-asks entry.requires _ _ _ starts-at.ensures nodes-at.ensures marks-at.ensures cleared.0 in record { pass_fits = asked.0; zones_laid = asked.1; by_index = cleared.1 }
 
 pub returns : goal.returns
 returns c = λ gases.

@@ -9,7 +9,8 @@ use Rattle.apart.proofs.Pass.{Going}
 use Rattle.apart.proofs.zone_apart.Given as goal
 
 abbrev pub invariant-loop-i : goal.invariant-loop-i
-invariant-loop-i l = board_of l.rows l.marks 0 in
+invariant-loop-i l =
+    let b = board_of l.rows l.marks 0 in
     (((l.from ≤ l.i) × (l.from ≤ l.to → l.i ≤ l.to)) × But l.at (l.at + mixture_count b) l.initial.words l.words) × ((zs : List Zone) → Going b zs l.zone l.from l.to l.at l.i l.initial.words l.words)
 
 abbrev pub decreases-loop-i : goal.decreases-loop-i

@@ -11,7 +11,8 @@ use Rattle.rules_finish.specs.Turns.{Zone}
 use Rattle.apart.proofs.zones_apart.Given as goal
 
 abbrev pub invariant-loop-z : goal.invariant-loop-z
-invariant-loop-z l = board_of l.rows l.marks 0 in
+invariant-loop-z l =
+    let b = board_of l.rows l.marks 0 in
     ((l.z ≤ l.zones) × But l.at (l.at + mixture_count b) l.initial.words l.words) × ((zs : List Zone) → length zs ≡ l.zones → ZonesStand l.first l.nodes zs l.initial.words → Marks b zs l.z 0 l.at l.words)
 
 abbrev pub decreases-loop-z : goal.decreases-loop-z

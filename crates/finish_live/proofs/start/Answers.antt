@@ -8,7 +8,7 @@ pub loop-z-init : goal.loop-z-init
 loop-z-init c = (started_none _ _ _, omega arith)
 
 pub start_zone-count-requires : goal.start_zone-count-requires
-start_zone-count-requires c = (c.requires.sizes, (laid_beside _ _ c.loop-z.invariant.0.beside _ (c.requires.all_laid.zones _ c.loop-z-test.true), c.loop-z.invariant.0.few))
+start_zone-count-requires c = record { sizes = c.requires.sizes; laid = laid_beside _ _ c.loop-z.invariant.0.beside _ (c.requires.all_laid.zones _ c.loop-z-test.true); count_le_zone = c.loop-z.invariant.0.few }
 
 pub overflow_add-z : goal.overflow_add-z
 overflow_add-z c = omega (arith, c.loop-z-test.true, c.ranges.zones)

@@ -118,10 +118,7 @@ pub returns-then-not-ascending : goal.returns-then-not-ascending
 returns-then-not-ascending c = told (s₃ c) (decides 2 (ts (s₃ c)) (p₂ c) (omega arith) (no _ c.ascending.ensures c.if-not-ascending.true-raw))
 
 pub links_fit-requires : goal.links_fit-requires
-links_fit-requires c = (
-  small_of (B (s₄ c)) (sized c).small,
-  starts-of (B (s₄ c)) (length (L (s₄ c)).gas) (p₃ c).1.0,
-)
+links_fit-requires c = record { small = small_of (B (s₄ c)) (sized c).small; starts_value = (starts-of (B (s₄ c)) (length (L (s₄ c)).gas) (p₃ c).1.0, ) }
 
 pub returns-then-not-links_fit : goal.returns-then-not-links_fit
 unfolding links_fit row_fits

@@ -3,6 +3,7 @@ use mathlib.Core.Path.{refl, ◌∙◌, sym}
 use Rattle.basics.proofs.Tests.{every-next, every-fails, every-end, yes, no}
 use lib.Ieee.{nan}
 use Rattle.rules_mixture.specs.Mixture.{amount_fits}
+use borrow.Author.Rules.{rules}
 use Rattle.mixture.proofs.amounts_fit.Goals as goal
 
 pub loop-i-init : goal.loop-i-init

@@ -9,6 +9,7 @@ use lib.Ieee.{Float, nan}
 use Rattle.basics.specs.Loops.{run}
 use Rattle.basics.specs.Floats.{◌+f◌}
 use Rattle.rules_mixture.specs.Mixture.{sum}
+use borrow.Author.Rules.{rules}
 use Rattle.mixture.proofs.sum.Goals as goal
 
 abbrev rest : List Float → Float → Float

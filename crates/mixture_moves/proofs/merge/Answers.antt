@@ -4,6 +4,7 @@ use native.Mathlib.Omega.{arith}
 use lib.ListN.{length-set}
 use borrow.Author.Tests.{eq-eqb, ne_eqb}
 use Rattle.mixture_moves.proofs.Moves.{stored-none, joining, joining_next, joining_all, mark-is, unchanged}
+use borrow.Author.Rules.{rules}
 use Rattle.mixture_moves.proofs.merge.Goals as goal
 
 pub returns-then-immutable-taker-ne0 : goal.returns-then-immutable-taker-ne0

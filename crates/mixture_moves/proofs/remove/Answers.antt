@@ -4,6 +4,7 @@ use native.Mathlib.Omega.{arith}
 use lib.ListN.{length-set}
 use borrow.Author.Tests.{eq-eqb, ne_eqb}
 use Rattle.mixture_moves.proofs.Moves.{stored-none, staying, staying_next, staying_all, mark-is, unchanged}
+use borrow.Author.Rules.{rules}
 use Rattle.mixture_moves.proofs.remove.Goals as goal
 
 pub returns-then-immutable-giver-ne0 : goal.returns-then-immutable-giver-ne0

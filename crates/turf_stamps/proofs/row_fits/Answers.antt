@@ -2,6 +2,7 @@ use Prim.Native.Nat.{◌<◌, ◌-◌, ◌+◌}
 use mathlib.Core.Path.{◌∙◌, sym}
 use native.Mathlib.Omega.{arith}
 use lib.ListN.{length, get_or, length-set}
+use borrow.Author.Rules.{rules}
 use Rattle.turf_stamps.proofs.Stamping.{rest-start, rest-next, rest-twice, rest_end, stamp_keeps}
 use Rattle.turf_stamps.proofs.row_fits.Goals as goal
 

@@ -3,6 +3,7 @@ use mathlib.Core.Path.{refl, ◌∙◌, sym}
 use native.Mathlib.Omega.{arith}
 use lib.Dec.{ltb}
 use lib.ListN.{get_or}
+use borrow.Author.Rules.{rules}
 use borrow.Author.Tests.{lt-ltb, le-ltb}
 use Rattle.turfs.proofs.Refused.{pairwise-next, pairwise-fails, pairwise-end}
 use Rattle.turfs.proofs.refuse.ascending.Goals as goal

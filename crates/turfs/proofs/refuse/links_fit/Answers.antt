@@ -1,6 +1,6 @@
 -- The first part of refusal 4 that is met decides; what passed makes each turf's links a part. Assumes nothing.
 use mathlib.Core.Path.{◌∙◌, sym}
-use mathlib.Core.List.{◌∷◌}
+use mathlib.Core.List.{[], ◌∷◌}
 use lib.ListN.{length}
 use Rattle.turfs.specs.Tables.{table}
 use native.Mathlib.Omega.{arith}

@@ -1,7 +1,9 @@
 use Prim.Native.Nat.{◌-◌}
 use mathlib.Core.Path.{◌∙◌, sym}
+use mathlib.Core.List.{[]}
 use native.Mathlib.Nat.{sub-zero}
 use native.Mathlib.Omega.{arith}
+use borrow.Author.Rules.{rules}
 use borrow.Author.Tests.{not-true, not-false}
 use Rattle.basics.proofs.Tests.{every-up_next, every-up_fails, every-up_end}
 use Rattle.rules_board.specs.Refuse.{row_fits}

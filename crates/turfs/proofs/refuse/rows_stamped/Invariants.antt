@@ -1,6 +1,7 @@
 -- Each turf that passes leaves the test of the turfs after it, and stamps of rows so far. Assumes nothing.
 use Prim.Native.Nat.{◌≤◌, ◌-◌}
 use mathlib.Core.Path.{◌≡◌}
+use mathlib.Core.List.{[]}
 use lib.ListN.{length}
 use Rattle.basics.specs.Loops.{every, up_from}
 use Rattle.rules_board.specs.Refuse.{row_fits}

@@ -1,6 +1,6 @@
 -- The first size out of its limits decides. Assumes nothing.
 use mathlib.Core.Path.{◌∙◌, sym}
-use mathlib.Core.List.{◌∷◌}
+use mathlib.Core.List.{[], ◌∷◌}
 use borrow.Author.Tests.{lt-leb, le-leb}
 use Rattle.basics.proofs.Tests.{one-fails, last-is, all_hold, all_none, yes, no}
 use Rattle.rules_board.specs.Refuse.{sizes_fit}

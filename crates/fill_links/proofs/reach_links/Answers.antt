@@ -1,0 +1,33 @@
+-- The links are a part of the link list, from one start to the next. Assumes nothing.
+use native.Mathlib.Omega.{arith}
+use Rattle.turfs.proofs.Near.{part-order, part_end, part-near}
+use Rattle.fill_links.proofs.reach_links.Goals as goal
+
+pub offset_bounds-neighbours-from : goal.offset_bounds-neighbours-from
+offset_bounds-neighbours-from c =
+    let p = c.requires in
+    let l = c.links_of-links.ensures in
+    omega (arith, part-order p.0.parts p.1.0.row l.0 l.1, part_end p.0.parts p.1.0.row l.0 l.1, p.0.links)
+
+pub slice_bounds-near-count : goal.slice_bounds-near-count
+slice_bounds-near-count c =
+    let p = c.requires in
+    let l = c.links_of-links.ensures in
+    part-order p.0.parts p.1.0.row l.0 l.1
+
+pub slice_bounds-near-start : goal.slice_bounds-near-start
+slice_bounds-near-start c =
+    let p = c.requires in
+    let l = c.links_of-links.ensures in
+    part-order p.0.parts p.1.0.row l.0 l.1
+
+pub slice_bounds-near-end : goal.slice_bounds-near-end
+slice_bounds-near-end c =
+    let p = c.requires in
+    let l = c.links_of-links.ensures in
+    part_end p.0.parts p.1.0.row l.0 l.1
+
+pub reach_near-requires : goal.reach_near-requires
+reach_near-requires c =
+    let p = c.requires in
+    let l = c.links_of-links.ensures in record { tables_fit = p.0; turf_fits = p.1.0; near = part-near l.0 l.1; fact = p.1.1 }

@@ -1,0 +1,9 @@
+-- |d| < t is d < t and -t < d. Assumes nothing.
+use Rattle.fill_tests.proofs.Near.{near-here, near-not}
+use Rattle.fill_tests.proofs.nearer.Goals as goal
+
+pub returns-then-d-threshold : goal.returns-then-d-threshold
+returns-then-d-threshold c = near-here _ _ c.requires c.if-d-threshold.true
+
+pub returns : goal.returns
+returns c = near-not _ _ c.requires c.if-d-threshold.false

@@ -1,0 +1,52 @@
+-- Past the clock, broken off at the limit, or expanded. Assumes nothing.
+use Rattle.fill_links.specs.Asked.{Free}
+use Rattle.turfs.specs.Tables.{table}
+use Rattle.fill_zone.proofs.Pops.{row_below, pop-over, pop-broken, pop-on}
+use lib.ListN.{get_or}
+use Prim.Native.Nat.{ℕ, ◌+◌}
+use mathlib.Core.Path.{sym, subst, ◌∙◌}
+use native.Mathlib.Omega.{arith}
+use Rattle.fill_zone.proofs.pop.Goals as goal
+
+pub returns-then-settings-t : goal.returns-then-settings-t
+returns-then-settings-t c =
+    let entry = c in let whole = pop-over _ _ _ _ _ _ entry.args.t entry.requires.pop_fits.walking.fit entry.requires.pop_fits.walking.bounds entry.requires.pop_fits.on entry.requires.pop_fits.left c.if-settings-t.true _ c.ended.ensures in record { fact = whole.0; moved = whole.1 }
+
+pub overflow_cast-row : goal.overflow_cast-row
+overflow_cast-row c =
+    let entry = c in
+    omega (arith, row_below entry.requires.pop_fits.walking.fit entry.requires.pop_fits.walking.bounds _ entry.requires.pop_fits.left _ c.queue_at.ensures, entry.requires.accepted.turfs)
+
+pub bounds-planetary-row : goal.bounds-planetary-row
+bounds-planetary-row c =
+    let entry = c in
+    rw entry.requires.accepted.planets (row_below entry.requires.pop_fits.walking.fit entry.requires.pop_fits.walking.bounds _ entry.requires.pop_fits.left _ c.queue_at.ensures)
+
+pub returns-then-breaks : goal.returns-then-breaks
+returns-then-breaks c =
+    let entry = c in
+    let by-queue-at = c.queue_at in
+    let by-if1 = c.if-settings-t in
+    let by-is-planet = c.is_planet-planet in let whole = pop-broken _ _ _ _ _ _ entry.args.t entry.requires.pop_fits.walking.fit entry.requires.pop_fits.walking.bounds entry.requires.pop_fits.on entry.requires.pop_fits.left _ by-queue-at.ensures by-if1.false _ by-is-planet.ensures (sym c.if-breaks.true ∙ c.breaks.ensures) _ c.ended-then-breaks.ensures in record { fact = whole.0; moved = whole.1 }
+
+pub expand-requires : goal.expand-requires
+expand-requires c =
+    let entry = c in record { accepted = entry.requires.accepted; expand_fits = (record {
+        walking = entry.requires.pop_fits.walking;
+        turf = record {
+          row = row_below entry.requires.pop_fits.walking.fit entry.requires.pop_fits.walking.bounds _ entry.requires.pop_fits.left _ c.queue_at.ensures;
+          free = subst (λ (x : ℕ). Free (table entry.args.rows.now 2) (get_or entry.args.words.now (x + entry.args.t.popped) 0) entry.args.words.now) (sym c.queue_at.ensures) entry.requires.pop_fits.free;
+        };
+        popped = omega (arith, entry.requires.pop_fits.left, entry.requires.pop_fits.walking.fit.queue, entry.requires.accepted.turfs);
+        tests = omega (arith, entry.requires.pop_fits.clock);
+      }, ) }
+
+pub returns : goal.returns
+returns c =
+    let entry = c in
+    let by-queue-at = c.queue_at in
+    let by-if1 = c.if-settings-t in
+    let by-is-planet = c.is_planet-planet in
+    let by-breaks = c.breaks in
+    let by-if2 = c.if-breaks in
+    let by-expand = c.expand in let whole = pop-on _ _ _ _ _ _ entry.args.t entry.requires.pop_fits.walking.fit entry.requires.pop_fits.walking.bounds entry.requires.pop_fits.on entry.requires.pop_fits.left _ by-queue-at.ensures by-if1.false _ by-is-planet.ensures (sym by-if2.false ∙ by-breaks.ensures) (by-expand.ensures _ _) in record { fact = whole.0; moved = whole.1 }

@@ -1,0 +1,40 @@
+-- The zone that is picked is one of the unfinished ones, and stays one or is taken out. Assumes nothing.
+use mathlib.Core.Path.{◌∙◌}
+use Rattle.finish_turns.proofs.Jobs.{sizes-fit}
+use Rattle.finish_turns.proofs.Steps.{picked_place, picked_zone, laid-now, turn-done}
+use Rattle.finish_turns.proofs.turn.Goals as goal
+
+pub zone_at-zone-requires : goal.zone_at-zone-requires
+zone_at-zone-requires c =
+    let entry = c in record { sizes = sizes-fit entry.requires.turns_fit; live = entry.requires.fact; p_lt_count = picked_place _ entry.args.c _ _ _ entry.requires.turns_fit entry.requires.fact }
+
+pub finish_next-used-requires : goal.finish_next-used-requires
+finish_next-used-requires c =
+    let entry = c in
+    let zone-at = c.zone_at-zone in record { turns_fit = entry.requires.turns_fit; fact = picked_zone _ entry.args.c _ _ _ entry.requires.turns_fit entry.requires.fact _ zone-at.ensures }
+
+pub settle-live-requires : goal.settle-live-requires
+settle-live-requires c =
+    let entry = c in
+    let zone-at = c.zone_at-zone in
+    let finish-next = c.finish_next-used in record { sizes = sizes-fit entry.requires.turns_fit; laid = laid-now _ entry.args.c _ _ _ entry.requires.turns_fit entry.requires.fact _ zone-at.ensures _ _ finish-next.ensures; p_lt_count = (picked_place _ entry.args.c _ _ _ entry.requires.turns_fit entry.requires.fact, entry.requires.fact.few) }
+
+pub shape_of-gas : goal.shape_of-gas
+shape_of-gas c = c.finish_next-used.ensures.did.kept.gas
+
+pub shape_of-words : goal.shape_of-words
+shape_of-words c = c.settle-live.ensures.beside.size ∙ c.finish_next-used.ensures.did.words.size
+
+pub shape_of-floats : goal.shape_of-floats
+shape_of-floats c = c.finish_next-used.ensures.did.kept.floats
+
+pub shape_of-events : goal.shape_of-events
+shape_of-events c = c.finish_next-used.ensures.did.kept.events
+
+pub returns : goal.returns
+returns c =
+    let entry = c in
+    let zone-at = c.zone_at-zone in
+    let finish-next = c.finish_next-used in
+    let settle = c.settle-live in
+    turn-done _ entry.args.c _ _ _ entry.requires.turns_fit entry.requires.fact _ zone-at.ensures _ _ finish-next.ensures _ _ settle.ensures

@@ -1,0 +1,26 @@
+-- The reverses, a blank plan, then the run over the zones, which the two leave as they are. Assumes nothing.
+use mathlib.Core.Path.{refl, ◌∙◌}
+use Rattle.turfs.specs.Tables.{board_of}
+use Rattle.reverse_links.proofs.Pairs.{reverses-of}
+use Rattle.plan_all.proofs.Plans.{cleared-zoned, cleared-reverses, planned-all}
+use Rattle.plan_all.proofs.plan_all.Goals as goal
+
+pub plan_zones-requires : goal.plan_zones-requires
+plan_zones-requires c =
+    let entry = c in
+    let find-reverses = c.find_reverses in
+    let clear-plan = c.clear_plan in record { plannable = entry.requires.plannable; fact = (
+        cleared-zoned entry.requires.fact find-reverses.ensures.but clear-plan.ensures clear-plan.auto.1.1.0 clear-plan.auto.1.1.1.0,
+        cleared-reverses entry.requires.fact find-reverses.ensures.but clear-plan.ensures (reverses-of (board_of entry.args.rows.now entry.args.marks.now entry.args.gases)
+            _ find-reverses.ensures.backs),
+      ); fact_2 =  }
+
+pub returns : goal.returns
+returns c =
+    let entry = c in
+    let find-reverses = c.find_reverses in
+    let clear-plan = c.clear_plan in
+    let plan-zones = c.plan_zones in
+    planned-all entry.requires.fact find-reverses.ensures.but clear-plan.ensures plan-zones.ensures (plan-zones.auto.1.1.1.1.1.0 ∙ clear-plan.auto.1.1.0)
+    (plan-zones.auto.1.1.1.1.1.1.0 ∙ clear-plan.auto.1.1.1.0) refl refl (reverses-of (board_of entry.args.rows.now entry.args.marks.now entry.args.gases)
+    _ find-reverses.ensures.backs)

@@ -1,0 +1,57 @@
+-- By the three ways out: nothing to hand on, nowhere to hand it, over the link by which the turf was met. Assumes nothing.
+use native.Mathlib.Omega.{arith}
+use Rattle.plan_drain.proofs.Drains.{drained, drained_still, drained_none, back-row, back-k, back_p, back-there}
+use Rattle.plan_drain.proofs.drain_turf.Goals as goal
+
+pub via_at-requires : goal.via_at-requires
+via_at-requires c =
+    let pre = c.requires in record { row_bound = omega (arith, pre.fit.turfs, pre.row); e_bound = pre.fit.links }
+
+pub offset_bounds-words-via_at : goal.offset_bounds-words-via_at
+offset_bounds-words-via_at c =
+    let pre = c.requires in
+    omega (arith, c.via_at.ensures, pre.fit.turfs, pre.fit.links, pre.row)
+
+pub bounds-words-via_at : goal.bounds-words-via_at
+bounds-words-via_at c = omega (arith, c.via_at.ensures, c.requires.fit.words, c.requires.row)
+
+pub overflow_cast-k : goal.overflow_cast-k
+overflow_cast-k c = omega (arith, c.shared_slice_known-then-direction-ne0-1.given c.via_at.result)
+
+pub back_link-there-requires : goal.back_link-there-requires
+back_link-there-requires c =
+    let entry = c in
+    let load = c.load-i in
+    let via = c.via_at in
+    record {
+      room = omega (arith, entry.requires.fit.words);
+      link = back-k _ _ entry.args.z _ _ _ _ load.ensures entry.requires.fit entry.requires.row entry.requires.within c.if-direction-ne0.true _ via.ensures;
+      back = back_p _ _ entry.args.z _ _ _ _ load.ensures entry.requires.fit entry.requires.row entry.requires.within c.if-direction-ne0.true _ via.ensures;
+      zone = entry.requires.zone;
+      links = entry.requires.fit.links;
+    }
+
+pub hand_on-requires : goal.hand_on-requires
+hand_on-requires c =
+    let entry = c in
+    let met = c.load-i.ensures in
+    let via = c.via_at.ensures in
+    let pointed = c.if-direction-ne0.true in
+    record {
+      fit = entry.requires.fit;
+      row = entry.requires.row;
+      to = back-row _ _ entry.args.z _ _ _ _ met entry.requires.fit entry.requires.row entry.requires.within pointed _ via;
+      there = back-there _ _ _ _ _ _ _ met entry.requires.fit entry.requires.row entry.requires.within pointed _ via _ c.back_link-there.ensures;
+      back = back-k _ _ entry.args.z _ _ _ _ met entry.requires.fit entry.requires.row entry.requires.within pointed _ via;
+    }
+
+pub returns-then-direction-ne0 : goal.returns-then-direction-ne0
+returns-then-direction-ne0 c = c in
+    drained _ _ _ _ _ _ _ c.load-i.ensures entry.requires.fit entry.requires.row entry.requires.within c.if-direction-ne0.true _ c.via_at.ensures _
+    c.back_link-there.ensures c.if-amount.true c.hand_on.ensures
+
+pub returns-else-direction-ne0 : goal.returns-else-direction-ne0
+returns-else-direction-ne0 c = drained_still _ _ _ _ _ _ _ c.load-i.ensures c.requires.fit c.if-amount.true c.if-direction-ne0.false
+
+pub returns-else-amount : goal.returns-else-amount
+returns-else-amount c = drained_none _ _ _ _ _ _ _ c.load-i.ensures c.requires.fit c.if-amount.false

@@ -1,0 +1,65 @@
+use Prim.Native.Nat.{ℕ, ◌-◌}
+use native.Mathlib.Omega.{arith}
+use mathlib.Core.Path.{refl, ◌∙◌, sym, ap}
+use mathlib.Core.List.{List}
+use lib.ListN.{get_or}
+use Rattle.basics.specs.Loops.{run}
+use Rattle.basics.proofs.Loops.{run_up, run-up_end}
+use Rattle.scratch.specs.View.{owner_in, fast_in}
+use Rattle.plan_fast.specs.Steps.{tally_step}
+use Rattle.plan_fast.proofs.Moves.{tally_le}
+use Rattle.plan_fast.proofs.count_eligible.Goals as goal
+
+abbrev step : ℕ → ℕ → ℕ → List ℕ → List ℕ → ℕ → ℕ → ℕ
+step z n e neighbours w k d = tally_step (owner_in e w) (fast_in n e w) z k (get_or neighbours k 0) d
+
+pub loop-k-init : goal.loop-k-init
+loop-k-init c = ((omega arith, (c.requires.rise, omega arith)), refl)
+
+pub offset_bounds-neighbours-k : goal.offset_bounds-neighbours-k
+offset_bounds-neighbours-k c = omega (arith, c.loop-k-test.true, c.requires.within, c.requires.sizes)
+
+pub bounds-neighbours-k : goal.bounds-neighbours-k
+bounds-neighbours-k c = omega (arith, c.loop-k-test.true, c.requires.within, c.requires.all)
+
+pub tally-c-requires : goal.tally-c-requires
+tally-c-requires c =
+    let entry = c in
+    record {
+      room = entry.requires.room;
+      link = omega (arith, entry.requires.within, c.loop-k-test.true);
+      end = entry.requires.ends _ (omega (arith, entry.requires.within, c.loop-k-test.true));
+      zone = entry.requires.zone;
+      count = omega (arith, c.loop-k.invariant.0, c.loop-k-test.true, entry.requires.within, entry.requires.sizes);
+      sizes = entry.requires.sizes;
+    }
+
+pub overflow_add-k : goal.overflow_add-k
+overflow_add-k c = omega (arith, c.loop-k-test.true, c.requires.within, c.requires.sizes)
+
+pub loop-k-smaller : goal.loop-k-smaller
+loop-k-smaller c = omega (arith, c.loop-k-test.true)
+
+pub loop-k-preserved : goal.loop-k-preserved
+loop-k-preserved c =
+    let entry = c in
+    let loop = c.loop-k in
+    let loop-test = c.loop-k-test in (
+      (
+        omega (arith, loop.invariant.0),
+        (
+          omega (arith, loop-test.true),
+          omega (
+            arith,
+            loop.invariant.0,
+            c.tally-c.ensures,
+            tally_le entry.args.n entry.args.e entry.args.words.now entry.args.z loop.k (get_or entry.args.neighbours.now loop.k 0) loop.c (omega
+                (arith, entry.requires.within, loop-test.true)) (entry.requires.ends _ (omega (arith, entry.requires.within, loop-test.true))),
+          ),
+        ),
+      ),
+      ap (run _ _) c.tally-c.ensures ∙ sym (run_up _ _ _ _ loop-test.true) ∙ loop.invariant.1,
+    )
+
+pub returns : goal.returns
+returns c = sym (run-up_end _ _ _ _ c.loop-k-test.false) ∙ c.loop-k.invariant.1

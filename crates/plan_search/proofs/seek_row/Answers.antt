@@ -1,0 +1,110 @@
+use Prim.Native.Nat.{◌-◌}
+use native.Mathlib.Omega.{arith}
+use mathlib.Core.Path.{refl, ◌∙◌, sym}
+use Rattle.plan_search.proofs.Rows.{row-start, row-passes, row_next, row-end, row_settled}
+use Rattle.plan_search.proofs.seek_row.Goals as goal
+
+pub loop-k-init : goal.loop-k-init
+loop-k-init c =
+    let entry = c in
+    ((omega arith, (entry.requires.rise, (refl, refl))), row-start entry.requires.searching.seeking entry.requires.unsettled)
+
+pub pass_links-pass-requires : goal.pass_links-pass-requires
+pass_links-pass-requires c =
+    let entry = c in record { searching = record { seeking = c.loop-k.invariant.1.on.seeking; zone = entry.requires.searching.zone; row = entry.requires.searching.row }; ends = entry.requires.ends; at_le_to = c.loop-k.invariant.0.1.0 }
+
+pub seek_link-step-requires : goal.seek_link-step-requires
+seek_link-step-requires c =
+    let entry = c in
+    let loop = c.loop-k in
+    let pass-links = c.pass_links-pass in
+    let t = row-passes loop.invariant.1 entry.requires.searching.row loop.invariant.0.0 pass-links.ensures.at_le_at pass-links.ensures.at_le_to_2.0 pass-links.ensures.at_le_to_2.1 in record { searching = record { seeking = t.on.seeking; zone = entry.requires.searching.zone; row = entry.requires.searching.row }; unsettled = (
+        t.unsettled,
+        record {
+          row = entry.requires.ends.row;
+          all = entry.requires.ends.all;
+          within = omega (arith, entry.requires.ends.within, c.if-k-to.true);
+          ends = entry.requires.ends.ends;
+        },
+      ); ends =  }
+
+pub overflow_add-k : goal.overflow_add-k
+overflow_add-k c =
+    let entry = c in
+    omega (arith, c.if-k-to.true, entry.requires.ends.within, entry.requires.searching.seeking.fit.links)
+
+pub shape_of-words-then-step : goal.shape_of-words-then-step
+shape_of-words-then-step c =
+    c.seek_link-step.auto.1.1.1.1.1.0 ∙ c.pass_links-pass.auto.1.1.1.1.1.1.0
+    ∙ c.loop-k.invariant.0.1.1.0
+
+pub shape_of-floats-then-step : goal.shape_of-floats-then-step
+shape_of-floats-then-step c =
+    c.seek_link-step.auto.1.1.1.1.1.1.0 ∙ c.pass_links-pass.auto.1.1.1.1.1.1.1.0
+    ∙ c.loop-k.invariant.0.1.1.1
+
+pub returns-then-step : goal.returns-then-step
+returns-then-step c =
+    let entry = c in
+    let loop = c.loop-k in
+    let pass-links = c.pass_links-pass in
+    let seek-link = c.seek_link-step in
+    let t = row-passes loop.invariant.1 entry.requires.searching.row loop.invariant.0.0 pass-links.ensures.at_le_at pass-links.ensures.at_le_to_2.0 pass-links.ensures.at_le_to_2.1 in
+    row_settled _ _ t (omega (arith, loop.invariant.0.0, pass-links.ensures.at_le_at)) c.if-k-to.true seek-link.ensures.fact
+    entry.requires.searching.row (sym seek-link.ensures.done_value ∙ c.if-step.true)
+
+pub loop-k-smaller-else-step : goal.loop-k-smaller-else-step
+loop-k-smaller-else-step c = omega (arith, c.loop-k-test.true, c.pass_links-pass.ensures.at_le_at, c.if-k-to.true)
+
+pub loop-k-preserved-else-step : goal.loop-k-preserved-else-step
+loop-k-preserved-else-step c =
+    let loop = c.loop-k in
+    let pass-links = c.pass_links-pass in
+    let if1 = c.if-k-to in
+    let seek-link = c.seek_link-step in
+    let t = row-passes loop.invariant.1 c.requires.searching.row
+    loop.invariant.0.0 pass-links.ensures.at_le_at pass-links.ensures.at_le_to_2.0 pass-links.ensures.at_le_to_2.1 in (
+      (
+        omega (arith, loop.invariant.0.0, pass-links.ensures.at_le_at),
+        (
+          omega (arith, if1.true),
+          (
+            seek-link.auto.1.1.1.1.1.0 ∙ pass-links.auto.1.1.1.1.1.1.0 ∙
+                loop.invariant.0.1.1.0,
+            seek-link.auto.1.1.1.1.1.1.0 ∙ pass-links.auto.1.1.1.1.1.1.1.0 ∙ loop.invariant.0.1.1.1,
+          ),
+        ),
+      ),
+      row_next t (omega (arith, loop.invariant.0.0, pass-links.ensures.at_le_at)) if1.true seek-link.ensures.fact (sym seek-link.ensures.done_value ∙ c.if-step.false),
+    )
+
+pub loop-k-smaller : goal.loop-k-smaller
+loop-k-smaller c = omega (arith, c.loop-k-test.true, c.if-k-to.false)
+
+pub loop-k-preserved : goal.loop-k-preserved
+loop-k-preserved c =
+    let loop = c.loop-k in
+    let pass-links = c.pass_links-pass in (
+      (
+        omega (arith, loop.invariant.0.0, pass-links.ensures.at_le_at),
+        (
+          pass-links.ensures.at_le_to_2.0,
+          (
+            pass-links.auto.1.1.1.1.1.1.0 ∙ loop.invariant.0.1.1.0,
+            pass-links.auto.1.1.1.1.1.1.1.0
+                ∙ loop.invariant.0.1.1.1,
+          ),
+        ),
+      ),
+      row-passes loop.invariant.1 c.requires.searching.row
+          loop.invariant.0.0 pass-links.ensures.at_le_at pass-links.ensures.at_le_to_2.0 pass-links.ensures.at_le_to_2.1,
+    )
+
+pub shape_of-words : goal.shape_of-words
+shape_of-words c = c.loop-k.invariant.0.1.1.0
+
+pub shape_of-floats : goal.shape_of-floats
+shape_of-floats c = c.loop-k.invariant.0.1.1.1
+
+pub returns : goal.returns
+returns c = row-end c.loop-k.invariant.1 c.loop-k-test.false

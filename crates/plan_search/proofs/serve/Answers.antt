@@ -1,0 +1,123 @@
+-- The search keeps the link by which each row was met, and the way back over these links is the way back over the edges; rows that nothing is handed to are passed over. Assumes nothing.
+use native.Mathlib.Omega.{arith}
+use mathlib.Core.Path.{◌∙◌}
+use Rattle.turfs.specs.Tables.{board_of}
+use Rattle.plan_search.proofs.Skips.{rows-later, low-few, skipped}
+use Rattle.plan_search.proofs.Serves.{points_nowhere, moves-nothing, begun, begun-met, begun-idle, searched_near, reverses-after, rows-within, drained_by_edges, served}
+use Rattle.plan_search.proofs.serve.Goals as goal
+
+pub load-i-requires : goal.load-i-requires
+load-i-requires c =
+    let entry = c in record { plan_fits = entry.requires.planning.fit; row_lt_n = entry.requires.g_lt_n }
+
+pub store-requires : goal.store-requires
+store-requires c =
+    let entry = c in record { plan_fits = entry.requires.planning.fit; row_lt_n = entry.requires.g_lt_n }
+
+pub queue_at-queue-requires : goal.queue_at-queue-requires
+queue_at-queue-requires c =
+    let entry = c in
+    record { turfs = entry.requires.planning.fit.turfs; links = entry.requires.planning.fit.links }
+
+pub places_at-places-requires : goal.places_at-places-requires
+places_at-places-requires c =
+    let entry = c in
+    record { turfs = entry.requires.planning.fit.turfs; links = entry.requires.planning.fit.links }
+
+pub overflow_cast-g : goal.overflow_cast-g
+overflow_cast-g c =
+    let entry = c in
+    omega (arith, entry.requires.g_lt_n, entry.requires.planning.fit.turfs)
+
+pub insert-requires : goal.insert-requires
+insert-requires c =
+    let entry = c in record { count_in_bounds = omega (arith, c.queue_at-queue.ensures, c.store.ensures.fit.words, entry.requires.g_lt_n); a_in_bounds = omega (arith, c.places_at-places.ensures, c.store.ensures.fit.words, entry.requires.g_lt_n); count_bound = omega arith }
+
+pub seek-sweep-requires : goal.seek-sweep-requires
+seek-sweep-requires c =
+    let entry = c in
+    let store = c.store in
+    let queue-at = c.queue_at-queue in
+    let places-at = c.places_at-places in
+    let insert = c.insert in
+    record {
+      searching = record {
+        seeking = begun _ _ _ _ _ _ store.ensures.fit entry.requires.g_lt_n _ _ queue-at.ensures places-at.ensures insert.ensures;
+        zone = entry.requires.planning.zone;
+        row = entry.requires.g_lt_n;
+      };
+      sized = entry.requires.planning.sized;
+      met = begun-met _ _ _ _ _ _ store.ensures.fit entry.requires.g_lt_n _ _ queue-at.ensures places-at.ensures insert.ensures _ _ _ (points_nowhere _ _ _ _ _ _ entry.requires.planning.fit
+          entry.requires.g_lt_n store.ensures);
+      idle = begun-idle _ _ _ _ _ _ store.ensures.fit entry.requires.g_lt_n _ _ queue-at.ensures places-at.ensures insert.ensures _ (moves-nothing _ _ _ _ _ entry.requires.planning.fit
+          entry.requires.g_lt_n store.ensures);
+    }
+
+pub drain-requires : goal.drain-requires
+drain-requires c =
+    let entry = c in
+    let store = c.store in
+    let seek = c.seek-sweep in
+    let back = reverses-after _ _ _ _ _ _ store.ensures.fit entry.requires.g_lt_n _ _ c.queue_at-queue.ensures
+    c.places_at-places.ensures c.insert.ensures
+    entry.requires.planning.reverses store.ensures seek.ensures.fact in
+    record {
+      fit = seek.ensures.fact.seeking.fit;
+      zone = entry.requires.planning.zone;
+      few = seek.ensures.fact.seeking.line.few;
+      within = rows-within _ _ _ _ (board_of entry.args.rows.now entry.args.marks.now
+          entry.args.gases) entry.requires.planning.sized.linked entry.requires.planning.sized.links seek.ensures.fact.seeking seek.ensures.fact_2.0 back;
+    }
+
+pub drain-requires-2 : goal.drain-requires-2
+drain-requires-2 c =
+    let entry = c in
+    let store = c.store in
+    let queue-at = c.queue_at-queue in
+    let places-at = c.places_at-places in
+    let insert = c.insert in
+    let seek = c.seek-sweep in
+    let back = reverses-after _ _ _ _ _ _ store.ensures.fit entry.requires.g_lt_n _ _ queue-at.ensures places-at.ensures insert.ensures entry.requires.planning.reverses
+    store.ensures seek.ensures.fact in
+    let near = searched_near _ _ _ _ _ _ store.ensures.fit entry.requires.g_lt_n _ _ queue-at.ensures places-at.ensures insert.ensures (board_of entry.args.rows.now
+    entry.args.marks.now entry.args.gases) _ _ _ _ (points_nowhere _ _ _ _ _ _ entry.requires.planning.fit entry.requires.g_lt_n store.ensures) seek.ensures.fact in
+    let few = low-few _ _ 0 _ _ _ _ _ _ _ seek.ensures.fact.seeking c.least-first.ensures c.least.ensures
+    near seek.ensures.fact_2.1 in
+    record {
+      fit = c.drain.ensures.fit;
+      zone = entry.requires.planning.zone;
+      few = omega (arith, few, seek.ensures.fact.seeking.line.few);
+      within = rows-later _ _ _ _ _ _ (rows-within _ _ _ _ (board_of entry.args.rows.now entry.args.marks.now entry.args.gases) entry.requires.planning.sized.linked entry.requires.planning.sized.links
+          seek.ensures.fact.seeking seek.ensures.fact_2.0 back) _ few;
+    }
+
+pub shape_of-words : goal.shape_of-words
+shape_of-words c =
+    c.seek-sweep.auto.1.1.1.1.0 ∙ (c.insert.auto.1.1.1.1.0
+    ∙ c.store.auto.1.1.1.1.0)
+
+pub shape_of-floats : goal.shape_of-floats
+shape_of-floats c =
+    c.drain-2.auto.1.1.1.1.1.1.0 ∙ (c.drain.auto.1.1.1.1.1.1.0 ∙ (c.seek-sweep.auto.1.1.1.1.1.0
+    ∙ c.store.auto.1.1.1.1.1.0))
+
+pub returns : goal.returns
+returns c =
+    let entry = c in
+    let store = c.store in
+    let queue-at = c.queue_at-queue in
+    let places-at = c.places_at-places in
+    let insert = c.insert in
+    let seek = c.seek-sweep in
+    let back = reverses-after _ _ _ _ _ _ store.ensures.fit entry.requires.g_lt_n _ _ queue-at.ensures places-at.ensures insert.ensures entry.requires.planning.reverses
+    store.ensures seek.ensures.fact in
+    let near = searched_near _ _ _ _ _ _ store.ensures.fit entry.requires.g_lt_n _ _ queue-at.ensures places-at.ensures insert.ensures (board_of entry.args.rows.now
+    entry.args.marks.now entry.args.gases) _ _ _ _ (points_nowhere _ _ _ _ _ _ entry.requires.planning.fit entry.requires.g_lt_n store.ensures) seek.ensures.fact in
+    served _ _ _ _ _ _ store.ensures.fit entry.requires.g_lt_n _ _ queue-at.ensures places-at.ensures insert.ensures (board_of entry.args.rows.now entry.args.marks.now
+    entry.args.gases) entry.requires.planning.sized.turfs _ _ _ _ _ c.load-i.ensures
+    store.ensures seek.ensures.fact
+    (drained_by_edges _ _ _ _ (board_of entry.args.rows.now entry.args.marks.now entry.args.gases) entry.requires.planning.sized.linked entry.requires.planning.sized.links
+    seek.ensures.fact.seeking seek.ensures.fact_2.0 back
+    (skipped _ _ _ _ _ _ _ _ _ _ seek.ensures.fact.seeking c.least-first.ensures
+    c.least.ensures near seek.ensures.fact_2.1 _ c.drain.ensures
+    c.drain-2.ensures))

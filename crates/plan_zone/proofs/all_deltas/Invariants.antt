@@ -1,0 +1,18 @@
+-- The loop's invariant: the nodes left, from here on, come to all nodes from the start. Assumes nothing.
+-- the state of one turf at first
+use Prim.Native.Nat.{◌≤◌, ◌-◌}
+use mathlib.Core.Path.{◌≡◌}
+use lib.ListN.{length, drop}
+use Rattle.basics.specs.Loops.{run}
+use Rattle.turfs.specs.Tables.{board_of}
+use Rattle.plan_state.specs.Held.{area, plan_view, nodes_of}
+use Rattle.plan_state.proofs.Nodes.{Onto}
+use Rattle.plan_zone.proofs.all_deltas.Given as goal
+
+abbrev pub invariant-loop-i : goal.invariant-loop-i
+invariant-loop-i l = ((l.i ≤ l.count) × ((length l.words ≡ length l.initial.words) × (length l.floats ≡ length l.initial.floats)))
+    × Onto l.n l.e (λ o p. run (step (board_of l.rows l.marks l.gases) l.gas l.average) (drop l.i (nodes_of l.n l.e (plan_view l.n l.e (area l.initial.words l.initial.floats)) l.first l.count)) p)
+    (λ o p. run (step (board_of l.rows l.marks l.gases) l.gas l.average) (nodes_of l.n l.e (plan_view l.n l.e (area l.initial.words l.initial.floats)) l.first l.count) p) (area l.initial.words l.initial.floats) (area l.words l.floats)
+
+abbrev pub decreases-loop-i : goal.decreases-loop-i
+decreases-loop-i l = l.count - l.i

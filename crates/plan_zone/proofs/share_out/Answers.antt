@@ -1,0 +1,26 @@
+-- Who doesn't give takes, so one count decides the side. Assumes nothing.
+use Rattle.turfs.specs.Tables.{board_of}
+use Rattle.plan_state.proofs.Nodes.{reverses-kept}
+use Rattle.plan_zone.proofs.Counts.{givers_le}
+use Rattle.plan_zone.proofs.Lists.{chosen-below, shared-out}
+use Rattle.plan_zone.proofs.share_out.Goals as goal
+
+pub overflow_sub-count : goal.overflow_sub-count
+overflow_sub-count c = givers_le _ c.requires.nodes c.count_givers-givers.ensures
+
+pub serve_all-requires : goal.serve_all-requires
+serve_all-requires c =
+    let gather = c.gather-listed in
+    let entry = c in record { planning = record {
+        sized = entry.requires.planning.sized;
+        fit = gather.ensures.fit;
+        zone = entry.requires.planning.zone;
+        reverses = reverses-kept entry.requires.planning.reverses gather.ensures.frame;
+      }; listed_le_n = (gather.ensures.few, chosen-below _ _ entry.requires.nodes gather.ensures); below =  }
+
+pub returns : goal.returns
+returns c =
+    let entry = c in
+    shared-out (board_of entry.args.rows.now entry.args.marks.now entry.args.gases) _ _ _ _ entry.requires.nodes c.count_givers-givers.ensures
+    c.side_of-side.ensures c.gather-listed.ensures
+    c.serve_all.ensures

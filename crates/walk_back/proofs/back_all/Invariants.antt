@@ -1,0 +1,22 @@
+-- Each turn takes one turf off what is left. Assumes nothing.
+use lib.ListN.{take}
+use mathlib.Core.List.{reverse}
+use Rattle.basics.specs.Loops.{run}
+use Rattle.basics.specs.Regions.{region}
+use Rattle.rules_board.specs.Board.{turf_count}
+use Rattle.turfs.specs.Tables.{board_of}
+use Rattle.scratch.specs.Layout.{out_sizes}
+use Rattle.walk_links.proofs.Does.{Going}
+use Rattle.rules_back.specs.Back.{back}
+use Rattle.walk_back.specs.Backed.{back_state_at, backing, directions}
+use Rattle.walk_back.proofs.back_all.Given as goal
+
+abbrev pub invariant-loop-t : goal.invariant-loop-t
+invariant-loop-t l =
+    let b = board_of l.rows l.marks l.gases in
+    let order = region (out_sizes (turf_count b)) 2 l.initial.words in
+    let step = back b l.arrows (directions (turf_count b) l.initial.words) in
+    Going (backing b) (run step (reverse (take l.t.left order))) (run step (reverse (take l.initial.t.left order))) (back_state_at l.initial.t l.initial.gas l.initial.words l.initial.floats l.initial.events) (back_state_at l.t l.gas l.words l.floats l.events)
+
+abbrev pub decreases-loop-t : goal.decreases-loop-t
+decreases-loop-t l = l.t.left

@@ -1,0 +1,73 @@
+-- A turf that is late is passed; any other has its part of the link list passed. Assumes nothing.
+use native.Mathlib.Omega.{arith}
+use Rattle.turfs.specs.Tables.{board_of}
+use Rattle.turfs.proofs.Near.{part-order, part_end, part-near}
+use Rattle.walk_out.proofs.Rows.{next_row, passed_fit, row-late, row_on}
+use Rattle.walk_out.proofs.out_row.Goals as goal
+
+pub order_at-requires : goal.order_at-requires
+order_at-requires c = c.requires.fact.fit.small
+
+pub overflow_add-row : goal.overflow_add-row
+overflow_add-row c = c.requires in omega (arith, c.order_at.ensures, p.0.fit.small, p.1, p.0.fit.line.few)
+
+pub offset_bounds-words-order_at : goal.offset_bounds-words-order_at
+offset_bounds-words-order_at c = c.requires in omega (arith, c.order_at.ensures, p.0.fit.small, p.1, p.0.fit.line.few)
+
+pub bounds-words-order_at : goal.bounds-words-order_at
+bounds-words-order_at c = c.requires in omega (arith, c.order_at.ensures, p.0.fit.words, p.1, p.0.fit.line.few)
+
+pub returns-then-t-limit : goal.returns-then-t-limit
+returns-then-t-limit c = c.requires in row-late _ _ _ _ p.0.fit p.1 _ c.order_at.ensures _ _ c.if-t-limit.true
+
+pub overflow_cast-row : goal.overflow_cast-row
+overflow_cast-row c =
+    let p = c.requires in
+    let r = next_row _ _ _ _ p.0.fit p.1 _ c.order_at.ensures in
+    omega (arith, r, p.0.fit.small)
+
+pub links_of-links-requires : goal.links_of-links-requires
+links_of-links-requires c =
+    let p = c.requires in
+    let r = next_row _ _ _ _ p.0.fit p.1 _ c.order_at.ensures in
+    omega (arith, r, p.0.ground.parts.count)
+
+pub offset_bounds-neighbours-from : goal.offset_bounds-neighbours-from
+offset_bounds-neighbours-from c =
+    let p = c.requires in
+    let r = next_row _ _ _ _ p.0.fit p.1 _ c.order_at.ensures in
+    let l = c.links_of-links.ensures in
+    omega (arith, part-order p.0.ground.parts r l.0 l.1, part_end p.0.ground.parts r l.0 l.1, p.0.ground.small.links)
+
+pub slice_bounds-near-count : goal.slice_bounds-near-count
+slice_bounds-near-count c =
+    let p = c.requires in
+    let r = next_row _ _ _ _ p.0.fit p.1 _ c.order_at.ensures in
+    let l = c.links_of-links.ensures in
+    part-order p.0.ground.parts r l.0 l.1
+
+pub slice_bounds-near-start : goal.slice_bounds-near-start
+slice_bounds-near-start c =
+    let p = c.requires in
+    let r = next_row _ _ _ _ p.0.fit p.1 _ c.order_at.ensures in
+    let l = c.links_of-links.ensures in
+    part-order p.0.ground.parts r l.0 l.1
+
+pub slice_bounds-near-end : goal.slice_bounds-near-end
+slice_bounds-near-end c =
+    let p = c.requires in
+    let r = next_row _ _ _ _ p.0.fit p.1 _ c.order_at.ensures in
+    let l = c.links_of-links.ensures in
+    part_end p.0.ground.parts r l.0 l.1
+
+pub out_links-requires : goal.out_links-requires
+out_links-requires c =
+    let entry = c in
+    let p = entry.requires in
+    let r = next_row _ _ _ _ p.0.fit p.1 _ c.order_at.ensures in
+    let l = c.links_of-links.ensures in record { fact = record { ground = p.0.ground; fit = passed_fit _ _ _ _ p.0.fit p.1 _ c.order_at.ensures; inside = r }; near_value = (part-near {b = board_of entry.args.rows.now entry.args.marks.now 0} l.0 l.1).part }
+
+pub returns : goal.returns
+returns c =
+    let p = c.requires in
+    row_on _ _ _ _ p.0.fit p.1 _ c.order_at.ensures _ _ c.if-t-limit.false c.out_links.ensures
