@@ -59,7 +59,7 @@ process_zone-requires c =
       ); nodes =  }
 
 pub returns : goal.returns
-returns c = c in
+returns c = let entry = c in
     zone-planned (board_of entry.args.rows.now entry.args.marks.now entry.args.gases) _ c.starts_at.ensures
     entry.requires.zone entry.requires.ready c.nodes_at.ensures (omega (arith, c.moles_at.ensures))
     c.process_zone.ensures

@@ -41,5 +41,5 @@ pub bounds-floats-from-2 : goal.bounds-floats-from-2
 bounds-floats-from-2 c = simp length-set (omega (arith, c.amount_at-from.ensures, c.requires.fit, c.requires.row, c.adjust_eq_movement.auto))
 
 pub returns : goal.returns
-returns c = c in
+returns c = let entry = c in
     handed _ _ _ _ _ _ _ _ _ entry.requires.fit entry.requires.row entry.requires.to entry.requires.there entry.requires.back _ _ c.amount_at-from.ensures c.amount_at-to.ensures c.adjust_eq_movement.ensures

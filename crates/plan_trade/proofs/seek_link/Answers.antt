@@ -152,7 +152,7 @@ shape_of-words c = c.meet-traded.auto.1.1.1.1.1.1.0 ∙ simp length-set c.insert
 
 pub returns : goal.returns
 unfolding along
-returns c = let whole = c in
+returns c = let entry = c in
     let if1 = c.if-words-k in
     let queue-at = c.queue_at-queue in
     let places-at = c.places_at-places in
@@ -161,14 +161,11 @@ returns c = let whole = c in
     let insert = c.insert in
     let via = c.via_at in
     let meet = c.meet-traded in
-    let hk : entry.args.k < entry.args.hand.e = omega (arith, entry.requires.1.1.within) in
-    let ha = entry.requires.1.1.ends entry.args.k hk in (
-      record {
-        sought = link-new entry.args.hand.side entry.args.hand.g entry.args.r entry.args.k _ entry.args.hand.z _ _ _ _ _ entry.requires.0.seeking hk entry.requires.0.row ha _ _ queue-at.ensures places-at.ensures if1.false (sym if2.false ∙ contains.ensures) _ insert.ensures _ via.ensures meet.ensures.plan_does entry.requires.1.0;
-        met = link-keeps entry.args.hand.side entry.args.hand.g entry.args.r entry.args.k _ entry.args.hand.z _ _ _ _ _ entry.requires.0.seeking hk entry.requires.0.row ha _ _ queue-at.ensures places-at.ensures if1.false (sym if2.false ∙ contains.ensures) _ insert.ensures _ via.ensures meet.ensures.plan_does entry.args.neighbours.now refl;
-        idle = link-idle entry.args.hand.side entry.args.hand.g entry.args.r entry.args.k _ entry.args.hand.z _ _ _ _ _ entry.requires.0.seeking hk entry.requires.0.row ha _ _ queue-at.ensures places-at.ensures if1.false (sym if2.false ∙ contains.ensures) _ insert.ensures _ via.ensures
+    let hk : entry.args.k < entry.args.hand.e = omega (arith, entry.requires.unsettled.1.within) in
+    let ha = entry.requires.unsettled.1.ends entry.args.k hk in record { fact = record {
+        sought = link-new entry.args.hand.side entry.args.hand.g entry.args.r entry.args.k _ entry.args.hand.z _ _ _ _ _ entry.requires.searching.seeking hk entry.requires.searching.row ha _ _ queue-at.ensures places-at.ensures if1.false (sym if2.false ∙ contains.ensures) _ insert.ensures _ via.ensures meet.ensures.plan_does entry.requires.unsettled.0;
+        met = link-keeps entry.args.hand.side entry.args.hand.g entry.args.r entry.args.k _ entry.args.hand.z _ _ _ _ _ entry.requires.searching.seeking hk entry.requires.searching.row ha _ _ queue-at.ensures places-at.ensures if1.false (sym if2.false ∙ contains.ensures) _ insert.ensures _ via.ensures meet.ensures.plan_does entry.args.neighbours.now refl;
+        idle = link-idle entry.args.hand.side entry.args.hand.g entry.args.r entry.args.k _ entry.args.hand.z _ _ _ _ _ entry.requires.searching.seeking hk entry.requires.searching.row ha _ _ queue-at.ensures places-at.ensures if1.false (sym if2.false ∙ contains.ensures) _ insert.ensures _ via.ensures
             meet.ensures.plan_does _ _ _ meet.ensures.value c.first_traded.ensures;
-      },
-      link-open entry.args.hand.side entry.args.hand.g entry.args.r entry.args.k _ entry.args.hand.z _ _ _ _ _ entry.requires.0.seeking hk entry.requires.0.row ha _ _ queue-at.ensures places-at.ensures if1.false (sym if2.false ∙ contains.ensures) _ insert.ensures _ via.ensures
-          meet.ensures.plan_does entry.requires.1.0 _ meet.ensures.value _ _ refl _ c.delta_at.ensures _ c.settles.ensures,
-    ) in record { fact = whole.0; done_value = whole.1 }
+      }; done_value = (link-open entry.args.hand.side entry.args.hand.g entry.args.r entry.args.k _ entry.args.hand.z _ _ _ _ _ entry.requires.searching.seeking hk entry.requires.searching.row ha _ _ queue-at.ensures places-at.ensures if1.false (sym if2.false ∙ contains.ensures) _ insert.ensures _ via.ensures
+          meet.ensures.plan_does entry.requires.unsettled.0 _ meet.ensures.value _ _ refl _ c.delta_at.ensures _ c.settles.ensures, ) }
