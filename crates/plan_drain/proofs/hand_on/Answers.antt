@@ -19,8 +19,8 @@ bounds-floats-from c = omega (arith, c.amount_at-from.ensures, c.requires.fit, c
 
 pub adjust_eq_movement-requires : goal.adjust_eq_movement-requires
 adjust_eq_movement-requires c =
-    let entry = c in record { found = found-more _ _ entry.args.there (omega (arith, entry.requires.fit.floats)) entry.requires.there; found_2 = (found-more _ _ entry.args.back (omega (arith, entry.requires.fit.floats))
-          entry.requires.back, ) }
+    let entry = c in record { found = found-more _ _ entry.args.there (omega (arith, entry.requires.fit.floats)) entry.requires.there; found_2 = found-more _ _ entry.args.back (omega (arith, entry.requires.fit.floats))
+          entry.requires.back }
 
 pub offset_bounds-floats-to : goal.offset_bounds-floats-to
 offset_bounds-floats-to c = omega (arith, c.amount_at-to.ensures, c.requires.fit, c.requires.to)

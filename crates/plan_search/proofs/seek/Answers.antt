@@ -35,8 +35,11 @@ pub shape_of-floats-then-settled : goal.shape_of-floats-then-settled
 shape_of-floats-then-settled c = c.loop-looked.invariant.0.1
 
 pub returns-then-settled : goal.returns-then-settled
-returns-then-settled c = let loop = c.loop-looked in record { fact = trail_end _ loop.invariant.1.0 (turn-settled _ _ _ _ _ _ loop.invariant.1.0.seeking c.loop-looked-test.true _ c.queue_at-queue.ensures _ _ _ _ c.requires.searching.row _
-      c.delta_at-own.ensures (sym c.settled.ensures ∙ c.if-settled.true)); fact_2 = loop.invariant.1.1; idle =  }
+returns-then-settled c = let loop = c.loop-looked in (
+  trail_end _ loop.invariant.1.0 (turn-settled _ _ _ _ _ _ loop.invariant.1.0.seeking c.loop-looked-test.true _ c.queue_at-queue.ensures _ _ _ _ c.requires.searching.row _
+      c.delta_at-own.ensures (sym c.settled.ensures ∙ c.if-settled.true)),
+  loop.invariant.1.1,
+)
 
 pub overflow_add-r : goal.overflow_add-r
 overflow_add-r c =

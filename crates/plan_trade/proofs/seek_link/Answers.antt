@@ -65,7 +65,7 @@ returns-then-contains c =
             entry.requires.unsettled.0 (sym c.if-contains.true ∙ c.contains.ensures);
         met = keeps-none;
         idle = idle-none;
-      }; done_value = (sym entry.requires.unsettled.0, ) }
+      }; done_value = sym entry.requires.unsettled.0 }
 
 pub insert-requires : goal.insert-requires
 insert-requires c =
@@ -76,14 +76,11 @@ insert-requires c =
     let ha = entry.requires.unsettled.1.ends entry.args.k hk in
     let l = link-room entry.args.hand.side entry.args.hand.g entry.args.r entry.args.k _ entry.args.hand.z _ _ _ _ _ entry.requires.searching.seeking hk
     entry.requires.searching.row ha _ _ queue-at.ensures places-at.ensures c.if-words-k.false (sym c.if-contains.false
-    ∙ c.contains.ensures) in record { count_in_bounds = omega (arith, l, queue-at.ensures, entry.requires.searching.seeking.fit.words); a_in_bounds = (
-        omega (arith, l, places-at.ensures, entry.requires.searching.seeking.fit.words, ha),
-        omega (
+    ∙ c.contains.ensures) in record { count_in_bounds = omega (arith, l, queue-at.ensures, entry.requires.searching.seeking.fit.words); a_in_bounds = omega (arith, l, places-at.ensures, entry.requires.searching.seeking.fit.words, ha); count_bound = omega (
           arith,
           l,
           entry.requires.searching.seeking.fit.turfs,
-        ),
-      ); count_bound =  }
+        ) }
 
 pub overflow_cast-row : goal.overflow_cast-row
 overflow_cast-row c =
@@ -167,5 +164,5 @@ returns c = let entry = c in
         met = link-keeps entry.args.hand.side entry.args.hand.g entry.args.r entry.args.k _ entry.args.hand.z _ _ _ _ _ entry.requires.searching.seeking hk entry.requires.searching.row ha _ _ queue-at.ensures places-at.ensures if1.false (sym if2.false ∙ contains.ensures) _ insert.ensures _ via.ensures meet.ensures.plan_does entry.args.neighbours.now refl;
         idle = link-idle entry.args.hand.side entry.args.hand.g entry.args.r entry.args.k _ entry.args.hand.z _ _ _ _ _ entry.requires.searching.seeking hk entry.requires.searching.row ha _ _ queue-at.ensures places-at.ensures if1.false (sym if2.false ∙ contains.ensures) _ insert.ensures _ via.ensures
             meet.ensures.plan_does _ _ _ meet.ensures.value c.first_traded.ensures;
-      }; done_value = (link-open entry.args.hand.side entry.args.hand.g entry.args.r entry.args.k _ entry.args.hand.z _ _ _ _ _ entry.requires.searching.seeking hk entry.requires.searching.row ha _ _ queue-at.ensures places-at.ensures if1.false (sym if2.false ∙ contains.ensures) _ insert.ensures _ via.ensures
-          meet.ensures.plan_does entry.requires.unsettled.0 _ meet.ensures.value _ _ refl _ c.delta_at.ensures _ c.settles.ensures, ) }
+      }; done_value = link-open entry.args.hand.side entry.args.hand.g entry.args.r entry.args.k _ entry.args.hand.z _ _ _ _ _ entry.requires.searching.seeking hk entry.requires.searching.row ha _ _ queue-at.ensures places-at.ensures if1.false (sym if2.false ∙ contains.ensures) _ insert.ensures _ via.ensures
+          meet.ensures.plan_does entry.requires.unsettled.0 _ meet.ensures.value _ _ refl _ c.delta_at.ensures _ c.settles.ensures }
