@@ -141,7 +141,7 @@ finalize_eq_neighbors-next_edge-k-requires-in-loop-k t c =
     let lifted-at = c.lifted_at-up in
     let loop = c.loop-k in
     let loop-test = c.loop-k-test in
-    let finalize-eq = c.finalize_eq-now in let whole = edge-room _ _ _ _ _ entry.requires.1 _ _ _ lifted-at.ensures links-of.ensures.0 links-of.ensures.1 _ _ loop.invariant loop-test.true finalize-eq.new.used.1.1.1.1.1.0 finalize-eq.ensures.kept.floats in record { zone_bound = whole.0; k_le_to = whole.1.0; to_in_bounds = whole.1.1.0; to_in_bounds_2 = whole.1.1.1 }
+    let finalize-eq = c.finalize_eq-now in let whole = edge-room _ _ _ _ _ entry.requires.1 _ _ _ lifted-at.ensures links-of.ensures.0 links-of.ensures.1 _ _ loop.invariant loop-test.true finalize-eq.new.floats finalize-eq.ensures.kept.floats in record { zone_bound = whole.0; k_le_to = whole.1.0; to_in_bounds = whole.1.1.0; to_in_bounds_2 = whole.1.1.1 }
 
 pub finalize_eq_neighbors-loop-k-smaller : goal.finalize_eq_neighbors-loop-k-smaller
 finalize_eq_neighbors-loop-k-smaller t c = omega (arith, c.next_edge-k-in-loop-k.ensures.low, c.loop-k-test.true)
