@@ -59,7 +59,7 @@ pub record RowsOf (ns : List ℕ) (rows : Slices) : Type 0 where
 pub record MarksOf (ns : List ℕ) (bytes : List ℕ) (marks : Slices) : Type 0 where
   pub flags : table marks 0 ≡ section bytes (table_span ns 1)
   pub planetary : table marks 1 ≡ section bytes (table_span ns 2)
-  pub link_flags_of : table marks 2 ≡ section bytes (table_span ns 6)
+  pub link_flags : table marks 2 ≡ section bytes (table_span ns 6)
   pub immutable : table marks 3 ≡ section bytes (table_span ns 7)
 
 -- what equalize is asked

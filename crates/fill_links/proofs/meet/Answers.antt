@@ -14,7 +14,7 @@ is_immutable-requires c =
 
 pub across_firelock-requires : goal.across_firelock-requires
 across_firelock-requires c =
-    let pre = c.requires in record { row_in_bounds = rw pre.0.planetary pre.1.0; k_in_bounds = rw pre.0.link_flags_of pre.1.1 }
+    let pre = c.requires in record { row_in_bounds = rw pre.0.planetary pre.1.0; k_in_bounds = rw pre.0.link_flags pre.1.1 }
 
 pub returns : goal.returns
 unfolding enabled planetary firelock

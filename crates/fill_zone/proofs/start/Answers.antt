@@ -24,4 +24,4 @@ returns c =
     let by-found-at = c.found_at in
     let by-queue-at = c.queue_at in
     let by-nodes-at = c.nodes_at in
-    let by-places-at = c.places_at-places in record { zone_starts = started entry.args.seed.row entry.args.seed.used entry.args.seed.tests entry.args.seed.kept entry.args.n entry.args.e entry.args.words.now entry.requires.sizes entry.requires.row entry.requires.room entry.requires.words _ _ _ _ by-found-at.ensures by-queue-at.ensures by-nodes-at.ensures by-places-at.ensures _ c.insert.ensures; at_start = (record { none = refl; clock = refl; on = refl; bytes = refl }, ) }
+    let by-places-at = c.places_at-places in record { zone_starts = started entry.args.seed.row entry.args.seed.used entry.args.seed.tests entry.args.seed.kept entry.args.n entry.args.e entry.args.words.now entry.requires.sizes entry.requires.row entry.requires.room entry.requires.words _ _ _ _ by-found-at.ensures by-queue-at.ensures by-nodes-at.ensures by-places-at.ensures _ c.insert.ensures; at_start = record { none = refl; clock = refl; on = refl; bytes = refl } }

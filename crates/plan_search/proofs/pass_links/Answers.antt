@@ -9,7 +9,7 @@ loop-k-init c = ((omega arith, (omega (arith, c.requires.ends.1), (refl, refl)))
 
 pub pass_link-p-requires : goal.pass_link-p-requires
 pass_link-p-requires c =
-    let entry = c in record { searching = record { seeking = c.loop-k.invariant.1.seeking; zone = entry.requires.searching.zone; row = entry.requires.searching.row }; ends = (record { row = entry.requires.ends.0.row; all = entry.requires.ends.0.all; within = omega (arith, entry.requires.ends.0.within, c.loop-k-test.true); ends = entry.requires.ends.0.ends }, ) }
+    let entry = c in record { searching = record { seeking = c.loop-k.invariant.1.seeking; zone = entry.requires.searching.zone; row = entry.requires.searching.row }; ends = record { row = entry.requires.ends.0.row; all = entry.requires.ends.0.all; within = omega (arith, entry.requires.ends.0.within, c.loop-k-test.true); ends = entry.requires.ends.0.ends } }
 
 pub shape_of-words-then-p : goal.shape_of-words-then-p
 shape_of-words-then-p c = c.pass_link-p.auto.1.1.1.1.1.0 ∙ c.loop-k.invariant.0.1.1.0

@@ -18,15 +18,12 @@ seek_link-step-requires c =
     let entry = c in
     let loop = c.loop-k in
     let pass-links = c.pass_links-pass in
-    let t = row-passes loop.invariant.1 entry.requires.searching.row loop.invariant.0.0 pass-links.ensures.at_le_at pass-links.ensures.at_le_to_2.0 pass-links.ensures.at_le_to_2.1 in record { searching = record { seeking = t.on.seeking; zone = entry.requires.searching.zone; row = entry.requires.searching.row }; unsettled = (
-        t.unsettled,
-        record {
+    let t = row-passes loop.invariant.1 entry.requires.searching.row loop.invariant.0.0 pass-links.ensures.at_le_at pass-links.ensures.at_le_to_2.0 pass-links.ensures.at_le_to_2.1 in record { searching = record { seeking = t.on.seeking; zone = entry.requires.searching.zone; row = entry.requires.searching.row }; unsettled = t.unsettled; ends = record {
           row = entry.requires.ends.row;
           all = entry.requires.ends.all;
           within = omega (arith, entry.requires.ends.within, c.if-k-to.true);
           ends = entry.requires.ends.ends;
-        },
-      ); ends =  }
+        } }
 
 pub overflow_add-k : goal.overflow_add-k
 overflow_add-k c =

@@ -65,7 +65,7 @@ returns-then-contains c =
             entry.requires.unsettled.0 (sym c.if-contains.true ∙ c.contains.ensures);
         met = keeps-none;
         idle = idle-none;
-      }; done_value = (sym entry.requires.unsettled.0, ) }
+      }; done_value = sym entry.requires.unsettled.0 }
 
 pub insert-requires : goal.insert-requires
 insert-requires c =
@@ -76,14 +76,11 @@ insert-requires c =
     let ha = entry.requires.unsettled.1.ends entry.args.k hk in
     let l = link-room entry.args.hand.side entry.args.hand.g entry.args.r entry.args.k _ entry.args.hand.z _ _ _ _ _ entry.requires.searching.seeking hk
     entry.requires.searching.row ha _ _ queue-at.ensures places-at.ensures c.if-words-k.false (sym c.if-contains.false
-    ∙ c.contains.ensures) in record { count_in_bounds = omega (arith, l, queue-at.ensures, entry.requires.searching.seeking.fit.words); a_in_bounds = (
-        omega (arith, l, places-at.ensures, entry.requires.searching.seeking.fit.words, ha),
-        omega (
+    ∙ c.contains.ensures) in record { count_in_bounds = omega (arith, l, queue-at.ensures, entry.requires.searching.seeking.fit.words); a_in_bounds = omega (arith, l, places-at.ensures, entry.requires.searching.seeking.fit.words, ha); count_bound = omega (
           arith,
           l,
           entry.requires.searching.seeking.fit.turfs,
-        ),
-      ); count_bound =  }
+        ) }
 
 pub overflow_cast-row : goal.overflow_cast-row
 overflow_cast-row c =
@@ -152,7 +149,7 @@ shape_of-words c = c.meet-traded.auto.1.1.1.1.1.1.0 ∙ simp length-set c.insert
 
 pub returns : goal.returns
 unfolding along
-returns c = let whole = c in
+returns c = let entry = c in
     let if1 = c.if-words-k in
     let queue-at = c.queue_at-queue in
     let places-at = c.places_at-places in
@@ -161,14 +158,11 @@ returns c = let whole = c in
     let insert = c.insert in
     let via = c.via_at in
     let meet = c.meet-traded in
-    let hk : entry.args.k < entry.args.hand.e = omega (arith, entry.requires.1.1.within) in
-    let ha = entry.requires.1.1.ends entry.args.k hk in (
-      record {
-        sought = link-new entry.args.hand.side entry.args.hand.g entry.args.r entry.args.k _ entry.args.hand.z _ _ _ _ _ entry.requires.0.seeking hk entry.requires.0.row ha _ _ queue-at.ensures places-at.ensures if1.false (sym if2.false ∙ contains.ensures) _ insert.ensures _ via.ensures meet.ensures.plan_does entry.requires.1.0;
-        met = link-keeps entry.args.hand.side entry.args.hand.g entry.args.r entry.args.k _ entry.args.hand.z _ _ _ _ _ entry.requires.0.seeking hk entry.requires.0.row ha _ _ queue-at.ensures places-at.ensures if1.false (sym if2.false ∙ contains.ensures) _ insert.ensures _ via.ensures meet.ensures.plan_does entry.args.neighbours.now refl;
-        idle = link-idle entry.args.hand.side entry.args.hand.g entry.args.r entry.args.k _ entry.args.hand.z _ _ _ _ _ entry.requires.0.seeking hk entry.requires.0.row ha _ _ queue-at.ensures places-at.ensures if1.false (sym if2.false ∙ contains.ensures) _ insert.ensures _ via.ensures
+    let hk : entry.args.k < entry.args.hand.e = omega (arith, entry.requires.unsettled.1.within) in
+    let ha = entry.requires.unsettled.1.ends entry.args.k hk in record { fact = record {
+        sought = link-new entry.args.hand.side entry.args.hand.g entry.args.r entry.args.k _ entry.args.hand.z _ _ _ _ _ entry.requires.searching.seeking hk entry.requires.searching.row ha _ _ queue-at.ensures places-at.ensures if1.false (sym if2.false ∙ contains.ensures) _ insert.ensures _ via.ensures meet.ensures.plan_does entry.requires.unsettled.0;
+        met = link-keeps entry.args.hand.side entry.args.hand.g entry.args.r entry.args.k _ entry.args.hand.z _ _ _ _ _ entry.requires.searching.seeking hk entry.requires.searching.row ha _ _ queue-at.ensures places-at.ensures if1.false (sym if2.false ∙ contains.ensures) _ insert.ensures _ via.ensures meet.ensures.plan_does entry.args.neighbours.now refl;
+        idle = link-idle entry.args.hand.side entry.args.hand.g entry.args.r entry.args.k _ entry.args.hand.z _ _ _ _ _ entry.requires.searching.seeking hk entry.requires.searching.row ha _ _ queue-at.ensures places-at.ensures if1.false (sym if2.false ∙ contains.ensures) _ insert.ensures _ via.ensures
             meet.ensures.plan_does _ _ _ meet.ensures.value c.first_traded.ensures;
-      },
-      link-open entry.args.hand.side entry.args.hand.g entry.args.r entry.args.k _ entry.args.hand.z _ _ _ _ _ entry.requires.0.seeking hk entry.requires.0.row ha _ _ queue-at.ensures places-at.ensures if1.false (sym if2.false ∙ contains.ensures) _ insert.ensures _ via.ensures
-          meet.ensures.plan_does entry.requires.1.0 _ meet.ensures.value _ _ refl _ c.delta_at.ensures _ c.settles.ensures,
-    ) in record { fact = whole.0; done_value = whole.1 }
+      }; done_value = link-open entry.args.hand.side entry.args.hand.g entry.args.r entry.args.k _ entry.args.hand.z _ _ _ _ _ entry.requires.searching.seeking hk entry.requires.searching.row ha _ _ queue-at.ensures places-at.ensures if1.false (sym if2.false ∙ contains.ensures) _ insert.ensures _ via.ensures
+          meet.ensures.plan_does entry.requires.unsettled.0 _ meet.ensures.value _ _ refl _ c.delta_at.ensures _ c.settles.ensures }

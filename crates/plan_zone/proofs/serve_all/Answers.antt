@@ -35,7 +35,7 @@ serve-requires c =
         fit = c.loop-i.invariant.1.fit;
         zone = entry.requires.planning.zone;
         reverses = reverses-kept entry.requires.planning.reverses c.loop-i.invariant.1.frame;
-      }; g_lt_n = (list-below entry.requires.listed_le_n.0 entry.requires.listed_le_n.1 c.loop-i.invariant.1 _ c.list_at-list.ensures _ c.loop-i-test.true, ) }
+      }; g_lt_n = list-below entry.requires.listed_le_n.0 entry.requires.listed_le_n.1 c.loop-i.invariant.1 _ c.list_at-list.ensures _ c.loop-i-test.true }
 
 pub overflow_add-i : goal.overflow_add-i
 overflow_add-i c = omega (arith, c.loop-i-test.true, c.requires.listed_le_n.0, c.requires.planning.fit.turfs)

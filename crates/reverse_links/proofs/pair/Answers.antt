@@ -23,10 +23,7 @@ bounds-words-here c =
     omega (arith, c.reverse_at-here.ensures, link-below entry.requires.pairing.linked _ _ entry.requires.of_row.0.row entry.requires.of_row.0.link, entry.requires.pairing)
 
 pub returns-then-words-here-ne0 : goal.returns-then-words-here-ne0
-returns-then-words-here-ne0 c = let whole = c in (
-  but_none,
-  paired_same entry.requires.0.linked _ _ _ _ entry.requires.1.0.row entry.requires.1.0.link (λ s. entry.requires.1.1.right _ _ entry.requires.1.0.row entry.requires.1.0.link (subst (λ (i : ℕ). get_or entry.args.words.now i 0 ≢ 0) c.reverse_at-here.ensures c.if-words-here-ne0.true)) entry.requires.1.1,
-) in record { but = whole.0; paired_2 = whole.1 }
+returns-then-words-here-ne0 c = let entry = c in record { but = but_none; paired_2 = paired_same entry.requires.pairing.linked _ _ _ _ entry.requires.of_row.0.row entry.requires.of_row.0.link (λ s. entry.requires.of_row.1.right _ _ entry.requires.of_row.0.row entry.requires.of_row.0.link (subst (λ (i : ℕ). get_or entry.args.words.now i 0 ≢ 0) c.reverse_at-here.ensures c.if-words-here-ne0.true)) entry.requires.of_row.1 }
 
 pub offset_bounds-neighbours-k : goal.offset_bounds-neighbours-k
 offset_bounds-neighbours-k c =
@@ -107,23 +104,20 @@ overflow_sub-to c =
 
 pub returns-then-to-from : goal.returns-then-to-from
 returns-then-to-from c =
-    let entry = c in record { but = but_none; paired_2 = (paired_same entry.requires.pairing.linked _ _ _ _ entry.requires.of_row.0.row entry.requires.of_row.0.link (λ s. absurd (omega (arith, s, c.if-to-from.true, entry.requires.of_row.0.links)))
-          entry.requires.of_row.1, ) }
+    let entry = c in record { but = but_none; paired_2 = paired_same entry.requires.pairing.linked _ _ _ _ entry.requires.of_row.0.row entry.requires.of_row.0.link (λ s. absurd (omega (arith, s, c.if-to-from.true, entry.requires.of_row.0.links)))
+          entry.requires.of_row.1 }
 
 pub look_back-p-requires : goal.look_back-p-requires
 look_back-p-requires c =
-    let entry = c in record { to_in_bounds = entry.requires.pairing.linked.within (get_or entry.args.neighbours.now entry.args.k 0) (end_below entry.requires.pairing.linked _ _ entry.requires.of_row.0.row entry.requires.of_row.0.link); to_bound = (omega (
+    let entry = c in record { to_in_bounds = entry.requires.pairing.linked.within (get_or entry.args.neighbours.now entry.args.k 0) (end_below entry.requires.pairing.linked _ _ entry.requires.of_row.0.row entry.requires.of_row.0.link); to_bound = omega (
         arith,
         entry.requires.pairing.linked.within (get_or entry.args.neighbours.now entry.args.k 0) (end_below entry.requires.pairing.linked _ _ entry.requires.of_row.0.row
             entry.requires.of_row.0.link),
         entry.requires.pairing,
-      ), ) }
+      ) }
 
 pub returns-then-p-eq0 : goal.returns-then-p-eq0
-returns-then-p-eq0 c = let whole = c in (
-  but_none,
-  paired_same entry.requires.0.linked _ _ _ _ entry.requires.1.0.row entry.requires.1.0.link (λ s. ap (λ (i : ℕ). get_or entry.args.words.now i 0) (sym c.reverse_at-here.ensures) ∙ c.if-words-here-ne0.false ∙ sym c.if-p-eq0.true ∙ c.look_back-p.ensures) entry.requires.1.1,
-) in record { but = whole.0; paired_2 = whole.1 }
+returns-then-p-eq0 c = let entry = c in record { but = but_none; paired_2 = paired_same entry.requires.pairing.linked _ _ _ _ entry.requires.of_row.0.row entry.requires.of_row.0.link (λ s. ap (λ (i : ℕ). get_or entry.args.words.now i 0) (sym c.reverse_at-here.ensures) ∙ c.if-words-here-ne0.false ∙ sym c.if-p-eq0.true ∙ c.look_back-p.ensures) entry.requires.of_row.1 }
 
 pub overflow_cast-p : goal.overflow_cast-p
 overflow_cast-p c =
@@ -175,5 +169,4 @@ bounds-words-there c =
     )
 
 pub returns : goal.returns
-returns c = let whole = c in
-    rw (c.reverse_at-here.ensures, c.reverse_at-there.ensures) (paired_word entry.requires.0.linked _ _ _ c.look_back-p.result _ entry.requires.0.all entry.requires.0.room entry.requires.1.0.row entry.requires.1.0.link c.if-p-eq0.false c.look_back-p.ensures entry.requires.1.1) in record { but = whole.0; paired_2 = whole.1 }
+returns c = let entry = c in let whole = rw (c.reverse_at-here.ensures, c.reverse_at-there.ensures) (paired_word entry.requires.pairing.linked _ _ _ c.look_back-p.result _ entry.requires.pairing.all entry.requires.pairing.room entry.requires.of_row.0.row entry.requires.of_row.0.link c.if-p-eq0.false c.look_back-p.ensures entry.requires.of_row.1) in record { but = whole.0; paired_2 = whole.1 }
