@@ -1,7 +1,7 @@
 -- How a stored vector stands in a list of numbers: oracle/boards/src/vectors.rs writes it.
-use Rattle.std.specs.Prelude.{◌&&◌, List, [], ◌≡◌, ℕ, ◌+◌, ◌-◌, min, eqb, leb, length, get_or, take, drop}
+use Rattle.std.specs.Prelude.{◌&&◌, List, [], ◌≡◌, ℕ, ◌+◌, ◌-◌, min, eqb, leb, length, get_or, take, drop, if◌then◌else◌}
 use Rattle.turfs.specs.Tables.{Slices, table}
-use Rattle.basics.specs.Loops.{times, if◌then◌else◌}
+use Rattle.basics.specs.Loops.{times}
 use Rattle.vectors.specs.declared.Span.{Span}
 use Rattle.vectors.specs.declared.Asked.{Asked}
 use Rattle.vectors.specs.declared.Walk.{Walk}
