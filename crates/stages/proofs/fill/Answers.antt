@@ -23,14 +23,14 @@ L s = lent s.args.gas.now s.args.events.now s.args.words.now s.args.floats.now
 
 pub returns-then-number-ne0 : goal.returns-then-number-ne0
 returns-then-number-ne0 c =
-    let s : tie.Start = c in
+    let s = c in
     refused-fills _ _ _ (c.refusal-number.ensures s.args.settings.limit s.args.settings.allowance) c.if-number-ne0.true
 
 pub fill_all-filling-requires : goal.fill_all-filling-requires
 fill_all-filling-requires c =
-    let s : tie.Start = c in let whole = fill-asks (B s) (Q s) [] (L s) (sym (c.refusal-number.ensures s.args.settings.limit s.args.settings.allowance) ∙ c.if-number-ne0.false) in record { accepted = whole.0; threshold_value = whole.1; fill_fits = whole.2 }
+    let s = c in let whole = fill-asks (B s) (Q s) [] (L s) (sym (c.refusal-number.ensures s.args.settings.limit s.args.settings.allowance) ∙ c.if-number-ne0.false) in record { accepted = whole.0; threshold_value = whole.1; fill_fits = whole.2 }
 
 pub returns : goal.returns
 returns c =
-    let s : tie.Start = c in
+    let s = c in
     done-fills _ _ (L s) (c.refusal-number.ensures s.args.settings.limit s.args.settings.allowance) c.if-number-ne0.false c.fill_all-filling.ensures

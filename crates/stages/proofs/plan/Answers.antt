@@ -20,19 +20,19 @@ L s = lent s.args.gas.now s.args.events.now s.args.words.now s.args.floats.now
 
 pub returns-then-a-ne0 : goal.returns-then-a-ne0
 returns-then-a-ne0 c =
-    let s : tie.Start = c in
+    let s = c in
     refused-plans (B s) (Q s) (L s) c.fill-a.ensures c.if-a-ne0.true
 
 pub returns-then-a : goal.returns-then-a
 returns-then-a c =
-    let s : tie.Start = c in
+    let s = c in
     cancelled-plans (B s) (Q s) (L s) c.fill-a.ensures c.if-a.true
 
 pub plan_all-requires : goal.plan_all-requires
 plan_all-requires c =
-    let s : tie.Start = c in let whole = plan-ready (B s) (Q s) (L s) c.fill-a.ensures c.if-a-ne0.false c.words-1.given c.floats-1.given in record { plannable = whole.0; fact = whole.1 }
+    let s = c in let whole = plan-ready (B s) (Q s) (L s) c.fill-a.ensures c.if-a-ne0.false c.words-1.given c.floats-1.given in record { plannable = whole.0; fact = whole.1 }
 
 pub returns : goal.returns
 returns c =
-    let s : tie.Start = c in
+    let s = c in
     planned-plans (B s) (Q s) (L s) c.fill-a.ensures c.if-a-ne0.false c.if-a.false c.plan_all.ensures

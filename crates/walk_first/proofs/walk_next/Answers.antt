@@ -12,7 +12,7 @@ visit_planet-requires c = let p = c.requires in next-stands _ _ _ _ _ p.0 p.1 _ 
 
 pub visit_space-requires : goal.visit_space-requires
 visit_space-requires c =
-    let p = c.requires in record { fact = next-stands _ _ _ _ _ p.0 p.1 _ c.counted-t.ensures; fact_2 = next-visits _ _ _ _ _ p.0 p.1 _ c.counted-t.ensures Space c.enum_told-in-Space-1.given.1 }
+    let p = c.requires in record { fact = next-stands _ _ _ _ _ p.0 p.1 _ c.counted-t.ensures; fact_2 = next-visits _ _ _ _ _ p.0 p.1 _ c.counted-t.ensures Space c.in-Space.is }
 
 pub returns-in-Planet : goal.returns-in-Planet
 returns-in-Planet c =
