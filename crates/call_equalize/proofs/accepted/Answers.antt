@@ -27,7 +27,7 @@ L s = lent s.args.gas.now s.args.events.now s.args.words.now s.args.floats.now
 
 pub fill_all-s-requires : goal.fill_all-s-requires
 fill_all-s-requires c =
-    let s = c in let whole = fill-asks (B s) (Q s) (T s) (L s) s.requires in record { accepted = whole.0; threshold_value = whole.1; fill_fits = whole.2 }
+    let s = c in let whole = fill-asks (B s) (Q s) (T s) (L s) s.requires in record { accepted = whole.0; threshold_value = whole.1.0; fill_fits = whole.1.1 }
 
 pub timed-requires : goal.timed-requires
 timed-requires c =

@@ -53,7 +53,7 @@ overflow_cast-seed c =
     omega (arith, row, p.0.turfs.1)
 
 pub overflow_cast-seed-2 : goal.overflow_cast-seed-2
-overflow_cast-seed-2 c = omega (arith, c.requires.threshold_value.1.stored.zones, c.requires.accepted.turfs.1)
+overflow_cast-seed-2 c = omega (arith, c.requires.hot_fits.stored.zones, c.requires.accepted.turfs.1)
 
 pub flood_fill-t-requires : goal.flood_fill-t-requires
 flood_fill-t-requires c =
@@ -79,7 +79,7 @@ after_fill-requires c =
     let row = row-in p.0 _ _ found _ is_at in
     let pass = c.passed_over.ensures q refl in
     let left = c.if-passed_over.false in
-    let new = is_new b args.gas.now q _ (found_in (turf_count b) (link_count b) args.words.now) pass left in let whole = after-asks p.0 args.gas.now q _ p.1.1.stored p.1.1.room row new c.flood_fill-t.ensures in record { keep_fits = whole.0; pushed_fits = whole.1; spans = whole.2 }
+    let new = is_new b args.gas.now q _ (found_in (turf_count b) (link_count b) args.words.now) pass left in let whole = after-asks p.0 args.gas.now q _ p.1.1.stored p.1.1.room row new c.flood_fill-t.ensures in record { keep_fits = whole.0; pushed_fits = whole.1.0; spans = whole.1.1 }
 
 pub shape_of-words : goal.shape_of-words
 shape_of-words c = c.after_fill.auto.1.1.1.1.1.0 ∙ c.flood_fill-t.auto.1.1.1.1.1.1.0

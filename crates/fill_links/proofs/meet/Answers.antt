@@ -5,7 +5,7 @@ use Rattle.turfs.specs.Tables.{board_at}
 use Rattle.fill_links.proofs.meet.Goals as goal
 
 pub bounds-flags-a : goal.bounds-flags-a
-bounds-flags-a c = rw c.requires.tables_fit.flags c.requires.row_bound.0
+bounds-flags-a c = rw c.requires.tables_fit.flags c.requires.row_bound
 
 pub is_immutable-requires : goal.is_immutable-requires
 is_immutable-requires c =

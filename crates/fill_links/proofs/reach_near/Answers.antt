@@ -9,7 +9,7 @@ use Rattle.fill_links.proofs.Links.{near-row, near-met, met-row, met-step, walke
 use Rattle.fill_links.proofs.reach_near.Goals as goal
 
 pub bounds-ids-at : goal.bounds-ids-at
-bounds-ids-at c = c.requires.turf_fits.0.row
+bounds-ids-at c = c.requires.turf_fits.row
 
 pub loop-i-init : goal.loop-i-init
 loop-i-init c =

@@ -28,7 +28,7 @@ returns-then-number-ne0 c =
 
 pub fill_all-filling-requires : goal.fill_all-filling-requires
 fill_all-filling-requires c =
-    let s = c in let whole = fill-asks (B s) (Q s) [] (L s) (sym (c.refusal-number.ensures s.args.settings.limit s.args.settings.allowance) ∙ c.if-number-ne0.false) in record { accepted = whole.0; threshold_value = whole.1; fill_fits = whole.2 }
+    let s = c in let whole = fill-asks (B s) (Q s) [] (L s) (sym (c.refusal-number.ensures s.args.settings.limit s.args.settings.allowance) ∙ c.if-number-ne0.false) in record { accepted = whole.0; threshold_value = whole.1.0; fill_fits = whole.1.1 }
 
 pub returns : goal.returns
 returns c =
