@@ -21,7 +21,7 @@ RECORD = re.compile(r"""^( *)(?:pub |abbrev |unfoldable )*(record|data)\s+(?:pub
 # Names whose plain spelling is a field, a parameter or a lemma of ours.
 CHOSEN = {
     "goesOn": "may_go_on",
-    "linkFlags": "link_flags_of",
+    "linkFlags": "link_flags",
     "inOrder": "jobs_in_order",
     "planZone": "planned_zone",
     "fillAll": "filled_all",

@@ -1,6 +1,7 @@
 -- Loops and searches. A loop of the definitions is one of two: `run f xs s`, a step for each element of a list, and `times f n s`, a step n times.
 -- A loop that ends early is the same loop with a step that changes nothing from there on.
-use Rattle.std.specs.Prelude.{List, [], ◌∷◌, ◌++◌, Bool, true, false, not, ◌&&◌, ◌||◌, cond, ℕ, zero, suc, ◌+◌, eqb}
+-- `if` computes both branches, so no branch of a definition holds a call of the definition itself.
+use Rattle.std.specs.Prelude.{List, [], ◌∷◌, ◌++◌, Bool, true, false, not, ◌&&◌, ◌||◌, ℕ, zero, suc, ◌+◌, eqb}
 use Rattle.basics.specs.declared.Spot.{Spot}
 use Rattle.basics.specs.declared.Spot.TheVariants.{At, Nowhere}
 
@@ -36,11 +37,6 @@ module _ {A : Type 0} where
   abbrev pub snoc : List A → A → List A
   snoc xs x = xs ++ (x ∷ [])
 
--- `cond` in the order in which the Rust has it. Both branches are computed, so no branch holds a call of the function itself.
-abbrev pub if◌then◌else◌ : {A : Type 0} → Bool → A → A → A
-if◌then◌else◌ c x y = cond c x y
-
-infixr 20 if◌then◌else◌
 -- every test of the list passes
 unfoldable pub all_of : List Bool → Bool
 all_of [] = true

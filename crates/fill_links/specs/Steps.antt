@@ -1,6 +1,6 @@
 -- One link of a fill, step by step: which neighbour is met, and what it brings.
-use Rattle.std.specs.Prelude.{[], ◌∷◌, ◌++◌, ◌&&◌, ◌||◌, ℕ, ◌+◌, eqb, get_or, set}
-use Rattle.basics.specs.Loops.{snoc, if◌then◌else◌}
+use Rattle.std.specs.Prelude.{[], ◌∷◌, ◌++◌, ◌&&◌, ◌||◌, ℕ, ◌+◌, eqb, get_or, set, if◌then◌else◌}
+use Rattle.basics.specs.Loops.{snoc}
 use Rattle.rules_board.specs.Board.{Board, end, enabled, planetary, immutable, firelock}
 use Rattle.rules_events.specs.declared.Event.TheVariants.{DepressurizeWanted, PlanetWanted}
 use Rattle.rules_fill.specs.Fill.{Reach, insert}

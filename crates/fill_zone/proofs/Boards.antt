@@ -45,7 +45,7 @@ linked_of rows marks gases h = record {
   flags = h.flags;
   planetary = h.planets;
   mixtures = h.mixes;
-  link_flags_of = h.link_flags_of;
+  link_flags = h.link_flags;
   ends = λ k _. h.ends k;
   mixed = λ r _. h.mixed r;
 }

@@ -1,6 +1,6 @@
 -- What a function promises of the unfinished zones, which stand in the words of n turfs and e links from `live` on.
-use Rattle.std.specs.Prelude.{◌≡◌, List, ℕ, ◌+◌, ◌-◌, ◌≤◌, ◌<◌, ltb, length, set, take, drop}
-use Rattle.basics.specs.Loops.{keep, up_from, if◌then◌else◌}
+use Rattle.std.specs.Prelude.{◌≡◌, List, ℕ, ◌+◌, ◌-◌, ◌≤◌, ◌<◌, ltb, length, set, take, drop, if◌then◌else◌}
+use Rattle.basics.specs.Loops.{keep, up_from}
 use Rattle.scratch.specs.Layout.{turns_at, live_at}
 use Rattle.finish_zones.specs.Zones.{node_count_of, turns_of, next_in, live_in, without, Beside}
 

@@ -1,8 +1,8 @@
 -- A turf's edges one by one, as the code goes through them.
-use Rattle.std.specs.Prelude.{◌≡◌, List, Bool, true, false, ◌&&◌, ℕ, ◌+◌, ◌*◌, ◌-◌, ◌≤◌, ◌<◌, eqb, length, get_or, set, Float}
+use Rattle.std.specs.Prelude.{◌≡◌, List, Bool, true, false, ◌&&◌, ℕ, ◌+◌, ◌*◌, ◌-◌, ◌≤◌, ◌<◌, eqb, length, get_or, set, Float, if◌then◌else◌}
 use Rattle.std.specs.Float.{nan}
 use Rattle.std.specs.Float.Ieee.{lt}
-use Rattle.basics.specs.Loops.{run, up_from, if◌then◌else◌}
+use Rattle.basics.specs.Loops.{run, up_from}
 use Rattle.basics.specs.Floats.{0f}
 use Rattle.basics.specs.Lists.{count}
 use Rattle.rules_board.specs.Board.{Board, turf_count, link_count, mixture_count, mix_of, end}

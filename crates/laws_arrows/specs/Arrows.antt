@@ -1,6 +1,6 @@
 -- What the arrows of kind 7 say: as the Rust draws them, and where they lead.
-use Rattle.std.specs.Prelude.{◌≡◌, ◌≢◌, List, map, ℕ, ◌<◌, T, eqb}
-use Rattle.basics.specs.Loops.{run, times, member, if◌then◌else◌}
+use Rattle.std.specs.Prelude.{◌≡◌, ◌≢◌, List, map, ℕ, ◌<◌, T, eqb, if◌then◌else◌}
+use Rattle.basics.specs.Loops.{run, times, member}
 use Rattle.rules_board.specs.Board.{Board, turf_count, id_of, end, immutable, links_of}
 use Rattle.rules_events.specs.declared.Event.{Event}
 use Rattle.rules_events.specs.declared.Event.TheVariants.{DepressurizeWanted, PlanetWanted, Pressure, Firelock, Target, HighPressure, Difference, FloorRip}

@@ -52,7 +52,7 @@ holds false n ts e = absurd (omega arith)
 
 -- the tables with no gases: what a function without `gases` says of them
 abbrev pub bare : Board → Board
-bare b = board b.ids b.flags b.planetary b.mixtures b.starts b.neighbours b.link_flags_of b.immutable 0
+bare b = board b.ids b.flags b.planetary b.mixtures b.starts b.neighbours b.link_flags b.immutable 0
 
 module _ (b : Board) where
   pub words-alone : words_room (bare b) ≡ words_room b

@@ -1,6 +1,5 @@
 -- The edges of a zone as the code has them: by link, with the reverse at hand.
-use Rattle.std.specs.Prelude.{ℕ, ◌+◌, ◌-◌, ◌≤◌, ◌<◌, List, eqb, get_or, length, Float}
-use Rattle.basics.specs.Loops.{if◌then◌else◌}
+use Rattle.std.specs.Prelude.{ℕ, ◌+◌, ◌-◌, ◌≤◌, ◌<◌, List, eqb, get_or, length, Float, if◌then◌else◌}
 use Rattle.basics.specs.Floats.{◌+f◌, ◌-f◌}
 use Rattle.basics.specs.declared.Spot.{Spot}
 use Rattle.basics.specs.declared.Spot.TheVariants.{At, Nowhere}

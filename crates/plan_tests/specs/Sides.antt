@@ -1,7 +1,6 @@
 -- What the tests of planning come to, where the definition has no name for it.
-use Rattle.std.specs.Prelude.{ℕ, Bool, cond, ltb, Float}
+use Rattle.std.specs.Prelude.{ℕ, Bool, cond, ltb, Float, if◌then◌else◌}
 use Rattle.std.specs.Float.Ieee.{neg}
-use Rattle.basics.specs.Loops.{if◌then◌else◌}
 use Rattle.rules_plan.specs.declared.MonstermosInfo.{MonstermosInfo}
 use Rattle.rules_plan.specs.declared.Side.{Side}
 use Rattle.rules_plan.specs.declared.Side.TheVariants.{Giving, Taking}

@@ -1,7 +1,7 @@
 -- The way back of `explosively_depressurize`, from the last turf to the first.
-use Rattle.std.specs.Prelude.{List, [], ◌∷◌, ◌++◌, Bool, cond, ℕ, ◌-◌, eqb, get_or, set, Float}
+use Rattle.std.specs.Prelude.{List, [], ◌∷◌, ◌++◌, Bool, cond, ℕ, ◌-◌, eqb, get_or, set, Float, if◌then◌else◌}
 use Rattle.std.specs.Float.{nan}
-use Rattle.basics.specs.Loops.{snoc, if◌then◌else◌}
+use Rattle.basics.specs.Loops.{snoc}
 use Rattle.basics.specs.Floats.{◌+f◌}
 use Rattle.rules_board.specs.Board.{Board, id_of, mix_of}
 use Rattle.rules_mixture.specs.Mixture.{total, clear_air}

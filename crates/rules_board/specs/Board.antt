@@ -12,20 +12,20 @@ pub record Board : Type 0 where
   pub mixtures : List ℕ  -- the row of its mixture
   pub starts : List ℕ  -- where its links start; one more at the end
   pub neighbours : List ℕ  -- by link: the neighbour's row
-  pub link_flags_of : List ℕ
+  pub link_flags : List ℕ
   pub immutable : List ℕ  -- by mixture, nonzero: immutable
   pub gases : ℕ  -- G, the amounts that a mixture has
 
 -- the tables in the order of the C interface
 abbrev pub board : List ℕ → List ℕ → List ℕ → List ℕ → List ℕ → List ℕ → List ℕ → List ℕ → ℕ → Board
-board ids flags planetary mixtures starts neighbours link_flags_of immutable gases = record {
+board ids flags planetary mixtures starts neighbours link_flags immutable gases = record {
   ids = ids;
   flags = flags;
   planetary = planetary;
   mixtures = mixtures;
   starts = starts;
   neighbours = neighbours;
-  link_flags_of = link_flags_of;
+  link_flags = link_flags;
   immutable = immutable;
   gases = gases;
 }
@@ -85,7 +85,7 @@ module _ (b : Board) where
 
   -- whether a firelock stands on a link
   unfoldable pub firelock : ℕ → Bool
-  firelock k = lock_bit (get_or b.link_flags_of k 0)
+  firelock k = lock_bit (get_or b.link_flags k 0)
 
   -- the neighbour at the end of a link
   abbrev pub end : ℕ → ℕ

@@ -60,7 +60,7 @@ draw ts = record {
   mixtures = up_from 0 (length ts);
   starts = starts_from 0 ts;
   neighbours = map row_to (all_ways ts);
-  link_flags_of = map flags_to (all_ways ts);
+  link_flags = map flags_to (all_ways ts);
   immutable = map (λ t. t.immutable) ts;
   gases = 1;
 }
@@ -74,7 +74,7 @@ sharing mixtures m b = record {
   mixtures = mixtures;
   starts = b.starts;
   neighbours = b.neighbours;
-  link_flags_of = b.link_flags_of;
+  link_flags = b.link_flags;
   immutable = replicate m 0;
   gases = b.gases;
 }
@@ -88,7 +88,7 @@ with_gases g b = record {
   mixtures = b.mixtures;
   starts = b.starts;
   neighbours = b.neighbours;
-  link_flags_of = b.link_flags_of;
+  link_flags = b.link_flags;
   immutable = b.immutable;
   gases = g;
 }

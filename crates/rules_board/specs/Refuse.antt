@@ -38,7 +38,7 @@ module _ (b : Board) where
       ∷ eqb (length b.planetary) (turf_count b)
       ∷ eqb (length b.mixtures) (turf_count b)
       ∷ eqb (length b.starts) (turf_count b + 1)
-      ∷ eqb (length b.link_flags_of) (link_count b)
+      ∷ eqb (length b.link_flags) (link_count b)
       ∷ eqb amounts (mixture_count b * b.gases)
       ∷ [])
 

@@ -1,6 +1,6 @@
 -- `explosively_depressurize`: the walk to space, out from space and back, as one operation, and the whole of a call.
-use Rattle.std.specs.Prelude.{List, [], ◌++◌, reverse, cond, ℕ, ◌*◌, eqb, length, replicate, Float}
-use Rattle.basics.specs.Loops.{run, if◌then◌else◌}
+use Rattle.std.specs.Prelude.{List, [], ◌++◌, reverse, cond, ℕ, ◌*◌, eqb, length, replicate, Float, if◌then◌else◌}
+use Rattle.basics.specs.Loops.{run}
 use Rattle.basics.specs.Floats.{0f}
 use Rattle.basics.specs.declared.Spot.{Spot}
 use Rattle.basics.specs.declared.Spot.TheVariants.{At, Nowhere}

@@ -1,8 +1,8 @@
 -- `equalize`: fill from the hot turfs, plan every zone, finish by turns.
-use Rattle.std.specs.Prelude.{List, [], ◌∷◌, map, Bool, true, false, not, ◌||◌, cond, ℕ, ◌+◌, eqb, ltb, length, get_or, replicate, Float}
+use Rattle.std.specs.Prelude.{List, [], ◌∷◌, map, Bool, true, false, not, ◌||◌, cond, ℕ, ◌+◌, eqb, ltb, length, get_or, replicate, Float, if◌then◌else◌}
 use Rattle.std.specs.Float.Ieee.{lt, of_bits}
 use Rattle.std.specs.Float.{binary32}
-use Rattle.basics.specs.Loops.{run, keep, every, up_from, member, snoc, if◌then◌else◌}
+use Rattle.basics.specs.Loops.{run, keep, every, up_from, member, snoc}
 use Rattle.basics.specs.Floats.{0f, ◌-f◌, abs}
 use Rattle.basics.specs.declared.Spot.{Spot}
 use Rattle.basics.specs.declared.Spot.TheVariants.{At, Nowhere}

@@ -1,6 +1,6 @@
 -- `flood_fill_zones`: one zone, from one turf.
-use Rattle.std.specs.Prelude.{List, [], ◌∷◌, ◌++◌, Bool, true, false, not, ◌&&◌, ◌||◌, ℕ, ◌+◌, eqb, ltb, length, get_or, set, Float}
-use Rattle.basics.specs.Loops.{run, times, member, snoc, if◌then◌else◌}
+use Rattle.std.specs.Prelude.{List, [], ◌∷◌, ◌++◌, Bool, true, false, not, ◌&&◌, ◌||◌, ℕ, ◌+◌, eqb, ltb, length, get_or, set, Float, if◌then◌else◌}
+use Rattle.basics.specs.Loops.{run, times, member, snoc}
 use Rattle.basics.specs.Floats.{0f, ◌+f◌}
 use Rattle.rules_board.specs.Board.{Board, turf_count, id_of, end, enabled, planetary, immutable, firelock, links_of}
 use Rattle.rules_mixture.specs.Mixture.{total}

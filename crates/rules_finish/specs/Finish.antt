@@ -1,8 +1,8 @@
 -- `finalize_eq` and `finalize_eq_neighbors`: a turf's plan is carried out.
-use Rattle.std.specs.Prelude.{List, [], ◌∷◌, map, Bool, cond, ℕ, zero, suc, eqb, get_or, set, Float}
+use Rattle.std.specs.Prelude.{List, [], ◌∷◌, map, Bool, cond, ℕ, zero, suc, eqb, get_or, set, Float, if◌then◌else◌}
 use Rattle.std.specs.Float.{nan}
 use Rattle.std.specs.Float.Ieee.{lt}
-use Rattle.basics.specs.Loops.{run, keep, snoc, if◌then◌else◌}
+use Rattle.basics.specs.Loops.{run, keep, snoc}
 use Rattle.basics.specs.Floats.{0f}
 use Rattle.rules_board.specs.Board.{Board, id_of, mix_of, end}
 use Rattle.rules_mixture.specs.Mixture.{total, move_air}

@@ -1,9 +1,9 @@
 -- `process_zone`: the weights of one zone's edges.
-use Rattle.std.specs.Prelude.{List, [], ◌∷◌, ◌++◌, reverse, Bool, not, ◌&&◌, ◌||◌, cond, ℕ, ◌+◌, ◌-◌, eqb, ltb, length, get_or, set, Float}
+use Rattle.std.specs.Prelude.{List, [], ◌∷◌, ◌++◌, reverse, Bool, not, ◌&&◌, ◌||◌, cond, ℕ, ◌+◌, ◌-◌, eqb, ltb, length, get_or, set, Float, if◌then◌else◌}
 use Rattle.std.specs.Int.Count.{count_leading_zeros}
 use Rattle.std.specs.Float.{nan}
 use Rattle.std.specs.Float.Ieee.{lt, le, ne, neg}
-use Rattle.basics.specs.Loops.{run, times, keep, member, snoc, if◌then◌else◌}
+use Rattle.basics.specs.Loops.{run, times, keep, member, snoc}
 use Rattle.basics.specs.Floats.{0f, ◌+f◌, ◌-f◌, ◌/f◌, of_count}
 use Rattle.rules_board.specs.Board.{Board, turf_count, end}
 use Rattle.rules_mixture.specs.Mixture.{total}

@@ -1,6 +1,5 @@
 -- `planet_equalize`: the firelocks on the way from a turf, and the whole of a call.
-use Rattle.std.specs.Prelude.{List, [], ℕ, ◌*◌, eqb, length}
-use Rattle.basics.specs.Loops.{if◌then◌else◌}
+use Rattle.std.specs.Prelude.{List, [], ℕ, ◌*◌, eqb, length, if◌then◌else◌}
 use Rattle.basics.specs.declared.Spot.{Spot}
 use Rattle.basics.specs.declared.Spot.TheVariants.{At, Nowhere}
 use Rattle.rules_board.specs.Board.{Board, turf_count, row_of}

@@ -206,7 +206,7 @@ tables_a ids flags starts neighbours gases = record {
   mixtures = 0 ∷ 1 ∷ [];
   starts = starts;
   neighbours = neighbours;
-  link_flags_of = 0 ∷ 0 ∷ [];
+  link_flags = 0 ∷ 0 ∷ [];
   immutable = 0 ∷ 0 ∷ [];
   gases = gases;
 }

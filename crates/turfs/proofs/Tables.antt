@@ -69,7 +69,7 @@ module _ (b : Board) where
         flags = a.flags;
         planetary = a.planets;
         mixtures = a.mixes;
-        link_flags_of = a.link_flags_of;
+        link_flags = a.link_flags;
         ascend = i;
         parts = accepted-parts a;
         neighbour = λ k h. a.ends k;

@@ -64,7 +64,7 @@ pub record Tables (b : Board) : Type 0 where
   pub flags : length b.flags ≡ turf_count b
   pub planetary : length b.planetary ≡ turf_count b
   pub mixtures : length b.mixtures ≡ turf_count b
-  pub link_flags_of : length b.link_flags_of ≡ link_count b
+  pub link_flags : length b.link_flags ≡ link_count b
   pub ascend : ascending b.ids ≡ true
   pub parts : Parts (turf_count b) b.starts b.neighbours
   pub neighbour : (k : ℕ) → k < link_count b → get_or b.neighbours k 0 < turf_count b
@@ -81,7 +81,7 @@ pub record Accepted (b : Board) (amounts : ℕ) : Type 0 where
   pub planets : length b.planetary ≡ turf_count b
   pub mixes : length b.mixtures ≡ turf_count b
   pub starts : length b.starts ≡ turf_count b + 1
-  pub link_flags_of : length b.link_flags_of ≡ link_count b
+  pub link_flags : length b.link_flags ≡ link_count b
   pub fits : amounts ≡ mixture_count b * b.gases
   pub ascends : T (ascending b.ids)
   pub rises : T (rising b.starts)

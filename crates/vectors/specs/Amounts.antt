@@ -1,8 +1,7 @@
 -- Amounts by their bits; one NaN is as good as another.
-use Rattle.std.specs.Prelude.{Bool, ℕ, ◌%◌, eqb, ltb, Float}
+use Rattle.std.specs.Prelude.{Bool, ℕ, ◌%◌, eqb, ltb, Float, if◌then◌else◌}
 use Rattle.std.specs.Float.Ieee.{eq}
 use Rattle.basics.specs.Floats.{0f, ◌/f◌, bits_of, of_word}
-use Rattle.basics.specs.Loops.{if◌then◌else◌}
 
 -- the bits of a NaN
 abbrev pub nan_pattern : ℕ → Bool

@@ -1,7 +1,7 @@
 -- How a stored vector stands in a list of numbers: oracle/boards/src/vectors.rs writes it.
-use Rattle.std.specs.Prelude.{◌&&◌, List, [], ◌≡◌, ℕ, ◌+◌, ◌-◌, min, eqb, leb, length, get_or, take, drop}
+use Rattle.std.specs.Prelude.{◌&&◌, List, [], ◌≡◌, ℕ, ◌+◌, ◌-◌, min, eqb, leb, length, get_or, take, drop, if◌then◌else◌}
 use Rattle.turfs.specs.Tables.{Slices, table}
-use Rattle.basics.specs.Loops.{times, if◌then◌else◌}
+use Rattle.basics.specs.Loops.{times}
 use Rattle.vectors.specs.declared.Span.{Span}
 use Rattle.vectors.specs.declared.Asked.{Asked}
 use Rattle.vectors.specs.declared.Walk.{Walk}
@@ -59,7 +59,7 @@ pub record RowsOf (ns : List ℕ) (rows : Slices) : Type 0 where
 pub record MarksOf (ns : List ℕ) (bytes : List ℕ) (marks : Slices) : Type 0 where
   pub flags : table marks 0 ≡ section bytes (table_span ns 1)
   pub planetary : table marks 1 ≡ section bytes (table_span ns 2)
-  pub link_flags_of : table marks 2 ≡ section bytes (table_span ns 6)
+  pub link_flags : table marks 2 ≡ section bytes (table_span ns 6)
   pub immutable : table marks 3 ≡ section bytes (table_span ns 7)
 
 -- what equalize is asked

@@ -1,6 +1,5 @@
 -- Counting, by 64 bits, each count at its place of a list: the numbers that calls answered at 0 to 31, then the vectors, those that differ and the first of these.
-use Rattle.std.specs.Prelude.{ℕ, ◌+◌, ◌*◌, ◌%◌, ◌^◌, Bool, List, ◌==◌, slice_index, slice_set}
-use Rattle.basics.specs.Loops.{if◌then◌else◌}
+use Rattle.std.specs.Prelude.{ℕ, ◌+◌, ◌*◌, ◌%◌, ◌^◌, Bool, List, ◌==◌, slice_index, slice_set, if◌then◌else◌}
 
 -- one more at a place
 abbrev pub counting : List ℕ → ℕ → List ℕ

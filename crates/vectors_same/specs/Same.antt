@@ -1,7 +1,7 @@
 -- Whether the lent cells hold after a call what a vector expects.
-use Rattle.std.specs.Prelude.{List, [], ◌∷◌, ◌≡◌, Bool, false, ◌&&◌, ℕ, ◌≤◌, eqb, leb, ltb, length, get_or, Float}
+use Rattle.std.specs.Prelude.{List, [], ◌∷◌, ◌≡◌, Bool, false, ◌&&◌, ℕ, ◌≤◌, eqb, leb, ltb, length, get_or, Float, if◌then◌else◌}
 use Rattle.std.specs.Float.{nan}
-use Rattle.basics.specs.Loops.{every, up_from, if◌then◌else◌}
+use Rattle.basics.specs.Loops.{every, up_from}
 use Rattle.vectors.specs.Vectors.{onward, number, section, span_at}
 use Rattle.vectors.specs.Amounts.{same_bits}
 use Rattle.vectors.specs.Cells.{word_before, float_before, event_before}

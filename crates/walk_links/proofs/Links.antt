@@ -102,12 +102,12 @@ module _ (b : Board) (row k a : ℕ) (leads : Leads b k a) (s : Reach) (w e : Li
   link-old t = does-none (walking n) (walk_link b row k) h (written-room n (walk_at s w e) h) (λ es. rw (← leads.end, ← t))
 
   module _ (below : a < n) (new : false ≡ member a (take s.count (array n 0 w))) where
-    pub link-open : false ≡ lock_bit (get_or b.link_flags_of k 0) → (g : Reach) (w' : List ℕ) → g ≡ joined s s.used → w' ≡ stored n a s w
+    pub link-open : false ≡ lock_bit (get_or b.link_flags k 0) → (g : Reach) (w' : List ℕ) → g ≡ joined s s.used → w' ≡ stored n a s w
         → WalkDoes (walking n) (walk_link b row k) (walk_at s w e) (walk_at g w' e)
     unfolding walk_of walk_link firelock
     link-open l g w' gr put = join_open n a s w e h below new (walk_link b row k) g w' gr put (λ es. rw (← leads.end, ← new, ← l, append-nil es))
 
-    pub link-locked : true ≡ lock_bit (get_or b.link_flags_of k 0) → (g : Reach) (w' e' : List ℕ) (used : ℕ) → g ≡ joined s used → w' ≡ stored n a s w
+    pub link-locked : true ≡ lock_bit (get_or b.link_flags k 0) → (g : Reach) (w' e' : List ℕ) (used : ℕ) → g ≡ joined s used → w' ≡ stored n a s w
         → Wrote (encode (Firelock (id_of b row) (id_of b a))) s.used used e e'
         → WalkDoes (walking n) (walk_link b row k) (walk_at s w e) (walk_at g w' e')
     unfolding walk_of walk_link firelock

@@ -71,7 +71,7 @@ pub record Ground (b : Board) : Type 0 where
   pub flags : length b.flags ≡ turf_count b
   pub planetary : length b.planetary ≡ turf_count b
   pub mixtures : length b.mixtures ≡ turf_count b
-  pub link_flags_of : length b.link_flags_of ≡ link_count b
+  pub link_flags : length b.link_flags ≡ link_count b
   pub parts : Parts (turf_count b) b.starts b.neighbours
   pub neighbour : (k : ℕ) → k < link_count b → end b k < turf_count b
   pub mixture : (r : ℕ) → r < turf_count b → mix_of b r < mixture_count b

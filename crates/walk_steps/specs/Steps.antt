@@ -1,7 +1,6 @@
 -- One turf of the way out, in the words, and one turf of the way back, in the event area.
-use Rattle.std.specs.Prelude.{List, ◌∷◌, Bool, not, ℕ, ◌+◌, ◌≤◌, ◌<◌, T, eqb, length, get_or, set, Float}
+use Rattle.std.specs.Prelude.{List, ◌∷◌, Bool, not, ℕ, ◌+◌, ◌≤◌, ◌<◌, T, eqb, length, get_or, set, Float, if◌then◌else◌}
 use Rattle.std.specs.Float.Ieee.{is_nan}
-use Rattle.basics.specs.Loops.{if◌then◌else◌}
 use Rattle.rules_events.specs.declared.Event.{Event}
 use Rattle.rules_events.specs.declared.Event.TheVariants.{HighPressure}
 use Rattle.rules_back.specs.Back.{differences}

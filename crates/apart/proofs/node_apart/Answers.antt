@@ -6,10 +6,10 @@ use Rattle.apart.proofs.node_apart.Goals as goal
 pub overflow_cast-mix : goal.overflow_cast-mix
 overflow_cast-mix c =
     let entry = c in
-    omega (arith, entry.requires.pass_fits.mixed _ entry.requires.row_bound.0, entry.requires.pass_fits.few)
+    omega (arith, entry.requires.pass_fits.mixed _ entry.requires.row_bound, entry.requires.pass_fits.few)
 
 pub bounds-immutable-mix : goal.bounds-immutable-mix
-bounds-immutable-mix c = c.requires.pass_fits.mixed _ c.requires.row_bound.0
+bounds-immutable-mix c = c.requires.pass_fits.mixed _ c.requires.row_bound
 
 pub returns-then-immutable-mix-ne0 : goal.returns-then-immutable-mix-ne0
 returns-then-immutable-mix-ne0 c = marked-fixed _ _ _ _ c.if-immutable-mix-ne0.true
@@ -17,17 +17,17 @@ returns-then-immutable-mix-ne0 c = marked-fixed _ _ _ _ c.if-immutable-mix-ne0.t
 pub overflow_add-mark : goal.overflow_add-mark
 overflow_add-mark c =
     let entry = c in
-    omega (arith, entry.requires.pass_fits.mixed _ entry.requires.row_bound.0, entry.requires.pass_fits.room)
+    omega (arith, entry.requires.pass_fits.mixed _ entry.requires.row_bound, entry.requires.pass_fits.room)
 
 pub offset_bounds-words-at : goal.offset_bounds-words-at
 offset_bounds-words-at c =
     let entry = c in
-    omega (arith, entry.requires.pass_fits.mixed _ entry.requires.row_bound.0, entry.requires.pass_fits.room)
+    omega (arith, entry.requires.pass_fits.mixed _ entry.requires.row_bound, entry.requires.pass_fits.room)
 
 pub bounds-words-at : goal.bounds-words-at
 bounds-words-at c =
     let entry = c in
-    omega (arith, entry.requires.pass_fits.mixed _ entry.requires.row_bound.0, entry.requires.pass_fits.room)
+    omega (arith, entry.requires.pass_fits.mixed _ entry.requires.row_bound, entry.requires.pass_fits.room)
 
 pub returns-then-mark-ne0 : goal.returns-then-mark-ne0
 returns-then-mark-ne0 c = marked-old _ _ _ _ c.if-immutable-mix-ne0.false c.if-mark-ne0.true
@@ -35,17 +35,17 @@ returns-then-mark-ne0 c = marked-old _ _ _ _ c.if-immutable-mix-ne0.false c.if-m
 pub overflow_add-words-2 : goal.overflow_add-words-2
 overflow_add-words-2 c =
     let entry = c in
-    omega (arith, entry.requires.pass_fits.mixed _ entry.requires.row_bound.0, entry.requires.pass_fits.room)
+    omega (arith, entry.requires.pass_fits.mixed _ entry.requires.row_bound, entry.requires.pass_fits.room)
 
 pub offset_bounds-words-at-2 : goal.offset_bounds-words-at-2
 offset_bounds-words-at-2 c =
     let entry = c in
-    omega (arith, entry.requires.pass_fits.mixed _ entry.requires.row_bound.0, entry.requires.pass_fits.room)
+    omega (arith, entry.requires.pass_fits.mixed _ entry.requires.row_bound, entry.requires.pass_fits.room)
 
 pub bounds-words-at-2 : goal.bounds-words-at-2
 bounds-words-at-2 c =
     let entry = c in
-    omega (arith, entry.requires.pass_fits.mixed _ entry.requires.row_bound.0, entry.requires.pass_fits.room)
+    omega (arith, entry.requires.pass_fits.mixed _ entry.requires.row_bound, entry.requires.pass_fits.room)
 
 pub returns : goal.returns
 returns c = marked-new _ _ _ _ c.if-immutable-mix-ne0.false c.if-mark-ne0.false

@@ -32,7 +32,7 @@ returns-then-not-node_apart c =
     let head = c.loop-i in
     let row = row_now head.invariant.0.1 entry.requires entry.requires.rows head.invariant.0.0.0 c.loop-i-test.true in
     let fits = entry.requires.pass.mixed _ row in
-    let done = c.node_apart.ensures in record { but = marked-but (omega arith) (omega (arith, fits)) head.invariant.0.1 done; passed = (λ zs. going-fails _ zs _ _ _ _ _ head.invariant.0.0.0 _ _ _ (head.invariant.1 zs) head.invariant.0.1 entry.requires entry.requires.pass.room fits _ done c.loop-i-test.true (not-true _ c.if-not-node_apart.true-raw), ) }
+    let done = c.node_apart.ensures in record { but = marked-but (omega arith) (omega (arith, fits)) head.invariant.0.1 done; passed = λ zs. going-fails _ zs _ _ _ _ _ head.invariant.0.0.0 _ _ _ (head.invariant.1 zs) head.invariant.0.1 entry.requires entry.requires.pass.room fits _ done c.loop-i-test.true (not-true _ c.if-not-node_apart.true-raw) }
 
 pub overflow_add-i : goal.overflow_add-i
 overflow_add-i c = omega (arith, c.loop-i-test.true, c.ranges.to)

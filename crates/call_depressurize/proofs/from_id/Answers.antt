@@ -7,12 +7,12 @@ pub find-requires : goal.find-requires
 find-requires c = (granted _ _ c.requires).accepted.tables.ascend
 
 pub returns-in_default : goal.returns-in_default
-returns-in_default c = no_turf _ _ c.requires c.args.breach _ (c.find.ensures _ refl) c.enum_told-1.given.1
+returns-in_default c = no_turf _ _ c.requires c.args.breach _ (c.find.ensures _ refl) c.in_default.is
 
 pub walk-s-requires : goal.walk-s-requires
 walk-s-requires c =
     let z = c.requires in
-    starts _ _ z _ (turf-row _ _ z c.args.breach _ (c.find.ensures _ refl) _ c.row-1.given.1)
+    starts _ _ z _ (turf-row _ _ z c.args.breach _ (c.find.ensures _ refl) _ c.in-At.is)
 
 pub from_walk-requires : goal.from_walk-requires
 from_walk-requires c =

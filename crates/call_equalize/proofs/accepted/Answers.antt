@@ -27,14 +27,14 @@ L s = lent s.args.gas.now s.args.events.now s.args.words.now s.args.floats.now
 
 pub fill_all-s-requires : goal.fill_all-s-requires
 fill_all-s-requires c =
-    let s : tie.Start = c in let whole = fill-asks (B s) (Q s) (T s) (L s) s.requires in record { accepted = whole.0; threshold_value = whole.1; fill_fits = whole.2 }
+    let s = c in let whole = fill-asks (B s) (Q s) (T s) (L s) s.requires in record { accepted = whole.0; threshold_value = whole.1.0; fill_fits = whole.1.1 }
 
 pub timed-requires : goal.timed-requires
 timed-requires c =
-    let s : tie.Start = c in
+    let s = c in
     filled (B s) (Q s) (T s) (L s) s.requires _ _ _ _ c.fill_all-s.ensures c.words-1.given c.floats-1.given
 
 pub returns : goal.returns
 returns c =
-    let s : tie.Start = c in
+    let s = c in
     c.timed.ensures (Q s) (L s) refl (fills (B s) (Q s) (T s) (L s) s.requires _ _ _ _ c.fill_all-s.ensures)

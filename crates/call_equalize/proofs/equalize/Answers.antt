@@ -36,7 +36,7 @@ zero c = sym (number_is (B (S c)) (Q (S c)) (T (S c)) (L (S c)) _ c.before.befor
 
 pub returns-then-number-ne0 : goal.returns-then-number-ne0
 returns-then-number-ne0 c =
-    let s : tie.Start = c in
+    let s = c in
     refused-is (B s) (Q s) (T s) (L s) (number_is (B s) (Q s) (T s) (L s) _ c.extra_tests-extra.ensures c.refusal-number.ensures) c.if-number-ne0.true c.refused.ensures
 
 -- the number is 0 where the tables were accepted
@@ -46,30 +46,30 @@ accepted-o-requires c = zero c
 
 pub clear_scratch-requires : goal.clear_scratch-requires
 clear_scratch-requires c =
-    let s : tie.Start = c in
+    let s = c in
     let room = scratch_of (B s) (L s) _ (granted (B s) (Q s) (T s) (L s) (zero c)) in
     record { small = room.small; words = omega (arith, room.words, c.words-1.given); floats = omega (arith, room.floats, c.floats-1.given) }
 
 pub overflow_cast-result : goal.overflow_cast-result
 overflow_cast-result c =
     let accepted = c.accepted-o in
-    let s : tie.Start = c in
+    let s = c in
     omega (arith, few-processed (B s) (Q s) (T s) (L s) (zero c) accepted.ensures)
 
 pub overflow_cast-result-2 : goal.overflow_cast-result-2
 overflow_cast-result-2 c =
     let accepted = c.accepted-o in
-    let s : tie.Start = c in omega (arith, few-tests (B s) (Q s) (T s) (L s) (zero c) accepted.ensures)
+    let s = c in omega (arith, few-tests (B s) (Q s) (T s) (L s) (zero c) accepted.ensures)
 
 pub overflow_cast-result-3 : goal.overflow_cast-result-3
 overflow_cast-result-3 c =
     let accepted = c.accepted-o in
-    let s : tie.Start = c in omega (arith, few-zones (B s) (Q s) (T s) (L s) (zero c) accepted.ensures)
+    let s = c in omega (arith, few-zones (B s) (Q s) (T s) (L s) (zero c) accepted.ensures)
 
 pub overflow_cast-result-4 : goal.overflow_cast-result-4
 overflow_cast-result-4 c =
     let accepted = c.accepted-o in
-    let s : tie.Start = c in omega
+    let s = c in omega
     (arith, few_bytes (B s) (Q s) (T s) (L s) (zero c) accepted.ensures)
 
 pub returns : goal.returns
@@ -79,6 +79,6 @@ returns c =
     let if1 = c.if-number-ne0 in
     let accepted = c.accepted-o in
     let clear-scratch = c.clear_scratch in
-    let s : tie.Start = c in
+    let s = c in
     answered (B s) (Q s) (T s) (L s) (number_is (B s) (Q s) (T s) (L s) _ extra-tests.ensures refusal.ensures) if1.false accepted.ensures _ _
     clear-scratch.ensures.words_after clear-scratch.ensures.floats_after

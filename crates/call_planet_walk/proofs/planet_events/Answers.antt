@@ -5,14 +5,14 @@ use Rattle.call_planet_walk.proofs.Calls.{no_turf, turf-row, from-turf}
 use Rattle.call_planet_walk.proofs.planet_events.Goals as goal
 
 pub returns-in_default : goal.returns-in_default
-returns-in_default c = record { fact = no_turf _ _ _ _ (c.find.ensures _ refl) c.enum_told-1.given.1 _; words_after = refl }
+returns-in_default c = record { fact = no_turf _ _ _ _ (c.find.ensures _ refl) c.in_default.is _; words_after = refl }
 
 pub walk-s-requires : goal.walk-s-requires
 walk-s-requires c =
     let p = c.requires in
     let args = c.args in
     let b = board_at args.rows args.marks 0 in
-    record { ground = p.ground; inside = turf-row b args.limit args.id _ (c.find.ensures _ refl) _ c.row-1.given.1; words = p.words; room = p.room }
+    record { ground = p.ground; inside = turf-row b args.limit args.id _ (c.find.ensures _ refl) _ c.in-At.is; words = p.words; room = p.room }
 
 pub returns : goal.returns
 returns c =

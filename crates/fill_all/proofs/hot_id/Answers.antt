@@ -21,7 +21,7 @@ returns-in_default c = λ hot.
     let p = c.requires in
     let b = board_at args.rows args.marks args.gases in
     let q = asked hot args.settings in
-    fills-unknown b _ q _ p.1.1.stored p.1.1.room (sym (c.find.ensures b refl) ∙ c.enum_told-1.given.1)
+    fills-unknown b _ q _ p.1.1.stored p.1.1.room (sym (c.find.ensures b refl) ∙ c.in_default.is)
 
 pub passed_over-requires : goal.passed_over-requires
 passed_over-requires c =
@@ -29,7 +29,7 @@ passed_over-requires c =
     let p = c.requires in
     let b = board_at args.rows args.marks args.gases in
     let found = sym (c.find.ensures b refl) in
-    let is_at = c.row-1.given.1 in
+    let is_at = c.in-At.is in
     let row = row-in p.0 _ _ found _ is_at in record { accepted = p.0; threshold_value = p.1.0; fact = record { sizes = p.1.1.stored.sizes; words = p.1.1.stored.words; row = row } }
 
 pub returns-then-passed_over : goal.returns-then-passed_over
@@ -39,7 +39,7 @@ returns-then-passed_over c = λ hot.
     let b = board_at args.rows args.marks args.gases in
     let q = asked hot args.settings in
     let found = sym (c.find.ensures b refl) in
-    let is_at = c.row-1.given.1 in
+    let is_at = c.in-At.is in
     fills-id b _ q _ _ p.1.1.going (found ∙ is_at) (row-none q p.1.1.stored p.1.1.room _ _ (c.passed_over.ensures q refl) c.if-passed_over.true)
 
 pub overflow_cast-seed : goal.overflow_cast-seed
@@ -48,12 +48,12 @@ overflow_cast-seed c =
     let p = c.requires in
     let b = board_at args.rows args.marks args.gases in
     let found = sym (c.find.ensures b refl) in
-    let is_at = c.row-1.given.1 in
+    let is_at = c.in-At.is in
     let row = row-in p.0 _ _ found _ is_at in
     omega (arith, row, p.0.turfs.1)
 
 pub overflow_cast-seed-2 : goal.overflow_cast-seed-2
-overflow_cast-seed-2 c = omega (arith, c.requires.threshold_value.1.stored.zones, c.requires.accepted.turfs.1)
+overflow_cast-seed-2 c = omega (arith, c.requires.hot_fits.stored.zones, c.requires.accepted.turfs.1)
 
 pub flood_fill-t-requires : goal.flood_fill-t-requires
 flood_fill-t-requires c =
@@ -62,7 +62,7 @@ flood_fill-t-requires c =
     let b = board_at args.rows args.marks args.gases in
     let q = asked [] args.settings in
     let found = sym (c.find.ensures b refl) in
-    let is_at = c.row-1.given.1 in
+    let is_at = c.in-At.is in
     let row = row-in p.0 _ _ found _ is_at in
     let pass = c.passed_over.ensures q refl in
     let left = c.if-passed_over.false in
@@ -75,11 +75,11 @@ after_fill-requires c =
     let b = board_at args.rows args.marks args.gases in
     let q = asked [] args.settings in
     let found = sym (c.find.ensures b refl) in
-    let is_at = c.row-1.given.1 in
+    let is_at = c.in-At.is in
     let row = row-in p.0 _ _ found _ is_at in
     let pass = c.passed_over.ensures q refl in
     let left = c.if-passed_over.false in
-    let new = is_new b args.gas.now q _ (found_in (turf_count b) (link_count b) args.words.now) pass left in let whole = after-asks p.0 args.gas.now q _ p.1.1.stored p.1.1.room row new c.flood_fill-t.ensures in record { keep_fits = whole.0; pushed_fits = whole.1; spans = whole.2 }
+    let new = is_new b args.gas.now q _ (found_in (turf_count b) (link_count b) args.words.now) pass left in let whole = after-asks p.0 args.gas.now q _ p.1.1.stored p.1.1.room row new c.flood_fill-t.ensures in record { keep_fits = whole.0; pushed_fits = whole.1.0; spans = whole.1.1 }
 
 pub shape_of-words : goal.shape_of-words
 shape_of-words c = c.after_fill.auto.1.1.1.1.1.0 ∙ c.flood_fill-t.auto.1.1.1.1.1.1.0
@@ -97,7 +97,7 @@ returns c = λ hot.
     let b = board_at args.rows args.marks args.gases in
     let q = asked hot args.settings in
     let found = sym (c.find.ensures b refl) in
-    let is_at = c.row-1.given.1 in
+    let is_at = c.in-At.is in
     let row = row-in p.0 _ _ found _ is_at in
     let pass = c.passed_over.ensures q refl in
     let left = c.if-passed_over.false in

@@ -32,7 +32,7 @@ pub give_back-requires : goal.give_back-requires
 give_back-requires c =
     let entry = c in
     let by-queue-at = c.queue_at-queue in
-    let head = c.loop-i in let whole = back-asks head.words entry.requires.spans (rw head.invariant.long entry.requires.pushed_fits.words) _ (subst (λ (x : ℕ). x < entry.args.n) (sym (back-row head.invariant entry.requires.pushed_fits.words entry.requires.pushed_fits.few c.loop-i-test.true _ by-queue-at.ensures)) (entry.requires.pushed_fits.rows _ c.loop-i-test.true)) in record { row_in_bounds = whole.0; row_bound = whole.1; row_in_bounds_2 = whole.2 }
+    let head = c.loop-i in let whole = back-asks head.words entry.requires.spans (rw head.invariant.long entry.requires.pushed_fits.words) _ (subst (λ (x : ℕ). x < entry.args.n) (sym (back-row head.invariant entry.requires.pushed_fits.words entry.requires.pushed_fits.few c.loop-i-test.true _ by-queue-at.ensures)) (entry.requires.pushed_fits.rows _ c.loop-i-test.true)) in record { row_in_bounds = whole.0; row_bound = whole.1.0; row_in_bounds_2 = whole.1.1 }
 
 pub overflow_add-i : goal.overflow_add-i
 overflow_add-i c = omega (arith, c.loop-i-test.true, c.requires.pushed_fits.few, c.requires.pushed_fits.sizes.turfs)

@@ -5,7 +5,7 @@ use Rattle.turfs.specs.Tables.{board_at}
 use Rattle.fill_links.proofs.meet.Goals as goal
 
 pub bounds-flags-a : goal.bounds-flags-a
-bounds-flags-a c = rw c.requires.tables_fit.flags c.requires.row_bound.0
+bounds-flags-a c = rw c.requires.tables_fit.flags c.requires.row_bound
 
 pub is_immutable-requires : goal.is_immutable-requires
 is_immutable-requires c =
@@ -14,7 +14,7 @@ is_immutable-requires c =
 
 pub across_firelock-requires : goal.across_firelock-requires
 across_firelock-requires c =
-    let pre = c.requires in record { row_in_bounds = rw pre.0.planetary pre.1.0; k_in_bounds = rw pre.0.link_flags_of pre.1.1 }
+    let pre = c.requires in record { row_in_bounds = rw pre.0.planetary pre.1.0; k_in_bounds = rw pre.0.link_flags pre.1.1 }
 
 pub returns : goal.returns
 unfolding enabled planetary firelock

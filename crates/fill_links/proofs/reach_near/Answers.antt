@@ -9,7 +9,7 @@ use Rattle.fill_links.proofs.Links.{near-row, near-met, met-row, met-step, walke
 use Rattle.fill_links.proofs.reach_near.Goals as goal
 
 pub bounds-ids-at : goal.bounds-ids-at
-bounds-ids-at c = c.requires.turf_fits.0.row
+bounds-ids-at c = c.requires.turf_fits.row
 
 pub loop-i-init : goal.loop-i-init
 loop-i-init c =
@@ -31,11 +31,11 @@ reach-s-requires c =
     let p = c.requires in
     let inv = c.loop-i.invariant.0 in
     let taken = c.loop-i-test.true in
-    let inside = near-inside p.0.parts p.1.0.row p.1.1.0 in record { walking = record { fit = inv.done.fit; bounds = inv.done.bounds }; link_fits = (record {
+    let inside = near-inside p.0.parts p.1.0.row p.1.1.0 in record { walking = record { fit = inv.done.fit; bounds = inv.done.bounds }; link_fits = record {
         link = omega (arith, taken, inside);
         row = met-row p.0 _ (omega (arith, taken, inside)) _ (near-met p.0 p.1.0.row p.1.1.0 _ taken _ c.meet-m.ensures);
         free = walked-free _ inv (omega (arith, taken)) inside;
-      }, ) }
+      } }
 
 pub overflow_add-i : goal.overflow_add-i
 overflow_add-i c =

@@ -12,10 +12,10 @@ pub loop-k-init : goal.loop-k-init
 loop-k-init c = refl
 
 pub offset_bounds-neighbours-k : goal.offset_bounds-neighbours-k
-offset_bounds-neighbours-k c = omega (arith, c.loop-k-test.true, c.requires.threshold_value.1, c.requires.accepted.links)
+offset_bounds-neighbours-k c = omega (arith, c.loop-k-test.true, c.requires.to_bound, c.requires.accepted.links)
 
 pub bounds-neighbours-k : goal.bounds-neighbours-k
-bounds-neighbours-k c = omega (arith, c.loop-k-test.true, c.requires.threshold_value.1)
+bounds-neighbours-k c = omega (arith, c.loop-k-test.true, c.requires.to_bound)
 
 pub overflow_cast-neighbours : goal.overflow_cast-neighbours
 overflow_cast-neighbours c = omega (arith, c.shared_slice_known-in-loop-k-1.given c.loop-k.k)
@@ -26,7 +26,7 @@ total-other-requires c =
     (rw entry.requires.accepted.mixes (entry.requires.accepted.ends c.loop-k.k), gas-holds entry.requires.accepted entry.args.gas.now refl _)
 
 pub nearer-requires : goal.nearer-requires
-nearer-requires c = c.requires.threshold_value.0
+nearer-requires c = c.requires.threshold_value
 
 pub returns-then-not-nearer : goal.returns-then-not-nearer
 returns-then-not-nearer c =
@@ -36,7 +36,7 @@ returns-then-not-nearer c =
     sym (sym c.loop-k.invariant ∙ every-up_fails _ _ _ c.loop-k-test.true (near ∙ not-true _ c.if-not-nearer.true-raw))
 
 pub overflow_add-k : goal.overflow_add-k
-overflow_add-k c = omega (arith, c.loop-k-test.true, c.requires.threshold_value.1, c.requires.accepted.links)
+overflow_add-k c = omega (arith, c.loop-k-test.true, c.requires.to_bound, c.requires.accepted.links)
 
 pub loop-k-smaller : goal.loop-k-smaller
 loop-k-smaller c = omega (arith, c.loop-k-test.true)

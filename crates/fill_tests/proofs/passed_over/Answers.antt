@@ -7,38 +7,38 @@ use native.Mathlib.Omega.{arith}
 use Rattle.fill_tests.proofs.passed_over.Goals as goal
 
 pub found_at-requires : goal.found_at-requires
-found_at-requires c = c.requires.threshold_value.1.sizes
+found_at-requires c = c.requires.fact.sizes
 
 pub overflow_add-found_at : goal.overflow_add-found_at
 overflow_add-found_at c =
-    let fits = c.requires.threshold_value.1 in
+    let fits = c.requires.fact in
     omega (arith, c.found_at.ensures, fits.sizes.turfs, fits.sizes.links, fits.row)
 
 pub offset_bounds-words-found_at : goal.offset_bounds-words-found_at
 offset_bounds-words-found_at c =
-    let fits = c.requires.threshold_value.1 in
+    let fits = c.requires.fact in
     omega (arith, c.found_at.ensures, fits.sizes.turfs, fits.sizes.links, fits.row)
 
 pub bounds-words-found_at : goal.bounds-words-found_at
 bounds-words-found_at c =
-    let fits = c.requires.threshold_value.1 in
+    let fits = c.requires.fact in
     omega (arith, c.found_at.ensures, fits.words, fits.row)
 
 pub returns-then-words-found_at-ne0 : goal.returns-then-words-found_at-ne0
 returns-then-words-found_at-ne0 c = λ q et.
     let entry = c in
-    let mark = mark-is entry.requires.threshold_value.1 _ c.found_at.ensures in
+    let mark = mark-is entry.requires.fact _ c.found_at.ensures in
     is_found (board_at entry.args.rows entry.args.marks entry.args.gases) _ q _ _ (λ i. c.if-words-found_at-ne0.true (mark ∙ i))
 
 pub bounds-flags-row : goal.bounds-flags-row
-bounds-flags-row c = rw c.requires.accepted.flags c.requires.threshold_value.1.row
+bounds-flags-row c = rw c.requires.accepted.flags c.requires.fact.row
 
 pub returns-then-not-enabled : goal.returns-then-not-enabled
 returns-then-not-enabled c = λ q et.
     let entry = c in
     let by-found-at = c.found_at in
     let by-if1 = c.if-words-found_at-ne0 in
-    let mark = mark-is entry.requires.threshold_value.1 _ by-found-at.ensures in
+    let mark = mark-is entry.requires.fact _ by-found-at.ensures in
     is_off (board_at entry.args.rows entry.args.marks entry.args.gases) _ q _ _ (sym mark ∙ by-if1.false) (sym c.enabled.ensures ∙ not-true _ c.if-not-enabled.true-raw)
 
 pub unshareable-requires : goal.unshareable-requires
@@ -50,5 +50,5 @@ returns c = λ q et.
     let entry = c in
     let by-found-at = c.found_at in
     let by-if1 = c.if-words-found_at-ne0 in
-    let mark = mark-is entry.requires.threshold_value.1 _ by-found-at.ensures in
+    let mark = mark-is entry.requires.fact _ by-found-at.ensures in
     is_rest (board_at entry.args.rows entry.args.marks entry.args.gases) _ q _ _ (sym mark ∙ by-if1.false) (sym c.enabled.ensures ∙ not-false _ c.if-not-enabled.false-raw) _ (c.unshareable.ensures q et)

@@ -14,24 +14,24 @@ returns-then-links c = λ q et.
 pub total-mine-requires : goal.total-mine-requires
 total-mine-requires c =
     let entry = c in
-    (rw entry.requires.accepted.mixes entry.requires.threshold_value.1, gas-holds entry.requires.accepted entry.args.gas.now refl entry.args.row)
+    (rw entry.requires.accepted.mixes entry.requires.row_bound, gas-holds entry.requires.accepted entry.args.gas.now refl entry.args.row)
 
 pub returns-then-mine : goal.returns-then-mine
 returns-then-mine c = λ q et.
     let entry = c in
     let b = board_at entry.args.rows entry.args.marks entry.args.gases in
     let ends = c.links_of-links.ensures in
-    let rise = (parts entry.requires.accepted).rise _ entry.requires.threshold_value.1 in
+    let rise = (parts entry.requires.accepted).rise _ entry.requires.row_bound in
     few-moles b _ q _ _ _ ends.0 ends.1 c.if-links.false (omega arith) _ (c.total-mine.ensures b refl refl) c.if-mine.true
 
 pub all_near-requires : goal.all_near-requires
 all_near-requires c =
-    let entry = c in record { accepted = entry.requires.accepted; threshold_value = entry.requires.threshold_value.0; to_bound = omega (arith, (parts entry.requires.accepted).end _ entry.requires.threshold_value.1, c.links_of-links.ensures.1) }
+    let entry = c in record { accepted = entry.requires.accepted; threshold_value = entry.requires.threshold_value; to_bound = omega (arith, (parts entry.requires.accepted).end _ entry.requires.row_bound, c.links_of-links.ensures.1) }
 
 pub returns : goal.returns
 returns c = λ q et.
     let entry = c in
     let b = board_at entry.args.rows entry.args.marks entry.args.gases in
     let ends = c.links_of-links.ensures in
-    let rise = (parts entry.requires.accepted).rise _ entry.requires.threshold_value.1 in
+    let rise = (parts entry.requires.accepted).rise _ entry.requires.row_bound in
     all_tested b _ q _ _ _ ends.0 ends.1 c.if-links.false (omega arith) _ (c.total-mine.ensures b refl refl) c.if-mine.false _ et _ c.all_Near.ensures

@@ -2,4 +2,4 @@
 use Rattle.fill_zone.proofs.goes_on.Goals as goal
 
 pub returns-in-On : goal.returns-in-On
-returns-in-On c = rw c.enum_told-1.given.1
+returns-in-On c = rw c.in-On.is

@@ -31,7 +31,7 @@ returns-then-breaks c =
 
 pub expand-requires : goal.expand-requires
 expand-requires c =
-    let entry = c in record { accepted = entry.requires.accepted; expand_fits = (record {
+    let entry = c in record { accepted = entry.requires.accepted; expand_fits = record {
         walking = entry.requires.pop_fits.walking;
         turf = record {
           row = row_below entry.requires.pop_fits.walking.fit entry.requires.pop_fits.walking.bounds _ entry.requires.pop_fits.left _ c.queue_at.ensures;
@@ -39,7 +39,7 @@ expand-requires c =
         };
         popped = omega (arith, entry.requires.pop_fits.left, entry.requires.pop_fits.walking.fit.queue, entry.requires.accepted.turfs);
         tests = omega (arith, entry.requires.pop_fits.clock);
-      }, ) }
+      } }
 
 pub returns : goal.returns
 returns c =

@@ -3,7 +3,7 @@ use Rattle.finish_live.proofs.Starts.{settles_none, settles_out}
 use Rattle.finish_live.proofs.settle.Goals as goal
 
 pub returns-then-turns_of-size_of : goal.returns-then-turns_of-size_of
-returns-then-turns_of-size_of c = settles_none _ _ _ _ _ _ c.requires.laid.0 c.requires.laid.1 _ _ c.turns_of.ensures c.size_of.ensures c.if-turns_of-size_of.true
+returns-then-turns_of-size_of c = settles_none _ _ _ _ _ _ c.requires.laid c.requires.p_lt_count _ _ c.turns_of.ensures c.size_of.ensures c.if-turns_of-size_of.true
 
 pub returns : goal.returns
 returns c =
@@ -13,4 +13,4 @@ returns c =
     let if1 = c.if-turns_of-size_of in
     let live_in-at = c.live_at in
     let take_out = c.take_out in
-    settles_out _ _ _ _ _ _ entry.requires.laid.0 entry.requires.laid.1 _ _ turns-of.ensures size-of.ensures _ _ live_in-at.ensures if1.false take_out.ensures
+    settles_out _ _ _ _ _ _ entry.requires.laid entry.requires.p_lt_count _ _ turns-of.ensures size-of.ensures _ _ live_in-at.ensures if1.false take_out.ensures

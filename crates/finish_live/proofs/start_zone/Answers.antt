@@ -6,16 +6,16 @@ use native.Mathlib.Omega.{arith}
 use Rattle.finish_live.proofs.start_zone.Goals as goal
 
 pub size_of-requires : goal.size_of-requires
-size_of-requires c = record { sizes = c.requires.sizes; laid = stored-laid _ _ _ 0 _ c.requires.laid.0 _ (omega (arith, c.turns_at.ensures)) }
+size_of-requires c = record { sizes = c.requires.sizes; laid = stored-laid _ _ _ 0 _ c.requires.laid _ (omega (arith, c.turns_at.ensures)) }
 
 pub returns-then-size_of-eq0 : goal.returns-then-size_of-eq0
-returns-then-size_of-eq0 c = starts_none _ _ _ _ _ c.requires.laid.0 _ (omega (arith, c.turns_at.ensures)) _ c.size_of.ensures c.if-size_of-eq0.true
+returns-then-size_of-eq0 c = starts_none _ _ _ _ _ c.requires.laid _ (omega (arith, c.turns_at.ensures)) _ c.size_of.ensures c.if-size_of-eq0.true
 
 pub bounds-words-live_at : goal.bounds-words-live_at
 bounds-words-live_at c =
     let entry = c in
     let turns_at = c.turns_at in
-    omega (arith, length-set entry.args.words.now (turns_at.result + entry.args.zone) 0, c.live_at.ensures, entry.requires.laid.0.within, entry.requires.laid.0.below, entry.requires.laid.1)
+    omega (arith, length-set entry.args.words.now (turns_at.result + entry.args.zone) 0, c.live_at.ensures, entry.requires.laid.within, entry.requires.laid.below, entry.requires.count_le_zone)
 
 pub returns : goal.returns
-returns c = starts-some _ _ _ _ _ c.requires.laid.0 _ (omega (arith, c.turns_at.ensures)) _ _ c.size_of.ensures c.if-size_of-eq0.false (omega (arith, c.live_at.ensures))
+returns c = starts-some _ _ _ _ _ c.requires.laid _ (omega (arith, c.turns_at.ensures)) _ _ c.size_of.ensures c.if-size_of-eq0.false (omega (arith, c.live_at.ensures))

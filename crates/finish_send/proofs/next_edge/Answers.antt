@@ -17,4 +17,4 @@ pub loop-i-preserved : goal.loop-i-preserved
 loop-i-preserved c = (omega arith, (omega arith, none_more _ _ _ c.loop-i.invariant.1.1 (sym c.marked.ensures ∙ c.if-marked.false)))
 
 pub returns : goal.returns
-returns c = next-none _ _ _ _ c.requires.k_le_to.0 c.loop-i.invariant.1.0 c.loop-i-test.false c.loop-i.invariant.1.1
+returns c = next-none _ _ _ _ c.requires.k_le_to c.loop-i.invariant.1.0 c.loop-i-test.false c.loop-i.invariant.1.1

@@ -16,7 +16,7 @@ next_edge-requires c =
 pub clear_weights-requires : goal.clear_weights-requires
 clear_weights-requires c =
     let entry = c in
-    let links-of = c.links_of-links in let whole = clear_room _ _ _ _ _ entry.requires _ _ _ refl links-of.ensures.0 links-of.ensures.1 entry.args.floats.now refl in record { zone_bound = whole.0; from_le_to = whole.1; to_in_bounds = whole.2; to_in_bounds_2 = whole.3 }
+    let links-of = c.links_of-links in let whole = clear_room _ _ _ _ _ entry.requires _ _ _ refl links-of.ensures.0 links-of.ensures.1 entry.args.floats.now refl in record { zone_bound = whole.0; from_le_to = whole.1.0; to_in_bounds = whole.1.1.0; to_in_bounds_2 = whole.1.1.1 }
 
 pub shape_of-floats-then-next_edge-to : goal.shape_of-floats-then-next_edge-to
 shape_of-floats-then-next_edge-to c =
@@ -39,7 +39,7 @@ returns-then-next_edge-to c =
 pub lift-requires : goal.lift-requires
 lift-requires c =
     let entry = c in
-    let links-of = c.links_of-links in let whole = links-room _ _ _ _ _ entry.requires _ _ _ c.lifted_at-up.ensures links-of.ensures.0 links-of.ensures.1 entry.args.floats.now refl in record { zone_bound = whole.0; from_le_to = whole.1; to_in_bounds = whole.2; to_in_bounds_2 = whole.3 }
+    let links-of = c.links_of-links in let whole = links-room _ _ _ _ _ entry.requires _ _ _ c.lifted_at-up.ensures links-of.ensures.0 links-of.ensures.1 entry.args.floats.now refl in record { zone_bound = whole.0; from_le_to = whole.1.0; to_in_bounds = whole.1.1.0; to_in_bounds_2 = whole.1.1.1 }
 
 pub send_edges-requires : goal.send_edges-requires
 send_edges-requires c =

@@ -7,7 +7,7 @@ pub next_row-requires : goal.next_row-requires
 next_row-requires c = record { sizes = sizes-fit c.requires.turns_fit; zone_open = c.requires.fact }
 
 pub overflow_cast-turf : goal.overflow_cast-turf
-overflow_cast-turf c = zone-small _ _ _ _ c.requires.turns_fit c.requires.fact in omega (arith, h)
+overflow_cast-turf c = let h = zone-small _ _ _ _ c.requires.turns_fit c.requires.fact in omega (arith, h)
 
 pub finalize_eq-now-requires : goal.finalize_eq-now-requires
 finalize_eq-now-requires c = node-begun _ _ _ _ c.requires.turns_fit c.requires.fact _ c.next_row.ensures

@@ -11,7 +11,7 @@ word_fits : (l : List ℕ) (known : (i : ℕ) → get_or l i 0 < 2 ^ 32) (i : �
 word_fits l known i = omega (arith, known i)
 
 pub bounds-words-live_at : goal.bounds-words-live_at
-bounds-words-live_at c = c.requires.live.0.each _ c.requires.live.1 in omega (arith, c.live_at.ensures, c.requires.live.1, c.requires.live.0.few, o.laid.within)
+bounds-words-live_at c = let o = c.requires.live.each _ c.requires.p_lt_count in omega (arith, c.live_at.ensures, c.requires.p_lt_count, c.requires.live.few, o.laid.within)
 
 pub overflow_cast-result : goal.overflow_cast-result
 overflow_cast-result c = record { fits = word_fits c.args.words.now (λ i. (c.shared_slice_known-1.given i).fits) _ }

@@ -37,7 +37,7 @@ pub clear_floats-requires : goal.clear_floats-requires
 clear_floats-requires c = omega (arith, c.lifted_at.ensures, c.requires.floats)
 
 pub returns : goal.returns
-returns c = c.clear_part in
+returns c = let clear-part = c.clear_part in
     let clear-part2 = c.clear_part-2 in
     let clear-floats = c.clear_floats in
     blanked_at _ _ _ c.requires c.direction_at-pairs.ensures

@@ -9,11 +9,8 @@ pub plan_zones-requires : goal.plan_zones-requires
 plan_zones-requires c =
     let entry = c in
     let find-reverses = c.find_reverses in
-    let clear-plan = c.clear_plan in record { plannable = entry.requires.plannable; fact = (
-        cleared-zoned entry.requires.fact find-reverses.ensures.but clear-plan.ensures clear-plan.auto.1.1.0 clear-plan.auto.1.1.1.0,
-        cleared-reverses entry.requires.fact find-reverses.ensures.but clear-plan.ensures (reverses-of (board_of entry.args.rows.now entry.args.marks.now entry.args.gases)
-            _ find-reverses.ensures.backs),
-      ); fact_2 =  }
+    let clear-plan = c.clear_plan in record { plannable = entry.requires.plannable; fact = cleared-zoned entry.requires.fact find-reverses.ensures.but clear-plan.ensures clear-plan.auto.1.1.0 clear-plan.auto.1.1.1.0; fact_2 = cleared-reverses entry.requires.fact find-reverses.ensures.but clear-plan.ensures (reverses-of (board_of entry.args.rows.now entry.args.marks.now entry.args.gases)
+            _ find-reverses.ensures.backs) }
 
 pub returns : goal.returns
 returns c =

@@ -48,18 +48,15 @@ overflow_sub-zone c = omega (arith, (from-to c.starts_at.ensures c.requires.zone
 
 pub process_zone-requires : goal.process_zone-requires
 process_zone-requires c =
-    let entry = c in record { fact = entry.requires.tables.gassed; planning = (
-        record {
+    let entry = c in record { fact = entry.requires.tables.gassed; planning = record {
           sized = record { turfs = refl; links = refl; linked = entry.requires.tables.linked };
           fit = room-fit entry.requires.room;
           zone = omega (arith, entry.requires.zone, entry.requires.room.sizes.turfs);
           reverses = entry.requires.reverses;
-        },
-        handed c.starts_at.ensures entry.requires.zone entry.requires.ready c.nodes_at.ensures entry.requires.room,
-      ); nodes =  }
+        }; nodes = handed c.starts_at.ensures entry.requires.zone entry.requires.ready c.nodes_at.ensures entry.requires.room }
 
 pub returns : goal.returns
-returns c = c in
+returns c = let entry = c in
     zone-planned (board_of entry.args.rows.now entry.args.marks.now entry.args.gases) _ c.starts_at.ensures
     entry.requires.zone entry.requires.ready c.nodes_at.ensures (omega (arith, c.moles_at.ensures))
     c.process_zone.ensures

@@ -7,22 +7,22 @@ use Rattle.plan_all.proofs.Plans.{going_start, going_next, going_end}
 use Rattle.plan_all.proofs.plan_zones.Goals as goal
 
 pub loop-z-init : goal.loop-z-init
-loop-z-init c = ((omega arith, (refl, refl)), going_start _ _ (room-fit c.requires.fact.0.room))
+loop-z-init c = ((omega arith, (refl, refl)), going_start _ _ (room-fit c.requires.fact.room))
 
 pub plan_zone_at-requires : goal.plan_zone_at-requires
 plan_zone_at-requires c =
     let entry = c in
-    let t = zoned_alike (frame-alike c.loop-z.invariant.1.frame) c.loop-z.invariant.0.1.0 c.loop-z.invariant.0.1.1 entry.requires.fact.0 in
+    let t = zoned_alike (frame-alike c.loop-z.invariant.1.frame) c.loop-z.invariant.0.1.0 c.loop-z.invariant.0.1.1 entry.requires.fact in
     record {
       tables = entry.requires.plannable;
       room = t.room;
       zone = omega (arith, t.few, c.loop-z-test.true);
-      reverses = reverses-kept entry.requires.fact.1 c.loop-z.invariant.1.frame;
+      reverses = reverses-kept entry.requires.fact_2 c.loop-z.invariant.1.frame;
       ready = t.each _ c.loop-z-test.true;
     }
 
 pub overflow_add-z : goal.overflow_add-z
-overflow_add-z c = omega (arith, c.loop-z-test.true, c.requires.fact.0.few, c.requires.fact.0.room.sizes.turfs)
+overflow_add-z c = omega (arith, c.loop-z-test.true, c.requires.fact.few, c.requires.fact.room.sizes.turfs)
 
 pub loop-z-smaller : goal.loop-z-smaller
 loop-z-smaller c = omega (arith, c.loop-z-test.true)

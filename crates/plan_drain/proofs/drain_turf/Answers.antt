@@ -46,7 +46,7 @@ hand_on-requires c =
     }
 
 pub returns-then-direction-ne0 : goal.returns-then-direction-ne0
-returns-then-direction-ne0 c = c in
+returns-then-direction-ne0 c = let entry = c in
     drained _ _ _ _ _ _ _ c.load-i.ensures entry.requires.fit entry.requires.row entry.requires.within c.if-direction-ne0.true _ c.via_at.ensures _
     c.back_link-there.ensures c.if-amount.true c.hand_on.ensures
 

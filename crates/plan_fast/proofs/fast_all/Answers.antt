@@ -24,7 +24,7 @@ fast_turf-requires c =
         fit = c.loop-i.invariant.1.fit;
         zone = entry.requires.planning.zone;
         reverses = reverses-kept entry.requires.planning.reverses (onto_frame c.loop-i.invariant.1);
-      }; r_lt_n = (now_below entry.requires.nodes (onto_frame c.loop-i.invariant.1) c.loop-i.invariant.0.1.0 _ c.loop-i-test.true, ) }
+      }; r_lt_n = now_below entry.requires.nodes (onto_frame c.loop-i.invariant.1) c.loop-i.invariant.0.1.0 _ c.loop-i-test.true }
 
 pub overflow_add-i : goal.overflow_add-i
 overflow_add-i c = omega (arith, c.loop-i-test.true, c.requires.nodes.few, c.requires.planning.fit.turfs)

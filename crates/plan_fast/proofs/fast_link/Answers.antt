@@ -19,25 +19,24 @@ overflow_cast-a c =
     omega (arith, ha, entry.requires.fit.turfs)
 
 pub fast_at-requires : goal.fast_at-requires
-fast_at-requires c = let whole = c in
+fast_at-requires c = let entry = c in
     let hk : entry.args.k < entry.args.share.e = omega (arith, entry.requires.ends.within) in
-    let ha = entry.requires.ends.ends entry.args.k hk in
-    (omega (arith, ha, entry.requires.fit.turfs), record { turfs = entry.requires.fit.turfs; links = entry.requires.fit.links }) in record { row_bound = whole.0; sizes = whole.1 }
+    let ha = entry.requires.ends.ends entry.args.k hk in record { row_bound = omega (arith, ha, entry.requires.fit.turfs); sizes = record { turfs = entry.requires.fit.turfs; links = entry.requires.fit.links } }
 
 pub offset_bounds-words-fast_at : goal.offset_bounds-words-fast_at
-offset_bounds-words-fast_at c = c in
+offset_bounds-words-fast_at c = let entry = c in
     let hk : entry.args.k < entry.args.share.e = omega (arith, entry.requires.ends.within) in
     let ha = entry.requires.ends.ends entry.args.k hk in
     omega (arith, c.fast_at.ensures, ha, entry.requires.fit.turfs, entry.requires.fit.links)
 
 pub bounds-words-fast_at : goal.bounds-words-fast_at
-bounds-words-fast_at c = c in
+bounds-words-fast_at c = let entry = c in
     let hk : entry.args.k < entry.args.share.e = omega (arith, entry.requires.ends.within) in
     let ha = entry.requires.ends.ends entry.args.k hk in
     omega (arith, c.fast_at.ensures, ha, entry.requires.fit.words)
 
 pub returns-then-words-fast_at-ne0 : goal.returns-then-words-fast_at-ne0
-returns-then-words-fast_at-ne0 c = c in
+returns-then-words-fast_at-ne0 c = let entry = c in
     let hk : entry.args.k < entry.args.share.e = omega (arith, entry.requires.ends.within) in
     let ha = entry.requires.ends.ends entry.args.k hk in
     fast-marked _ _ entry.args.share.z entry.args.share.r _ _ entry.args.share.x _ _ entry.requires.fit hk ha c.if-words-k.false _ c.fast_at.ensures c.if-words-fast_at-ne0.true
@@ -69,7 +68,7 @@ fast_move-requires c =
     }
 
 pub returns : goal.returns
-returns c = c in
+returns c = let entry = c in
     let hk : entry.args.k < entry.args.share.e = omega (arith, entry.requires.ends.within) in
     let ha = entry.requires.ends.ends entry.args.k hk in
     fast-more _ _ entry.args.share.z entry.args.share.r _ _ entry.args.share.x _ _ entry.requires.fit hk ha entry.requires.back _ c.back_link-back.ensures c.if-words-k.false _

@@ -42,5 +42,5 @@ pub bounds-floats-to-2 : goal.bounds-floats-to-2
 bounds-floats-to-2 c = simp length-set (omega (arith, c.delta_at-to.ensures, c.requires.fit, c.requires.to, c.adjust_eq_movement.auto))
 
 pub returns : goal.returns
-returns c = c in
+returns c = let entry = c in
     moved _ _ _ _ _ _ _ _ _ _ entry.requires.fit entry.requires.row entry.requires.to entry.requires.there entry.requires.back c.adjust_eq_movement.ensures _ _ c.delta_at-from.ensures c.delta_at-to.ensures

@@ -5,11 +5,11 @@ use Rattle.plan_search.proofs.Passes.{passes_start, passes_still, passes_next}
 use Rattle.plan_search.proofs.pass_links.Goals as goal
 
 pub loop-k-init : goal.loop-k-init
-loop-k-init c = ((omega arith, (omega (arith, c.requires.ends.1), (refl, refl))), passes_start _ _ _ _ _ _ _ _ _ c.requires.searching.seeking)
+loop-k-init c = ((omega arith, (omega (arith, c.requires.at_le_to), (refl, refl))), passes_start _ _ _ _ _ _ _ _ _ c.requires.searching.seeking)
 
 pub pass_link-p-requires : goal.pass_link-p-requires
 pass_link-p-requires c =
-    let entry = c in record { searching = record { seeking = c.loop-k.invariant.1.seeking; zone = entry.requires.searching.zone; row = entry.requires.searching.row }; ends = (record { row = entry.requires.ends.0.row; all = entry.requires.ends.0.all; within = omega (arith, entry.requires.ends.0.within, c.loop-k-test.true); ends = entry.requires.ends.0.ends }, ) }
+    let entry = c in record { searching = record { seeking = c.loop-k.invariant.1.seeking; zone = entry.requires.searching.zone; row = entry.requires.searching.row }; ends = record { row = entry.requires.ends.row; all = entry.requires.ends.all; within = omega (arith, entry.requires.ends.within, c.loop-k-test.true); ends = entry.requires.ends.ends } }
 
 pub shape_of-words-then-p : goal.shape_of-words-then-p
 shape_of-words-then-p c = c.pass_link-p.auto.1.1.1.1.1.0 ∙ c.loop-k.invariant.0.1.1.0
@@ -22,7 +22,7 @@ returns-then-p c =
     let loop = c.loop-k in record { at_le_at = loop.invariant.0.0; at_le_to_2 = loop.invariant.0.1.0; fact = passes_still loop.invariant.1 (c.pass_link-p.ensures.floats_value c.if-p.true) }
 
 pub overflow_add-k : goal.overflow_add-k
-overflow_add-k c = omega (arith, c.loop-k-test.true, c.requires.ends.0.within, c.requires.searching.seeking.fit.links)
+overflow_add-k c = omega (arith, c.loop-k-test.true, c.requires.ends.within, c.requires.searching.seeking.fit.links)
 
 pub loop-k-smaller : goal.loop-k-smaller
 loop-k-smaller c = omega (arith, c.loop-k-test.true)

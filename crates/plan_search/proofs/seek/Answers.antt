@@ -35,11 +35,11 @@ pub shape_of-floats-then-settled : goal.shape_of-floats-then-settled
 shape_of-floats-then-settled c = c.loop-looked.invariant.0.1
 
 pub returns-then-settled : goal.returns-then-settled
-returns-then-settled c = let whole = c.loop-looked in (
+returns-then-settled c = let loop = c.loop-looked in (
   trail_end _ loop.invariant.1.0 (turn-settled _ _ _ _ _ _ loop.invariant.1.0.seeking c.loop-looked-test.true _ c.queue_at-queue.ensures _ _ _ _ c.requires.searching.row _
       c.delta_at-own.ensures (sym c.settled.ensures ∙ c.if-settled.true)),
   loop.invariant.1.1,
-) in record { fact = whole.0; fact_2 = whole.1; idle = whole.2 }
+)
 
 pub overflow_add-r : goal.overflow_add-r
 overflow_add-r c =
@@ -76,7 +76,7 @@ pub loop-looked-smaller : goal.loop-looked-smaller
 loop-looked-smaller c = omega (arith, c.loop-looked.invariant.1.0.seeking.line.few, c.loop-looked-test.true)
 
 pub loop-looked-preserved : goal.loop-looked-preserved
-loop-looked-preserved c = c in
+loop-looked-preserved c = let entry = c in
     let queue-at = c.queue_at-queue in
     let loop = c.loop-looked in
     let loop-test = c.loop-looked-test in

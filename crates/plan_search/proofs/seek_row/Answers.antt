@@ -18,15 +18,12 @@ seek_link-step-requires c =
     let entry = c in
     let loop = c.loop-k in
     let pass-links = c.pass_links-pass in
-    let t = row-passes loop.invariant.1 entry.requires.searching.row loop.invariant.0.0 pass-links.ensures.at_le_at pass-links.ensures.at_le_to_2.0 pass-links.ensures.at_le_to_2.1 in record { searching = record { seeking = t.on.seeking; zone = entry.requires.searching.zone; row = entry.requires.searching.row }; unsettled = (
-        t.unsettled,
-        record {
+    let t = row-passes loop.invariant.1 entry.requires.searching.row loop.invariant.0.0 pass-links.ensures.at_le_at pass-links.ensures.at_le_to_2 pass-links.ensures.fact in record { searching = record { seeking = t.on.seeking; zone = entry.requires.searching.zone; row = entry.requires.searching.row }; unsettled = t.unsettled; ends = record {
           row = entry.requires.ends.row;
           all = entry.requires.ends.all;
           within = omega (arith, entry.requires.ends.within, c.if-k-to.true);
           ends = entry.requires.ends.ends;
-        },
-      ); ends =  }
+        } }
 
 pub overflow_add-k : goal.overflow_add-k
 overflow_add-k c =
@@ -49,7 +46,7 @@ returns-then-step c =
     let loop = c.loop-k in
     let pass-links = c.pass_links-pass in
     let seek-link = c.seek_link-step in
-    let t = row-passes loop.invariant.1 entry.requires.searching.row loop.invariant.0.0 pass-links.ensures.at_le_at pass-links.ensures.at_le_to_2.0 pass-links.ensures.at_le_to_2.1 in
+    let t = row-passes loop.invariant.1 entry.requires.searching.row loop.invariant.0.0 pass-links.ensures.at_le_at pass-links.ensures.at_le_to_2 pass-links.ensures.fact in
     row_settled _ _ t (omega (arith, loop.invariant.0.0, pass-links.ensures.at_le_at)) c.if-k-to.true seek-link.ensures.fact
     entry.requires.searching.row (sym seek-link.ensures.done_value ∙ c.if-step.true)
 
@@ -63,7 +60,7 @@ loop-k-preserved-else-step c =
     let if1 = c.if-k-to in
     let seek-link = c.seek_link-step in
     let t = row-passes loop.invariant.1 c.requires.searching.row
-    loop.invariant.0.0 pass-links.ensures.at_le_at pass-links.ensures.at_le_to_2.0 pass-links.ensures.at_le_to_2.1 in (
+    loop.invariant.0.0 pass-links.ensures.at_le_at pass-links.ensures.at_le_to_2 pass-links.ensures.fact in (
       (
         omega (arith, loop.invariant.0.0, pass-links.ensures.at_le_at),
         (
@@ -88,7 +85,7 @@ loop-k-preserved c =
       (
         omega (arith, loop.invariant.0.0, pass-links.ensures.at_le_at),
         (
-          pass-links.ensures.at_le_to_2.0,
+          pass-links.ensures.at_le_to_2,
           (
             pass-links.auto.1.1.1.1.1.1.0 ∙ loop.invariant.0.1.1.0,
             pass-links.auto.1.1.1.1.1.1.1.0
@@ -97,7 +94,7 @@ loop-k-preserved c =
         ),
       ),
       row-passes loop.invariant.1 c.requires.searching.row
-          loop.invariant.0.0 pass-links.ensures.at_le_at pass-links.ensures.at_le_to_2.0 pass-links.ensures.at_le_to_2.1,
+          loop.invariant.0.0 pass-links.ensures.at_le_at pass-links.ensures.at_le_to_2 pass-links.ensures.fact,
     )
 
 pub shape_of-words : goal.shape_of-words

@@ -66,7 +66,7 @@ drain-requires c =
       zone = entry.requires.planning.zone;
       few = seek.ensures.fact.seeking.line.few;
       within = rows-within _ _ _ _ (board_of entry.args.rows.now entry.args.marks.now
-          entry.args.gases) entry.requires.planning.sized.linked entry.requires.planning.sized.links seek.ensures.fact.seeking seek.ensures.fact_2.0 back;
+          entry.args.gases) entry.requires.planning.sized.linked entry.requires.planning.sized.links seek.ensures.fact.seeking seek.ensures.fact_2 back;
     }
 
 pub drain-requires-2 : goal.drain-requires-2
@@ -82,13 +82,13 @@ drain-requires-2 c =
     let near = searched_near _ _ _ _ _ _ store.ensures.fit entry.requires.g_lt_n _ _ queue-at.ensures places-at.ensures insert.ensures (board_of entry.args.rows.now
     entry.args.marks.now entry.args.gases) _ _ _ _ (points_nowhere _ _ _ _ _ _ entry.requires.planning.fit entry.requires.g_lt_n store.ensures) seek.ensures.fact in
     let few = low-few _ _ 0 _ _ _ _ _ _ _ seek.ensures.fact.seeking c.least-first.ensures c.least.ensures
-    near seek.ensures.fact_2.1 in
+    near seek.ensures.idle in
     record {
       fit = c.drain.ensures.fit;
       zone = entry.requires.planning.zone;
       few = omega (arith, few, seek.ensures.fact.seeking.line.few);
       within = rows-later _ _ _ _ _ _ (rows-within _ _ _ _ (board_of entry.args.rows.now entry.args.marks.now entry.args.gases) entry.requires.planning.sized.linked entry.requires.planning.sized.links
-          seek.ensures.fact.seeking seek.ensures.fact_2.0 back) _ few;
+          seek.ensures.fact.seeking seek.ensures.fact_2 back) _ few;
     }
 
 pub shape_of-words : goal.shape_of-words
@@ -117,7 +117,7 @@ returns c =
     entry.args.gases) entry.requires.planning.sized.turfs _ _ _ _ _ c.load-i.ensures
     store.ensures seek.ensures.fact
     (drained_by_edges _ _ _ _ (board_of entry.args.rows.now entry.args.marks.now entry.args.gases) entry.requires.planning.sized.linked entry.requires.planning.sized.links
-    seek.ensures.fact.seeking seek.ensures.fact_2.0 back
+    seek.ensures.fact.seeking seek.ensures.fact_2 back
     (skipped _ _ _ _ _ _ _ _ _ _ seek.ensures.fact.seeking c.least-first.ensures
-    c.least.ensures near seek.ensures.fact_2.1 _ c.drain.ensures
+    c.least.ensures near seek.ensures.idle _ c.drain.ensures
     c.drain-2.ensures))

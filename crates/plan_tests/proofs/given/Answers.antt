@@ -2,4 +2,4 @@
 use Rattle.plan_tests.proofs.given.Goals as goal
 
 pub returns-in-Taking : goal.returns-in-Taking
-returns-in-Taking c = rw c.enum_told-in-Taking-1.given.1
+returns-in-Taking c = rw c.in-Taking.is

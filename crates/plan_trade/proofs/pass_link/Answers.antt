@@ -58,9 +58,9 @@ pub returns-then-contains : goal.returns-then-contains
 returns-then-contains c =
     let entry = c in
     let hk : entry.args.k < entry.args.hand.e = omega (arith, entry.requires.ends.within) in
-    let ha = entry.requires.ends.ends entry.args.k hk in record { floats_value = λ q. absurd (true≢false (sym q)); fact = (λ _. pass-queued entry.args.hand.side entry.args.r entry.args.k entry.args.hand.z _ _ _ entry.args.neighbours.now
+    let ha = entry.requires.ends.ends entry.args.k hk in record { floats_value = λ q. absurd (true≢false (sym q)); fact = λ _. pass-queued entry.args.hand.side entry.args.r entry.args.k entry.args.hand.z _ _ _ entry.args.neighbours.now
           _ _ entry.requires.searching.seeking hk ha _ _ c.queue_at-queue.ensures c.places_at-places.ensures c.if-words-k.false
-          (sym c.if-contains.true ∙ c.contains.ensures), ) }
+          (sym c.if-contains.true ∙ c.contains.ensures) }
 
 pub overflow_cast-row : goal.overflow_cast-row
 overflow_cast-row c =
@@ -85,14 +85,11 @@ insert-requires c =
     let ha = entry.requires.ends.ends entry.args.k hk in
     let l = link-room entry.args.hand.side _ entry.args.r entry.args.k _ entry.args.hand.z _ _ _ _ _ entry.requires.searching.seeking hk ha ha _ _ queue-at.ensures
     places-at.ensures c.if-words-k.false (sym c.if-contains.false
-    ∙ c.contains.ensures) in record { count_in_bounds = omega (arith, l, queue-at.ensures, entry.requires.searching.seeking.fit.words); a_in_bounds = (
-        omega (arith, l, places-at.ensures, entry.requires.searching.seeking.fit.words, ha),
-        omega (
+    ∙ c.contains.ensures) in record { count_in_bounds = omega (arith, l, queue-at.ensures, entry.requires.searching.seeking.fit.words); a_in_bounds = omega (arith, l, places-at.ensures, entry.requires.searching.seeking.fit.words, ha); count_bound = omega (
           arith,
           l,
           entry.requires.searching.seeking.fit.turfs,
-        ),
-      ); count_bound =  }
+        ) }
 
 pub overflow_cast-words : goal.overflow_cast-words
 overflow_cast-words c =
@@ -119,14 +116,11 @@ overflow_add-r c =
     omega (arith, entry.requires.ends.row, entry.requires.searching.seeking.fit.turfs)
 
 pub point-requires : goal.point-requires
-point-requires c = let whole = c in
-    let hk : entry.args.k < entry.args.hand.e = omega (arith, entry.requires.1.within) in
-    let ha = entry.requires.1.ends entry.args.k hk in (
-      push-fit entry.args.hand.side _ entry.args.r entry.args.k _ entry.args.hand.z _ _ _ _ _ entry.requires.0.seeking hk ha ha _ _ c.queue_at-queue.ensures
+point-requires c = let entry = c in
+    let hk : entry.args.k < entry.args.hand.e = omega (arith, entry.requires.ends.within) in
+    let ha = entry.requires.ends.ends entry.args.k hk in record { plan_fits = push-fit entry.args.hand.side _ entry.args.r entry.args.k _ entry.args.hand.z _ _ _ _ _ entry.requires.searching.seeking hk ha ha _ _ c.queue_at-queue.ensures
           c.places_at-places.ensures c.if-words-k.false
-          (sym c.if-contains.false ∙ c.contains.ensures) _ c.insert.ensures _ c.via_at.ensures,
-      ha,
-    ) in record { plan_fits = whole.0; a_lt_n = whole.1 }
+          (sym c.if-contains.false ∙ c.contains.ensures) _ c.insert.ensures _ c.via_at.ensures; a_lt_n = ha }
 
 pub overflow_add-result : goal.overflow_add-result
 overflow_add-result c =
@@ -144,16 +138,13 @@ pub shape_of-words : goal.shape_of-words
 shape_of-words c = c.point.auto.1.1.1.1.0 ∙ simp length-set c.insert.auto.1.1.1.1.0
 
 pub returns : goal.returns
-returns c = let whole = c in
-    let hk : entry.args.k < entry.args.hand.e = omega (arith, entry.requires.1.within) in
-    let ha = entry.requires.1.ends entry.args.k hk in (
-      λ q. absurd (true≢false (sym q)),
-      λ _. pass-new entry.args.hand.side entry.args.r entry.args.k entry.args.hand.z _ _ _ entry.args.neighbours.now _ _ entry.requires.0.seeking hk ha _ _
+returns c = let entry = c in
+    let hk : entry.args.k < entry.args.hand.e = omega (arith, entry.requires.ends.within) in
+    let ha = entry.requires.ends.ends entry.args.k hk in record { floats_value = λ q. absurd (true≢false (sym q)); fact = λ _. pass-new entry.args.hand.side entry.args.r entry.args.k entry.args.hand.z _ _ _ entry.args.neighbours.now _ _ entry.requires.searching.seeking hk ha _ _
           c.queue_at-queue.ensures
           c.places_at-places.ensures
           c.if-words-k.false
           (sym c.if-contains.false ∙ c.contains.ensures) _
           refl
           (sym c.wants_at.ensures ∙ c.if-wants_at.false) _
-          c.insert.ensures _ c.via_at.ensures _ _ c.point.ensures,
-    ) in record { floats_value = whole.0; fact = whole.1 }
+          c.insert.ensures _ c.via_at.ensures _ _ c.point.ensures }

@@ -10,12 +10,12 @@ use Rattle.plan_trade.proofs.seek_link.Goals as goal
 pub offset_bounds-words-k : goal.offset_bounds-words-k
 offset_bounds-words-k c =
     let entry = c in
-    omega (arith, entry.requires.unsettled.1.within, entry.requires.searching.seeking.fit.links)
+    omega (arith, entry.requires.ends.within, entry.requires.searching.seeking.fit.links)
 
 pub bounds-words-k : goal.bounds-words-k
 bounds-words-k c =
     let entry = c in
-    omega (arith, entry.requires.unsettled.1.within, entry.requires.searching.seeking.fit.words)
+    omega (arith, entry.requires.ends.within, entry.requires.searching.seeking.fit.words)
 
 pub overflow_add-z : goal.overflow_add-z
 overflow_add-z c = omega (arith, c.requires.searching.zone)
@@ -24,8 +24,8 @@ pub returns-then-words-k : goal.returns-then-words-k
 unfolding along
 returns-then-words-k c =
     let entry = c in
-    let hk : entry.args.k < entry.args.hand.e = omega (arith, entry.requires.unsettled.1.within) in
-    let ha = entry.requires.unsettled.1.ends entry.args.k hk in record { fact = record { sought = link-foreign entry.args.hand.side entry.args.hand.g entry.args.r entry.args.k _ entry.args.hand.z _ _ _ _ _ entry.requires.searching.seeking hk entry.requires.searching.row ha c.if-words-k.true; met = keeps-none; idle = idle-none }; done_value = sym entry.requires.unsettled.0 }
+    let hk : entry.args.k < entry.args.hand.e = omega (arith, entry.requires.ends.within) in
+    let ha = entry.requires.ends.ends entry.args.k hk in record { fact = record { sought = link-foreign entry.args.hand.side entry.args.hand.g entry.args.r entry.args.k _ entry.args.hand.z _ _ _ _ _ entry.requires.searching.seeking hk entry.requires.searching.row ha c.if-words-k.true; met = keeps-none; idle = idle-none }; done_value = sym entry.requires.unsettled }
 
 pub queue_at-queue-requires : goal.queue_at-queue-requires
 queue_at-queue-requires c =
@@ -40,94 +40,91 @@ places_at-places-requires c =
 pub offset_bounds-neighbours-k : goal.offset_bounds-neighbours-k
 offset_bounds-neighbours-k c =
     let entry = c in
-    omega (arith, entry.requires.unsettled.1.within, entry.requires.searching.seeking.fit.links)
+    omega (arith, entry.requires.ends.within, entry.requires.searching.seeking.fit.links)
 
 pub bounds-neighbours-k : goal.bounds-neighbours-k
 bounds-neighbours-k c =
     let entry = c in
-    omega (arith, entry.requires.unsettled.1.within, entry.requires.unsettled.1.all)
+    omega (arith, entry.requires.ends.within, entry.requires.ends.all)
 
 pub contains-requires : goal.contains-requires
 contains-requires c =
     let entry = c in
-    let hk : entry.args.k < entry.args.hand.e = omega (arith, entry.requires.unsettled.1.within) in
-    let ha = entry.requires.unsettled.1.ends entry.args.k hk in
+    let hk : entry.args.k < entry.args.hand.e = omega (arith, entry.requires.ends.within) in
+    let ha = entry.requires.ends.ends entry.args.k hk in
     (link-holds entry.args.hand.side entry.args.hand.g entry.args.r entry.args.k _ entry.args.hand.z _ _ _ _ _ entry.requires.searching.seeking hk entry.requires.searching.row ha _ _ c.queue_at-queue.ensures c.places_at-places.ensures, ha)
 
 pub returns-then-contains : goal.returns-then-contains
 unfolding along
 returns-then-contains c =
     let entry = c in
-    let hk : entry.args.k < entry.args.hand.e = omega (arith, entry.requires.unsettled.1.within) in
-    let ha = entry.requires.unsettled.1.ends entry.args.k hk in record { fact = record {
+    let hk : entry.args.k < entry.args.hand.e = omega (arith, entry.requires.ends.within) in
+    let ha = entry.requires.ends.ends entry.args.k hk in record { fact = record {
         sought = link-queued entry.args.hand.side entry.args.hand.g entry.args.r entry.args.k _ entry.args.hand.z _ _ _ _ _ entry.requires.searching.seeking
             hk entry.requires.searching.row ha _ _ c.queue_at-queue.ensures c.places_at-places.ensures c.if-words-k.false
-            entry.requires.unsettled.0 (sym c.if-contains.true ∙ c.contains.ensures);
+            entry.requires.unsettled (sym c.if-contains.true ∙ c.contains.ensures);
         met = keeps-none;
         idle = idle-none;
-      }; done_value = (sym entry.requires.unsettled.0, ) }
+      }; done_value = sym entry.requires.unsettled }
 
 pub insert-requires : goal.insert-requires
 insert-requires c =
     let entry = c in
     let queue-at = c.queue_at-queue in
     let places-at = c.places_at-places in
-    let hk : entry.args.k < entry.args.hand.e = omega (arith, entry.requires.unsettled.1.within) in
-    let ha = entry.requires.unsettled.1.ends entry.args.k hk in
+    let hk : entry.args.k < entry.args.hand.e = omega (arith, entry.requires.ends.within) in
+    let ha = entry.requires.ends.ends entry.args.k hk in
     let l = link-room entry.args.hand.side entry.args.hand.g entry.args.r entry.args.k _ entry.args.hand.z _ _ _ _ _ entry.requires.searching.seeking hk
     entry.requires.searching.row ha _ _ queue-at.ensures places-at.ensures c.if-words-k.false (sym c.if-contains.false
-    ∙ c.contains.ensures) in record { count_in_bounds = omega (arith, l, queue-at.ensures, entry.requires.searching.seeking.fit.words); a_in_bounds = (
-        omega (arith, l, places-at.ensures, entry.requires.searching.seeking.fit.words, ha),
-        omega (
+    ∙ c.contains.ensures) in record { count_in_bounds = omega (arith, l, queue-at.ensures, entry.requires.searching.seeking.fit.words); a_in_bounds = omega (arith, l, places-at.ensures, entry.requires.searching.seeking.fit.words, ha); count_bound = omega (
           arith,
           l,
           entry.requires.searching.seeking.fit.turfs,
-        ),
-      ); count_bound =  }
+        ) }
 
 pub overflow_cast-row : goal.overflow_cast-row
 overflow_cast-row c =
     let entry = c in
-    omega (arith, entry.requires.unsettled.1.ends entry.args.k (omega (arith, entry.requires.unsettled.1.within)), entry.requires.searching.seeking.fit.turfs)
+    omega (arith, entry.requires.ends.ends entry.args.k (omega (arith, entry.requires.ends.within)), entry.requires.searching.seeking.fit.turfs)
 
 pub overflow_cast-words : goal.overflow_cast-words
 overflow_cast-words c =
     let entry = c in
-    omega (arith, entry.requires.unsettled.1.within, entry.requires.searching.seeking.fit.links)
+    omega (arith, entry.requires.ends.within, entry.requires.searching.seeking.fit.links)
 
 pub via_at-requires : goal.via_at-requires
 via_at-requires c =
-    let entry = c in record { row_bound = omega (arith, entry.requires.unsettled.1.ends entry.args.k (omega (arith, entry.requires.unsettled.1.within)), entry.requires.searching.seeking.fit.turfs); e_bound = entry.requires.searching.seeking.fit.links }
+    let entry = c in record { row_bound = omega (arith, entry.requires.ends.ends entry.args.k (omega (arith, entry.requires.ends.within)), entry.requires.searching.seeking.fit.turfs); e_bound = entry.requires.searching.seeking.fit.links }
 
 pub offset_bounds-words-via_at : goal.offset_bounds-words-via_at
 offset_bounds-words-via_at c =
     let entry = c in
-    omega (arith, c.via_at.ensures, entry.requires.unsettled.1.ends entry.args.k (omega (arith, entry.requires.unsettled.1.within)), entry.requires.searching.seeking.fit.links, entry.requires.searching.seeking.fit.turfs)
+    omega (arith, c.via_at.ensures, entry.requires.ends.ends entry.args.k (omega (arith, entry.requires.ends.within)), entry.requires.searching.seeking.fit.links, entry.requires.searching.seeking.fit.turfs)
 
 pub bounds-words-via_at : goal.bounds-words-via_at
 bounds-words-via_at c =
     let entry = c in
-    omega (arith, c.via_at.ensures, entry.requires.unsettled.1.ends entry.args.k (omega (arith, entry.requires.unsettled.1.within)), entry.requires.searching.seeking.fit.words, c.insert.auto.1.1.1.1.0)
+    omega (arith, c.via_at.ensures, entry.requires.ends.ends entry.args.k (omega (arith, entry.requires.ends.within)), entry.requires.searching.seeking.fit.words, c.insert.auto.1.1.1.1.0)
 
 pub meet-traded-requires : goal.meet-traded-requires
 meet-traded-requires c =
     let entry = c in
-    let hk : entry.args.k < entry.args.hand.e = omega (arith, entry.requires.unsettled.1.within) in
-    let ha = entry.requires.unsettled.1.ends entry.args.k hk in
+    let hk : entry.args.k < entry.args.hand.e = omega (arith, entry.requires.ends.within) in
+    let ha = entry.requires.ends.ends entry.args.k hk in
     record {
       fit = push-fit entry.args.hand.side entry.args.hand.g entry.args.r entry.args.k _ entry.args.hand.z _ _ _ _ _ entry.requires.searching.seeking hk entry.requires.searching.row ha _ _ c.queue_at-queue.ensures
           c.places_at-places.ensures c.if-words-k.false
           (sym c.if-contains.false ∙ c.contains.ensures) _ c.insert.ensures _ c.via_at.ensures;
       hand = entry.requires.searching.row;
       met = ha;
-      row = entry.requires.unsettled.1.row;
+      row = entry.requires.ends.row;
     }
 
 pub overflow_add-result : goal.overflow_add-result
 overflow_add-result c =
     let entry = c in
-    let hk : entry.args.k < entry.args.hand.e = omega (arith, entry.requires.unsettled.1.within) in
-    let ha = entry.requires.unsettled.1.ends entry.args.k hk in
+    let hk : entry.args.k < entry.args.hand.e = omega (arith, entry.requires.ends.within) in
+    let ha = entry.requires.ends.ends entry.args.k hk in
     let l = link-room entry.args.hand.side entry.args.hand.g entry.args.r entry.args.k _ entry.args.hand.z _ _ _ _ _ entry.requires.searching.seeking hk
     entry.requires.searching.row ha _ _ c.queue_at-queue.ensures
     c.places_at-places.ensures c.if-words-k.false
@@ -152,7 +149,7 @@ shape_of-words c = c.meet-traded.auto.1.1.1.1.1.1.0 ∙ simp length-set c.insert
 
 pub returns : goal.returns
 unfolding along
-returns c = let whole = c in
+returns c = let entry = c in
     let if1 = c.if-words-k in
     let queue-at = c.queue_at-queue in
     let places-at = c.places_at-places in
@@ -161,14 +158,11 @@ returns c = let whole = c in
     let insert = c.insert in
     let via = c.via_at in
     let meet = c.meet-traded in
-    let hk : entry.args.k < entry.args.hand.e = omega (arith, entry.requires.1.1.within) in
-    let ha = entry.requires.1.1.ends entry.args.k hk in (
-      record {
-        sought = link-new entry.args.hand.side entry.args.hand.g entry.args.r entry.args.k _ entry.args.hand.z _ _ _ _ _ entry.requires.0.seeking hk entry.requires.0.row ha _ _ queue-at.ensures places-at.ensures if1.false (sym if2.false ∙ contains.ensures) _ insert.ensures _ via.ensures meet.ensures.plan_does entry.requires.1.0;
-        met = link-keeps entry.args.hand.side entry.args.hand.g entry.args.r entry.args.k _ entry.args.hand.z _ _ _ _ _ entry.requires.0.seeking hk entry.requires.0.row ha _ _ queue-at.ensures places-at.ensures if1.false (sym if2.false ∙ contains.ensures) _ insert.ensures _ via.ensures meet.ensures.plan_does entry.args.neighbours.now refl;
-        idle = link-idle entry.args.hand.side entry.args.hand.g entry.args.r entry.args.k _ entry.args.hand.z _ _ _ _ _ entry.requires.0.seeking hk entry.requires.0.row ha _ _ queue-at.ensures places-at.ensures if1.false (sym if2.false ∙ contains.ensures) _ insert.ensures _ via.ensures
+    let hk : entry.args.k < entry.args.hand.e = omega (arith, entry.requires.ends.within) in
+    let ha = entry.requires.ends.ends entry.args.k hk in record { fact = record {
+        sought = link-new entry.args.hand.side entry.args.hand.g entry.args.r entry.args.k _ entry.args.hand.z _ _ _ _ _ entry.requires.searching.seeking hk entry.requires.searching.row ha _ _ queue-at.ensures places-at.ensures if1.false (sym if2.false ∙ contains.ensures) _ insert.ensures _ via.ensures meet.ensures.plan_does entry.requires.unsettled;
+        met = link-keeps entry.args.hand.side entry.args.hand.g entry.args.r entry.args.k _ entry.args.hand.z _ _ _ _ _ entry.requires.searching.seeking hk entry.requires.searching.row ha _ _ queue-at.ensures places-at.ensures if1.false (sym if2.false ∙ contains.ensures) _ insert.ensures _ via.ensures meet.ensures.plan_does entry.args.neighbours.now refl;
+        idle = link-idle entry.args.hand.side entry.args.hand.g entry.args.r entry.args.k _ entry.args.hand.z _ _ _ _ _ entry.requires.searching.seeking hk entry.requires.searching.row ha _ _ queue-at.ensures places-at.ensures if1.false (sym if2.false ∙ contains.ensures) _ insert.ensures _ via.ensures
             meet.ensures.plan_does _ _ _ meet.ensures.value c.first_traded.ensures;
-      },
-      link-open entry.args.hand.side entry.args.hand.g entry.args.r entry.args.k _ entry.args.hand.z _ _ _ _ _ entry.requires.0.seeking hk entry.requires.0.row ha _ _ queue-at.ensures places-at.ensures if1.false (sym if2.false ∙ contains.ensures) _ insert.ensures _ via.ensures
-          meet.ensures.plan_does entry.requires.1.0 _ meet.ensures.value _ _ refl _ c.delta_at.ensures _ c.settles.ensures,
-    ) in record { fact = whole.0; done_value = whole.1 }
+      }; done_value = link-open entry.args.hand.side entry.args.hand.g entry.args.r entry.args.k _ entry.args.hand.z _ _ _ _ _ entry.requires.searching.seeking hk entry.requires.searching.row ha _ _ queue-at.ensures places-at.ensures if1.false (sym if2.false ∙ contains.ensures) _ insert.ensures _ via.ensures
+          meet.ensures.plan_does entry.requires.unsettled _ meet.ensures.value _ _ refl _ c.delta_at.ensures _ c.settles.ensures }

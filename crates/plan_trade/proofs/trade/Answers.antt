@@ -3,10 +3,10 @@ use Rattle.plan_trade.proofs.Trades.{traded}
 use Rattle.plan_trade.proofs.trade.Goals as goal
 
 pub store-requires : goal.store-requires
-store-requires c = record { plan_fits = c.requires.plan_fits; row_lt_n = c.requires.g_lt_n.1 }
+store-requires c = record { plan_fits = c.requires.plan_fits; row_lt_n = c.requires.a_lt_n }
 
 pub store-requires-2 : goal.store-requires-2
-store-requires-2 c = record { plan_fits = c.store.ensures.fit; row_lt_n = c.requires.g_lt_n.0 }
+store-requires-2 c = record { plan_fits = c.store.ensures.fit; row_lt_n = c.requires.g_lt_n }
 
 pub returns : goal.returns
 returns c =

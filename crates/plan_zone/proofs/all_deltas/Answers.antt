@@ -16,37 +16,37 @@ abbrev step : Board → List Float → Float → ℕ → Plan → Plan
 step b gas average r t = store t r (record { delta = total b gas r -f average; amount = 0f; direction = 0; fast = 0 })
 
 pub overflow_cast-size : goal.overflow_cast-size
-overflow_cast-size c = omega (arith, c.requires.plan_fits.1.few, c.requires.plan_fits.0.turfs)
+overflow_cast-size c = omega (arith, c.requires.nodes.few, c.requires.plan_fits.turfs)
 
 pub loop-i-init : goal.loop-i-init
-loop-i-init c = ((omega arith, (refl, refl)), onto_start _ c.requires.plan_fits.0)
+loop-i-init c = ((omega arith, (refl, refl)), onto_start _ c.requires.plan_fits)
 
 pub overflow_add-row : goal.overflow_add-row
-overflow_add-row c = omega (arith, c.requires.plan_fits.1.room, c.loop-i.invariant.0, c.loop-i-test.true)
+overflow_add-row c = omega (arith, c.requires.nodes.room, c.loop-i.invariant.0, c.loop-i-test.true)
 
 pub offset_bounds-words-first : goal.offset_bounds-words-first
-offset_bounds-words-first c = omega (arith, c.requires.plan_fits.1.room, c.loop-i.invariant.0, c.loop-i-test.true)
+offset_bounds-words-first c = omega (arith, c.requires.nodes.room, c.loop-i.invariant.0, c.loop-i-test.true)
 
 pub bounds-words-first : goal.bounds-words-first
-bounds-words-first c = omega (arith, c.requires.plan_fits.1.room, c.loop-i.invariant.0, c.loop-i-test.true)
+bounds-words-first c = omega (arith, c.requires.nodes.room, c.loop-i.invariant.0, c.loop-i-test.true)
 
 pub overflow_cast-row : goal.overflow_cast-row
-overflow_cast-row c = omega (arith, now_below c.requires.plan_fits.1 (onto_frame c.loop-i.invariant.1) c.loop-i.invariant.0.1.0 _ c.loop-i-test.true, c.requires.plan_fits.0.turfs)
+overflow_cast-row c = omega (arith, now_below c.requires.nodes (onto_frame c.loop-i.invariant.1) c.loop-i.invariant.0.1.0 _ c.loop-i-test.true, c.requires.plan_fits.turfs)
 
 pub total-moles-requires : goal.total-moles-requires
 total-moles-requires c =
     let entry = c in
-    (rw entry.requires.fact.mixtures_n (now_below entry.requires.plan_fits.1 (onto_frame c.loop-i.invariant.1) c.loop-i.invariant.0.1.0 _ c.loop-i-test.true), entry.requires.fact.within _ (now_below entry.requires.plan_fits.1 (onto_frame c.loop-i.invariant.1) c.loop-i.invariant.0.1.0 _ c.loop-i-test.true))
+    (rw entry.requires.fact.mixtures_n (now_below entry.requires.nodes (onto_frame c.loop-i.invariant.1) c.loop-i.invariant.0.1.0 _ c.loop-i-test.true), entry.requires.fact.within _ (now_below entry.requires.nodes (onto_frame c.loop-i.invariant.1) c.loop-i.invariant.0.1.0 _ c.loop-i-test.true))
 
 pub first_delta-requires : goal.first_delta-requires
 first_delta-requires c =
-    let loop = c.loop-i in record { plan_fits = loop.invariant.1.fit; row_lt_n = (now_below c.requires.plan_fits.1 (onto_frame loop.invariant.1)
-          loop.invariant.0.1.0 _ c.loop-i-test.true, ) }
+    let loop = c.loop-i in record { plan_fits = loop.invariant.1.fit; row_lt_n = now_below c.requires.nodes (onto_frame loop.invariant.1)
+          loop.invariant.0.1.0 _ c.loop-i-test.true }
 
 pub overflow_add-i : goal.overflow_add-i
 overflow_add-i c =
     let entry = c in
-    omega (arith, c.loop-i-test.true, entry.requires.plan_fits.1.few, entry.requires.plan_fits.0.turfs)
+    omega (arith, c.loop-i-test.true, entry.requires.nodes.few, entry.requires.plan_fits.turfs)
 
 pub loop-i-smaller : goal.loop-i-smaller
 loop-i-smaller c = omega (arith, c.loop-i-test.true)
@@ -60,7 +60,7 @@ loop-i-preserved c =
       (omega (arith, loop-test.true), (first-delta.auto.1.1.1.1.0 ∙ loop.invariant.0.1.0, first-delta.auto.1.1.1.1.1.0 ∙ loop.invariant.0.1.1)),
       onto_next _ _ loop.invariant.1 (delta-set _ _ _ (c.total-moles.ensures (board_of entry.args.rows.now entry.args.marks.now
           entry.args.gases) refl refl) first-delta.ensures)
-          (λ o p. walk-next entry.requires.plan_fits.1 (onto_frame loop.invariant.1) loop.invariant.0.1.0 _ loop-test.true (step (board_of entry.args.rows.now entry.args.marks.now
+          (λ o p. walk-next entry.requires.nodes (onto_frame loop.invariant.1) loop.invariant.0.1.0 _ loop-test.true (step (board_of entry.args.rows.now entry.args.marks.now
           entry.args.gases) _ _) p),
     )
 
@@ -71,4 +71,4 @@ pub shape_of-floats : goal.shape_of-floats
 shape_of-floats c = c.loop-i.invariant.0.1.1
 
 pub returns : goal.returns
-returns c = unfold deltas in onto_end c.loop-i.invariant.1 (λ o p. walk_end c.requires.plan_fits.1 (onto_frame c.loop-i.invariant.1) c.loop-i.invariant.0.1.0 _ c.loop-i-test.false _ p)
+returns c = unfold deltas in onto_end c.loop-i.invariant.1 (λ o p. walk_end c.requires.nodes (onto_frame c.loop-i.invariant.1) c.loop-i.invariant.0.1.0 _ c.loop-i-test.false _ p)

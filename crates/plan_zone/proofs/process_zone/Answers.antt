@@ -9,26 +9,26 @@ pub fast_pass-requires : goal.fast_pass-requires
 fast_pass-requires c =
     let deltas = c.all_deltas in
     let entry = c in record { planning = record {
-        sized = entry.requires.planning.0.sized;
+        sized = entry.requires.planning.sized;
         fit = deltas.ensures.fit;
-        zone = entry.requires.planning.0.zone;
-        reverses = reverses-kept entry.requires.planning.0.reverses (does-frame deltas.ensures);
-      }; nodes = (nodes-kept entry.requires.planning.1 (does-frame deltas.ensures) deltas.auto.1.1.1.1.1.0, ) }
+        zone = entry.requires.planning.zone;
+        reverses = reverses-kept entry.requires.planning.reverses (does-frame deltas.ensures);
+      }; nodes = nodes-kept entry.requires.nodes (does-frame deltas.ensures) deltas.auto.1.1.1.1.1.0 }
 
 pub share_out-requires : goal.share_out-requires
 share_out-requires c =
     let entry = c in
     let all-deltas = c.all_deltas in
     let fast-pass = c.fast_pass in record { planning = record {
-        sized = entry.requires.planning.0.sized;
+        sized = entry.requires.planning.sized;
         fit = fast-pass.ensures.fit;
-        zone = entry.requires.planning.0.zone;
-        reverses = reverses-kept (reverses-kept entry.requires.planning.0.reverses (does-frame all-deltas.ensures)) (does-frame fast-pass.ensures);
-      }; nodes = (nodes-kept (nodes-kept entry.requires.planning.1 (does-frame all-deltas.ensures) all-deltas.auto.1.1.1.1.1.0) (does-frame fast-pass.ensures) fast-pass.auto.1.1.1.1.0, ) }
+        zone = entry.requires.planning.zone;
+        reverses = reverses-kept (reverses-kept entry.requires.planning.reverses (does-frame all-deltas.ensures)) (does-frame fast-pass.ensures);
+      }; nodes = nodes-kept (nodes-kept entry.requires.nodes (does-frame all-deltas.ensures) all-deltas.auto.1.1.1.1.1.0) (does-frame fast-pass.ensures) fast-pass.auto.1.1.1.1.0 }
 
 pub returns : goal.returns
 returns c =
     let entry = c in
-    processed (board_of entry.args.rows.now entry.args.marks.now entry.args.gases) _ _ entry.args.zone.first entry.args.zone.count _ _ _ entry.requires.planning.1
+    processed (board_of entry.args.rows.now entry.args.marks.now entry.args.gases) _ _ entry.args.zone.first entry.args.zone.count _ _ _ entry.requires.nodes
     c.all_deltas.ensures
     c.fast_pass.ensures c.share_out.ensures

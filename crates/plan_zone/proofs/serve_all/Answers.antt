@@ -15,18 +15,18 @@ pub loop-i-init : goal.loop-i-init
 loop-i-init c = ((omega arith, (refl, refl)), along-start _ c.requires.planning.fit)
 
 pub overflow_add-g : goal.overflow_add-g
-overflow_add-g c = omega (arith, c.requires.listed_le_n.0, c.loop-i.invariant.1.fit.words, c.loop-i.invariant.0, c.loop-i-test.true, c.list_at-list.ensures)
+overflow_add-g c = omega (arith, c.requires.listed_le_n, c.loop-i.invariant.1.fit.words, c.loop-i.invariant.0, c.loop-i-test.true, c.list_at-list.ensures)
 
 pub offset_bounds-words-list : goal.offset_bounds-words-list
-offset_bounds-words-list c = omega (arith, c.requires.listed_le_n.0, c.loop-i.invariant.1.fit.words, c.loop-i.invariant.0, c.loop-i-test.true, c.list_at-list.ensures)
+offset_bounds-words-list c = omega (arith, c.requires.listed_le_n, c.loop-i.invariant.1.fit.words, c.loop-i.invariant.0, c.loop-i-test.true, c.list_at-list.ensures)
 
 pub bounds-words-list : goal.bounds-words-list
-bounds-words-list c = omega (arith, c.requires.listed_le_n.0, c.loop-i.invariant.1.fit.words, c.loop-i.invariant.0, c.loop-i-test.true, c.list_at-list.ensures)
+bounds-words-list c = omega (arith, c.requires.listed_le_n, c.loop-i.invariant.1.fit.words, c.loop-i.invariant.0, c.loop-i-test.true, c.list_at-list.ensures)
 
 pub overflow_cast-g : goal.overflow_cast-g
 overflow_cast-g c =
     let entry = c in
-    omega (arith, list-below entry.requires.listed_le_n.0 entry.requires.listed_le_n.1 c.loop-i.invariant.1 _ c.list_at-list.ensures _ c.loop-i-test.true, entry.requires.planning.fit.turfs)
+    omega (arith, list-below entry.requires.listed_le_n entry.requires.below c.loop-i.invariant.1 _ c.list_at-list.ensures _ c.loop-i-test.true, entry.requires.planning.fit.turfs)
 
 pub serve-requires : goal.serve-requires
 serve-requires c =
@@ -35,10 +35,10 @@ serve-requires c =
         fit = c.loop-i.invariant.1.fit;
         zone = entry.requires.planning.zone;
         reverses = reverses-kept entry.requires.planning.reverses c.loop-i.invariant.1.frame;
-      }; g_lt_n = (list-below entry.requires.listed_le_n.0 entry.requires.listed_le_n.1 c.loop-i.invariant.1 _ c.list_at-list.ensures _ c.loop-i-test.true, ) }
+      }; g_lt_n = list-below entry.requires.listed_le_n entry.requires.below c.loop-i.invariant.1 _ c.list_at-list.ensures _ c.loop-i-test.true }
 
 pub overflow_add-i : goal.overflow_add-i
-overflow_add-i c = omega (arith, c.loop-i-test.true, c.requires.listed_le_n.0, c.requires.planning.fit.turfs)
+overflow_add-i c = omega (arith, c.loop-i-test.true, c.requires.listed_le_n, c.requires.planning.fit.turfs)
 
 pub loop-i-smaller : goal.loop-i-smaller
 loop-i-smaller c = omega (arith, c.loop-i-test.true)
@@ -50,7 +50,7 @@ loop-i-preserved c =
     let loop-test = c.loop-i-test in
     let serve' = c.serve in (
       (omega (arith, loop-test.true), (serve'.auto.1.1.1.1.0 ∙ loop.invariant.0.1.0, serve'.auto.1.1.1.1.1.0 ∙ loop.invariant.0.1.1)),
-      along-next _ _ loop.invariant.1 serve'.ensures (λ o p. list-next entry.requires.listed_le_n.0 entry.requires.listed_le_n.1 loop.invariant.1 _ c.list_at-list.ensures
+      along-next _ _ loop.invariant.1 serve'.ensures (λ o p. list-next entry.requires.listed_le_n entry.requires.below loop.invariant.1 _ c.list_at-list.ensures
           _ loop-test.true _ p),
     )
 
@@ -61,4 +61,4 @@ pub shape_of-floats : goal.shape_of-floats
 shape_of-floats c = c.loop-i.invariant.0.1.1
 
 pub returns : goal.returns
-returns c = along-end c.loop-i.invariant.1 (λ o p. list-end c.requires.listed_le_n.0 c.requires.listed_le_n.1 c.loop-i.invariant.1 _ c.list_at-list.ensures _ c.loop-i-test.false _ p)
+returns c = along-end c.loop-i.invariant.1 (λ o p. list-end c.requires.listed_le_n c.requires.below c.loop-i.invariant.1 _ c.list_at-list.ensures _ c.loop-i-test.false _ p)

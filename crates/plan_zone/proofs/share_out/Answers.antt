@@ -16,7 +16,7 @@ serve_all-requires c =
         fit = gather.ensures.fit;
         zone = entry.requires.planning.zone;
         reverses = reverses-kept entry.requires.planning.reverses gather.ensures.frame;
-      }; listed_le_n = (gather.ensures.few, chosen-below _ _ entry.requires.nodes gather.ensures); below =  }
+      }; listed_le_n = gather.ensures.few; below = chosen-below _ _ entry.requires.nodes gather.ensures }
 
 pub returns : goal.returns
 returns c =

@@ -6,22 +6,22 @@ use Rattle.reverse_links.proofs.Pairs.{paired_upto}
 use Rattle.reverse_links.proofs.pair_row.Goals as goal
 
 pub offset_bounds-starts-r : goal.offset_bounds-starts-r
-offset_bounds-starts-r c = omega (arith, c.requires.r_lt_n.0, c.requires.pairing)
+offset_bounds-starts-r c = omega (arith, c.requires.r_lt_n, c.requires.pairing)
 
 pub bounds-starts-r : goal.bounds-starts-r
-bounds-starts-r c = omega (arith, c.requires.r_lt_n.0, c.requires.pairing.linked.starts_n)
+bounds-starts-r c = omega (arith, c.requires.r_lt_n, c.requires.pairing.linked.starts_n)
 
 pub overflow_cast-from : goal.overflow_cast-from
-overflow_cast-from c = omega (arith, c.requires.pairing.linked.rise _ c.requires.r_lt_n.0, c.requires.pairing.linked.within _ c.requires.r_lt_n.0, c.requires.pairing)
+overflow_cast-from c = omega (arith, c.requires.pairing.linked.rise _ c.requires.r_lt_n, c.requires.pairing.linked.within _ c.requires.r_lt_n, c.requires.pairing)
 
 pub overflow_add-to : goal.overflow_add-to
-overflow_add-to c = omega (arith, c.requires.r_lt_n.0, c.requires.pairing)
+overflow_add-to c = omega (arith, c.requires.r_lt_n, c.requires.pairing)
 
 pub offset_bounds-starts-r-2 : goal.offset_bounds-starts-r-2
-offset_bounds-starts-r-2 c = omega (arith, c.requires.r_lt_n.0, c.requires.pairing)
+offset_bounds-starts-r-2 c = omega (arith, c.requires.r_lt_n, c.requires.pairing)
 
 pub bounds-starts-r-2 : goal.bounds-starts-r-2
-bounds-starts-r-2 c = omega (arith, c.requires.r_lt_n.0, c.requires.pairing.linked.starts_n)
+bounds-starts-r-2 c = omega (arith, c.requires.r_lt_n, c.requires.pairing.linked.starts_n)
 
 pub overflow_cast-to : goal.overflow_cast-to
 overflow_cast-to c =
@@ -34,14 +34,14 @@ loop-k-init c =
     ((omega arith, pre.0.linked.rise _ pre.1.0), (but_none, pre.1.1))
 
 pub overflow_cast-r : goal.overflow_cast-r
-overflow_cast-r c = omega (arith, c.requires.r_lt_n.0, c.requires.pairing)
+overflow_cast-r c = omega (arith, c.requires.r_lt_n, c.requires.pairing)
 
 pub overflow_sub-to : goal.overflow_sub-to
-overflow_sub-to c = c.requires.pairing.linked.rise _ c.requires.r_lt_n.0
+overflow_sub-to c = c.requires.pairing.linked.rise _ c.requires.r_lt_n
 
 pub pair-requires : goal.pair-requires
 pair-requires c =
-    let entry = c in record { pairing = record { linked = entry.requires.pairing.linked; all = entry.requires.pairing.all; links = entry.requires.pairing.links; turfs = entry.requires.pairing.turfs; room = omega (arith, entry.requires.pairing, c.loop-k.invariant.1.0.len) }; of_row = (record { row = entry.requires.r_lt_n.0; link = record { from = c.loop-k.invariant.0.0; to = c.loop-k-test.true }; links = refl }, c.loop-k.invariant.1.1); paired =  }
+    let entry = c in record { pairing = record { linked = entry.requires.pairing.linked; all = entry.requires.pairing.all; links = entry.requires.pairing.links; turfs = entry.requires.pairing.turfs; room = omega (arith, entry.requires.pairing, c.loop-k.invariant.1.0.len) }; of_row = record { row = entry.requires.r_lt_n; link = record { from = c.loop-k.invariant.0.0; to = c.loop-k-test.true }; links = refl }; paired = c.loop-k.invariant.1.1 }
 
 pub overflow_add-k : goal.overflow_add-k
 overflow_add-k c =

@@ -10,7 +10,7 @@ loop-r-init c = (omega arith, (but_none, paired_upto (sym c.requires.pairing.lin
 
 pub pair_row-requires : goal.pair_row-requires
 pair_row-requires c =
-    let entry = c in record { pairing = record { linked = entry.requires.pairing.linked; all = entry.requires.pairing.all; links = entry.requires.pairing.links; turfs = entry.requires.pairing.turfs; room = omega (arith, entry.requires.pairing, c.loop-r.invariant.1.0.len) }; r_lt_n = (c.loop-r-test.true, c.loop-r.invariant.1.1); paired =  }
+    let entry = c in record { pairing = record { linked = entry.requires.pairing.linked; all = entry.requires.pairing.all; links = entry.requires.pairing.links; turfs = entry.requires.pairing.turfs; room = omega (arith, entry.requires.pairing, c.loop-r.invariant.1.0.len) }; r_lt_n = c.loop-r-test.true; paired = c.loop-r.invariant.1.1 }
 
 pub overflow_add-r : goal.overflow_add-r
 overflow_add-r c = omega (arith, c.loop-r-test.true, c.requires.pairing)

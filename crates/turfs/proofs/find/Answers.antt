@@ -4,10 +4,10 @@ use Rattle.turfs.proofs.Lookup.{row-in, find_end, find_other, find_at}
 use Rattle.turfs.proofs.find.Goals as goal
 
 pub returns-then-row-ids : goal.returns-then-row-ids
-returns-then-row-ids c = row-in b c.args.id _ _ (find_end _ _ c.requires _ c.lower_bound-row.ensures c.if-row-ids.true) e
+returns-then-row-ids c b e = row-in b c.args.id _ _ (find_end _ _ c.requires _ c.lower_bound-row.ensures c.if-row-ids.true) e
 
 pub returns-then-ids-row : goal.returns-then-ids-row
-returns-then-ids-row c = row-in b c.args.id _ _ (find_other _ _ c.requires _ c.lower_bound-row.ensures (omega arith) c.if-ids-row.true) e
+returns-then-ids-row c b e = row-in b c.args.id _ _ (find_other _ _ c.requires _ c.lower_bound-row.ensures (omega arith) c.if-ids-row.true) e
 
 pub returns : goal.returns
-returns c = row-in b c.args.id _ _ (find_at _ _ c.requires _ c.lower_bound-row.ensures (omega arith) c.if-ids-row.false) e
+returns c b e = row-in b c.args.id _ _ (find_at _ _ c.requires _ c.lower_bound-row.ensures (omega arith) c.if-ids-row.false) e

@@ -10,7 +10,7 @@ use Rattle.walk_back.proofs.Ways.{kept-words, kept-floats, kept-gas, kept-area, 
 use Rattle.walk_back.proofs.back_all.Goals as goal
 
 pub loop-t-init : goal.loop-t-init
-loop-t-init c = c.requires in going_start (backing _) p.fit (written-room _ _ p.fit) (λ v. refl)
+loop-t-init c = let p = c.requires in going_start (backing _) p.fit (written-room _ _ p.fit) (λ v. refl)
 
 pub back-t-requires : goal.back-t-requires
 back-t-requires c = record { fact = record { ground = c.requires.ground; fit = c.loop-t.invariant.fit }; left_nonzero = c.loop-t-test.true }

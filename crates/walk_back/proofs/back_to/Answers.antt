@@ -15,13 +15,13 @@ pub ways_at-requires : goal.ways_at-requires
 ways_at-requires c = c.requires.fit.small
 
 pub overflow_add-last : goal.overflow_add-last
-overflow_add-last c = c.requires in omega (arith, c.ways_at.ensures, p.fit.small, p.to)
+overflow_add-last c = let p = c.requires in omega (arith, c.ways_at.ensures, p.fit.small, p.to)
 
 pub offset_bounds-words-ways_at : goal.offset_bounds-words-ways_at
-offset_bounds-words-ways_at c = c.requires in omega (arith, c.ways_at.ensures, p.fit.small, p.to)
+offset_bounds-words-ways_at c = let p = c.requires in omega (arith, c.ways_at.ensures, p.fit.small, p.to)
 
 pub bounds-words-ways_at : goal.bounds-words-ways_at
-bounds-words-ways_at c = c.requires in omega (arith, c.ways_at.ensures, p.fit.words, p.to)
+bounds-words-ways_at c = let p = c.requires in omega (arith, c.ways_at.ensures, p.fit.words, p.to)
 
 pub tell-used-requires : goal.tell-used-requires
 tell-used-requires c =
@@ -33,13 +33,13 @@ pub sums_at-requires : goal.sums_at-requires
 sums_at-requires c = c.requires.fit.small
 
 pub overflow_add-floats : goal.overflow_add-floats
-overflow_add-floats c = c.requires in omega (arith, c.sums_at.ensures, p.fit.small, p.room)
+overflow_add-floats c = let p = c.requires in omega (arith, c.sums_at.ensures, p.fit.small, p.room)
 
 pub offset_bounds-floats-sums_at : goal.offset_bounds-floats-sums_at
-offset_bounds-floats-sums_at c = c.requires in omega (arith, c.sums_at.ensures, p.fit.small, p.room)
+offset_bounds-floats-sums_at c = let p = c.requires in omega (arith, c.sums_at.ensures, p.fit.small, p.room)
 
 pub bounds-floats-sums_at : goal.bounds-floats-sums_at
-bounds-floats-sums_at c = c.requires in omega (arith, c.sums_at.ensures, p.fit.floats, p.room, c.floats-1.given)
+bounds-floats-sums_at c = let p = c.requires in omega (arith, c.sums_at.ensures, p.fit.floats, p.room, c.floats-1.given)
 
 pub returns : goal.returns
 returns c =

@@ -7,10 +7,10 @@ pub sums_at-requires : goal.sums_at-requires
 sums_at-requires c = c.requires.small
 
 pub overflow_add-amount : goal.overflow_add-amount
-overflow_add-amount c = c.requires in omega (arith, c.sums_at.ensures, p.small, p.words, p.floats)
+overflow_add-amount c = let p = c.requires in omega (arith, c.sums_at.ensures, p.small, p.words, p.floats)
 
 pub append-requires : goal.append-requires
-append-requires c = c.requires in (rw c.sums_at.ensures p.sum, p.room)
+append-requires c = let p = c.requires in (rw c.sums_at.ensures p.sum, p.room)
 
 pub returns : goal.returns
-returns c = c.args in rip_told a.ids.now a.words.now a.floats.now a.j _ c.sums_at.ensures c.append.ensures.wrote
+returns c = let a = c.args in rip_told a.ids.now a.words.now a.floats.now a.j _ c.sums_at.ensures c.append.ensures.wrote

@@ -7,7 +7,7 @@ use Rattle.turfs.specs.Tables.{board_at}
 use Rattle.walk_back.proofs.settle.Goals as goal
 
 pub overflow_cast-mixtures : goal.overflow_cast-mixtures
-overflow_cast-mixtures c = c.requires in omega (arith, p.ground.mixture _ p.from, p.ground.small.mixtures)
+overflow_cast-mixtures c = let p = c.requires in omega (arith, p.ground.mixture _ p.from, p.ground.small.mixtures)
 
 pub clear_air-requires : goal.clear_air-requires
 clear_air-requires c =
@@ -21,10 +21,10 @@ total-sum-requires c =
     (rw p.ground.mixtures p.to, rw c.gas-1.given (holds_of c.args.gas.now _ _ _ p.count (p.ground.mixture _ p.to)))
 
 pub bounds-floats-d : goal.bounds-floats-d
-bounds-floats-d c = c.requires in simp length-set (omega (arith, p.to, p.floats))
+bounds-floats-d c = let p = c.requires in simp length-set (omega (arith, p.to, p.floats))
 
 pub bounds-floats-d-2 : goal.bounds-floats-d-2
-bounds-floats-d-2 c = c.requires in simp length-set (omega (arith, p.to, p.floats))
+bounds-floats-d-2 c = let p = c.requires in simp length-set (omega (arith, p.to, p.floats))
 
 pub returns : goal.returns
 returns c =

@@ -4,16 +4,16 @@ use Rattle.walk_first.proofs.Visits.{marked-fit, planet-still, planet-on}
 use Rattle.walk_first.proofs.visit_planet.Goals as goal
 
 pub met-planet-requires : goal.met-planet-requires
-met-planet-requires c = c.requires in rw p.ground.planetary p.inside
+met-planet-requires c = let p = c.requires in rw p.ground.planetary p.inside
 
 pub is_immutable-requires : goal.is_immutable-requires
-is_immutable-requires c = c.requires in (rw p.ground.mixtures p.inside, p.ground.mixture _ p.inside)
+is_immutable-requires c = let p = c.requires in (rw p.ground.mixtures p.inside, p.ground.mixture _ p.inside)
 
 pub returns-then-is_immutable : goal.returns-then-is_immutable
 returns-then-is_immutable c = planet-still _ _ _ _ _ _ _ c.requires.fit _ (c.met.ensures _ refl) _ (sym c.if-is_immutable.true ∙ c.is_immutable.ensures _ refl refl) c.mark.ensures
 
 pub spread-requires : goal.spread-requires
-spread-requires c = c.requires in record { ground = p.ground; fit = marked-fit _ _ _ _ p.fit _ _ _ c.mark-t.ensures; inside = p.inside }
+spread-requires c = let p = c.requires in record { ground = p.ground; fit = marked-fit _ _ _ _ p.fit _ _ _ c.mark-t.ensures; inside = p.inside }
 
 pub returns : goal.returns
 returns c =

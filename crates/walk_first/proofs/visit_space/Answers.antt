@@ -7,7 +7,7 @@ pub returns-then-planetary-r-ne0 : goal.returns-then-planetary-r-ne0
 returns-then-planetary-r-ne0 c = space-planet _ _ _ _ _ _ _ c.requires.fact.fit (is_planetary _ _ c.if-planetary-r-ne0.true) _ c.mark.ensures
 
 pub is_immutable-requires : goal.is_immutable-requires
-is_immutable-requires c = c.requires.fact in (rw p.ground.mixtures p.inside, p.ground.mixture _ p.inside)
+is_immutable-requires c = let p = c.requires.fact in (rw p.ground.mixtures p.inside, p.ground.mixture _ p.inside)
 
 pub at_space-requires : goal.at_space-requires
 at_space-requires c = let whole = c.requires in record { fact = whole.0; fact_2 = whole.1 }

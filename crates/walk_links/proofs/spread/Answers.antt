@@ -21,7 +21,7 @@ returns-then-s-limit c =
     (λ es. spread-late _ _ _ _ (sym (not-false _ c.if-not-enabled.false-raw) ∙ c.enabled.ensures) (rw (walked-is _ _ es) c.if-s-limit.true))
 
 pub links_of-links-requires : goal.links_of-links-requires
-links_of-links-requires c = c.requires in omega (arith, p.inside, p.ground.parts.count)
+links_of-links-requires c = let p = c.requires in omega (arith, p.inside, p.ground.parts.count)
 
 pub offset_bounds-neighbours-from : goal.offset_bounds-neighbours-from
 offset_bounds-neighbours-from c =

@@ -16,7 +16,7 @@ contains-requires c =
     (rw c.spots_at-spots.ensures (record { room = (omega (arith, p.0.fit.words), omega (arith, p.0.fit.words)); line = p.0.fit.line }), leads-below p.0.ground p.1)
 
 pub returns-then-contains : goal.returns-then-contains
-returns-then-contains c = c.requires in link-old _ _ _ _ p.1 _ _ _ p.0.fit (sym c.if-contains.true ∙ c.contains.ensures)
+returns-then-contains c = let p = c.requires in link-old _ _ _ _ p.1 _ _ _ p.0.fit (sym c.if-contains.true ∙ c.contains.ensures)
 
 pub insert-requires : goal.insert-requires
 insert-requires c =
@@ -42,7 +42,7 @@ returns-then-not-firelock c =
     (sym (not-true _ c.if-not-firelock.true-raw) ∙ c.firelock.ensures) _ _ c.joined.ensures (rw c.spots_at-spots.ensures at c.insert.ensures)
 
 pub bounds-ids-a : goal.bounds-ids-a
-bounds-ids-a c = c.requires in leads-below p.0.ground p.1
+bounds-ids-a c = let p = c.requires in leads-below p.0.ground p.1
 
 pub append-requires : goal.append-requires
 append-requires c =

@@ -13,7 +13,7 @@ loop-i-init c =
     going_start (walking _) p.0.fit (written-room _ _ p.0.fit) (λ v. near-run _ _ _ _ p.0.ground p.0.inside p.1 _ v)
 
 pub overflow_add-from : goal.overflow_add-from
-overflow_add-from c = c.requires in omega (arith, near-inside p.0.ground.parts p.0.inside p.1, p.0.ground.small.links, c.loop-i-test.true)
+overflow_add-from c = let p = c.requires in omega (arith, near-inside p.0.ground.parts p.0.inside p.1, p.0.ground.small.links, c.loop-i-test.true)
 
 pub walk_link-t-requires : goal.walk_link-t-requires
 walk_link-t-requires c =

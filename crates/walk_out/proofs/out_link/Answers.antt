@@ -6,7 +6,7 @@ use Rattle.walk_out.proofs.Joins.{order-set, order-member, link-immutable, link-
 use Rattle.walk_out.proofs.out_link.Goals as goal
 
 pub is_immutable-requires : goal.is_immutable-requires
-is_immutable-requires c = c.requires in (rw p.0.ground.mixtures p.1, p.0.ground.mixture _ p.1)
+is_immutable-requires c = let p = c.requires in (rw p.0.ground.mixtures p.1, p.0.ground.mixture _ p.1)
 
 pub returns-then-is_immutable : goal.returns-then-is_immutable
 returns-then-is_immutable c = λ k q. link-immutable _ _ k _ q _ _ _ c.requires.fact.fit (sym c.if-is_immutable.true ∙ c.is_immutable.ensures _ refl refl)
@@ -18,7 +18,7 @@ pub spots_at-spots-requires : goal.spots_at-spots-requires
 spots_at-spots-requires c = c.requires.fact.fit.small
 
 pub contains-requires : goal.contains-requires
-contains-requires c = c.requires in (order-set _ _ _ _ p.0.fit _ _ c.order_at-order.ensures c.spots_at-spots.ensures, p.1)
+contains-requires c = let p = c.requires in (order-set _ _ _ _ p.0.fit _ _ c.order_at-order.ensures c.spots_at-spots.ensures, p.1)
 
 pub returns-then-contains : goal.returns-then-contains
 returns-then-contains c =

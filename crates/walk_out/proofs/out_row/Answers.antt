@@ -9,16 +9,16 @@ pub order_at-requires : goal.order_at-requires
 order_at-requires c = c.requires.fact.fit.small
 
 pub overflow_add-row : goal.overflow_add-row
-overflow_add-row c = c.requires in omega (arith, c.order_at.ensures, p.0.fit.small, p.1, p.0.fit.line.few)
+overflow_add-row c = let p = c.requires in omega (arith, c.order_at.ensures, p.0.fit.small, p.1, p.0.fit.line.few)
 
 pub offset_bounds-words-order_at : goal.offset_bounds-words-order_at
-offset_bounds-words-order_at c = c.requires in omega (arith, c.order_at.ensures, p.0.fit.small, p.1, p.0.fit.line.few)
+offset_bounds-words-order_at c = let p = c.requires in omega (arith, c.order_at.ensures, p.0.fit.small, p.1, p.0.fit.line.few)
 
 pub bounds-words-order_at : goal.bounds-words-order_at
-bounds-words-order_at c = c.requires in omega (arith, c.order_at.ensures, p.0.fit.words, p.1, p.0.fit.line.few)
+bounds-words-order_at c = let p = c.requires in omega (arith, c.order_at.ensures, p.0.fit.words, p.1, p.0.fit.line.few)
 
 pub returns-then-t-limit : goal.returns-then-t-limit
-returns-then-t-limit c = c.requires in row-late _ _ _ _ p.0.fit p.1 _ c.order_at.ensures _ _ c.if-t-limit.true
+returns-then-t-limit c = let p = c.requires in row-late _ _ _ _ p.0.fit p.1 _ c.order_at.ensures _ _ c.if-t-limit.true
 
 pub overflow_cast-row : goal.overflow_cast-row
 overflow_cast-row c =

@@ -23,31 +23,31 @@ insert-requires c =
     let less = count_less _ _ _ _ _ _ p in record { count_in_bounds = omega (arith, less, p.fit.words, c.order_at-order.ensures); a_in_bounds = omega (arith, p.fit.words, p.inside, c.spots_at-spots.ensures); count_bound = omega (arith, less, p.fit.small) }
 
 pub overflow_add-words-2 : goal.overflow_add-words-2
-overflow_add-words-2 c = c.requires in omega (arith, c.ways_at-ways.ensures, p.fit.small, p.inside)
+overflow_add-words-2 c = let p = c.requires in omega (arith, c.ways_at-ways.ensures, p.fit.small, p.inside)
 
 pub offset_bounds-words-ways : goal.offset_bounds-words-ways
-offset_bounds-words-ways c = c.requires in omega (arith, c.ways_at-ways.ensures, p.fit.small, p.inside)
+offset_bounds-words-ways c = let p = c.requires in omega (arith, c.ways_at-ways.ensures, p.fit.small, p.inside)
 
 pub bounds-words-ways : goal.bounds-words-ways
-bounds-words-ways c = c.requires in omega (arith, c.ways_at-ways.ensures, p.fit.words, p.inside, c.words-1.given)
+bounds-words-ways c = let p = c.requires in omega (arith, c.ways_at-ways.ensures, p.fit.words, p.inside, c.words-1.given)
 
 pub overflow_add-target : goal.overflow_add-target
-overflow_add-target c = c.requires in omega (arith, c.targets_at-targets.ensures, p.fit.small, p.from)
+overflow_add-target c = let p = c.requires in omega (arith, c.targets_at-targets.ensures, p.fit.small, p.from)
 
 pub offset_bounds-words-targets : goal.offset_bounds-words-targets
-offset_bounds-words-targets c = c.requires in omega (arith, c.targets_at-targets.ensures, p.fit.small, p.from)
+offset_bounds-words-targets c = let p = c.requires in omega (arith, c.targets_at-targets.ensures, p.fit.small, p.from)
 
 pub bounds-words-targets : goal.bounds-words-targets
-bounds-words-targets c = c.requires in simp length-set (omega (arith, p.fit.words, p.from, c.targets_at-targets.ensures, c.words-1.given))
+bounds-words-targets c = let p = c.requires in simp length-set (omega (arith, p.fit.words, p.from, c.targets_at-targets.ensures, c.words-1.given))
 
 pub overflow_add-words-3 : goal.overflow_add-words-3
-overflow_add-words-3 c = c.requires in omega (arith, c.targets_at-targets.ensures, p.fit.small, p.inside)
+overflow_add-words-3 c = let p = c.requires in omega (arith, c.targets_at-targets.ensures, p.fit.small, p.inside)
 
 pub offset_bounds-words-targets-2 : goal.offset_bounds-words-targets-2
-offset_bounds-words-targets-2 c = c.requires in omega (arith, c.targets_at-targets.ensures, p.fit.small, p.inside)
+offset_bounds-words-targets-2 c = let p = c.requires in omega (arith, c.targets_at-targets.ensures, p.fit.small, p.inside)
 
 pub bounds-words-targets-2 : goal.bounds-words-targets-2
-bounds-words-targets-2 c = c.requires in simp length-set (omega (arith, p.fit.words, p.inside, c.targets_at-targets.ensures, c.words-1.given))
+bounds-words-targets-2 c = let p = c.requires in simp length-set (omega (arith, p.fit.words, p.inside, c.targets_at-targets.ensures, c.words-1.given))
 
 pub append-used-requires : goal.append-used-requires
 append-used-requires c = (tt, target_room _ _ _ _ _ _ c.requires)

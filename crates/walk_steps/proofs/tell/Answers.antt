@@ -5,7 +5,7 @@ use borrow.Author.Rules.{rules}
 use Rattle.walk_steps.proofs.tell.Goals as goal
 
 pub append-at-requires : goal.append-at-requires
-append-at-requires c = c.args in (tt, high-room a.arrows a.id a.next a.mine a.theirs a.used a.events.now c.requires.room)
+append-at-requires c = let a = c.args in (tt, high-room a.arrows a.id a.next a.mine a.theirs a.used a.events.now c.requires.room)
 
 pub append-to-requires : goal.append-to-requires
 append-to-requires c =

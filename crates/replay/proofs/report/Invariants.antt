@@ -1,0 +1,9 @@
+-- What is left falls. Assumes nothing.
+use Prim.Native.Nat.{◌-◌}
+use Rattle.replay.proofs.report.Given as goal
+
+abbrev pub invariant-loop-k : goal.invariant-loop-k
+invariant-loop-k l = Unit {0}
+
+abbrev pub decreases-loop-k : goal.decreases-loop-k
+decreases-loop-k l = 39 - k
