@@ -11,7 +11,7 @@ loop-i-init c = (((omega arith, λ h. h), but_none), λ zs. going_start _ zs _ _
 pub offset_bounds-words-i : goal.offset_bounds-words-i
 offset_bounds-words-i c =
     let entry = c in
-    omega (arith, entry.requires, entry.requires.pass.room, c.loop-i-test.true, c.loop-i.invariant.0.1.len)
+    omega (arith, entry.requires, entry.requires.pass.room, c.loop-i-test.true, c.loop-i.invariant.0.1.len, entry.well_formed)
 
 pub bounds-words-i : goal.bounds-words-i
 bounds-words-i c = omega (arith, c.requires, c.requires.pass.room, c.loop-i-test.true, c.loop-i.invariant.0.1.len)

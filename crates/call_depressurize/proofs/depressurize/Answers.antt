@@ -44,4 +44,4 @@ returns c =
     let if1 = c.if-number-ne0 in
     let from-id = c.from_id-r in
     let clear = clear-scratch.ensures in
-    answered _ _ _ _ _ none.ensures refusal.ensures if1.false _ _ _ _ _ from-id.ensures _ _ clear.0 clear.1
+    answered _ _ _ _ _ none.ensures refusal.ensures if1.false _ _ _ _ _ from-id.ensures _ _ clear.words_after clear.floats_after

@@ -46,4 +46,4 @@ returns c =
     let if1 = c.if-number-ne0 in
     let walk = planet-events.ensures in
     let clear = clear-scratch.ensures in
-    answered _ _ _ _ _ _ none.ensures refusal.ensures if1.false _ _ walk.0 _ walk.1 _ _ clear.0 clear.1
+    answered _ _ _ _ _ _ none.ensures refusal.ensures if1.false _ _ walk.fact _ walk.words_after _ _ clear.words_after clear.floats_after

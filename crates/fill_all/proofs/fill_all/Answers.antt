@@ -7,16 +7,16 @@ use Rattle.fill_all.proofs.fill_all.Goals as goal
 
 pub begin-s-requires : goal.begin-s-requires
 begin-s-requires c =
-    let pre = c.requires in record { sizes = record { turfs = pre.0.turfs.1; links = pre.0.links }; e_in_bounds = pre.1.1.words }
+    let pre = c.requires in record { sizes = record { turfs = pre.accepted.turfs.1; links = pre.accepted.links }; e_in_bounds = pre.fill_fits.words }
 
 pub loop-i-init : goal.loop-i-init
 loop-i-init c =
     let entry = c.args in
     let p = c.requires in
     let by = c.begin-s in
-    let stored = begun-stored p.0 entry.words.now _ entry.floats.now entry.events.now p.1.1 by.auto.1.1.0 by.ensures.cleared _ by.ensures.value in
-    let none = begun p.0 entry.words.now _ entry.floats.now entry.events.now p.1.1 by.auto.1.1.0 by.ensures.cleared _ by.ensures.value in
-    (loop-start p.0 _ _ _ _ _ stored none, (refl, refl))
+    let stored = begun-stored p.accepted entry.words.now _ entry.floats.now entry.events.now p.fill_fits by.auto.1.1.0 by.ensures.cleared _ by.ensures.value in
+    let none = begun p.accepted entry.words.now _ entry.floats.now entry.events.now p.fill_fits by.auto.1.1.0 by.ensures.cleared _ by.ensures.value in
+    (loop-start p.accepted _ _ _ _ _ stored none, (refl, refl))
 
 pub shape_of-words-then-s : goal.shape_of-words-then-s
 shape_of-words-then-s c = c.loop-i.invariant.1.0 ∙ c.begin-s.auto.1.1.0
@@ -32,22 +32,22 @@ returns-then-s c =
     let entry = c.args in
     let p = c.requires in
     let by = c.begin-s in
-    let stored = begun-stored p.0 entry.words.now _ entry.floats.now entry.events.now p.1.1 by.auto.1.1.0 by.ensures.cleared _ by.ensures.value in
-    let none = begun p.0 entry.words.now _ entry.floats.now entry.events.now p.1.1 by.auto.1.1.0 by.ensures.cleared _ by.ensures.value in
-    all-filled p.0 entry.words.now _ entry.floats.now entry.events.now p.1.1 by.auto.1.1.0 by.ensures.cleared _ by.ensures.value _ _ _ _ _ (loop-over p.0 _ _ _ _ _ stored none c.loop-i.i c.loop-i.invariant.0 c.if-s.true)
+    let stored = begun-stored p.accepted entry.words.now _ entry.floats.now entry.events.now p.fill_fits by.auto.1.1.0 by.ensures.cleared _ by.ensures.value in
+    let none = begun p.accepted entry.words.now _ entry.floats.now entry.events.now p.fill_fits by.auto.1.1.0 by.ensures.cleared _ by.ensures.value in
+    all-filled p.accepted entry.words.now _ entry.floats.now entry.events.now p.fill_fits by.auto.1.1.0 by.ensures.cleared _ by.ensures.value _ _ _ _ _ (loop-over p.accepted _ _ _ _ _ stored none c.loop-i.i c.loop-i.invariant.0 c.if-s.true)
 
 pub hot_id-s-requires : goal.hot_id-s-requires
 hot_id-s-requires c =
     let entry = c.args in
     let p = c.requires in
     let by = c.begin-s in
-    let stored = begun-stored p.0 entry.words.now _ entry.floats.now entry.events.now p.1.1 by.auto.1.1.0 by.ensures.cleared _ by.ensures.value in
-    let none = begun p.0 entry.words.now _ entry.floats.now entry.events.now p.1.1 by.auto.1.1.0 by.ensures.cleared _ by.ensures.value in
+    let stored = begun-stored p.accepted entry.words.now _ entry.floats.now entry.events.now p.fill_fits by.auto.1.1.0 by.ensures.cleared _ by.ensures.value in
+    let none = begun p.accepted entry.words.now _ entry.floats.now entry.events.now p.fill_fits by.auto.1.1.0 by.ensures.cleared _ by.ensures.value in
     let head = c.loop-i in
-    let going = c.if-s.false in record { accepted = p.0; threshold_value = p.1.0; hot_fits = record { stored = head.invariant.0.stored; room = loop-open p.0 _ _ _ _ _ stored none head.i head.invariant.0 going; going = going } }
+    let going = c.if-s.false in record { accepted = p.accepted; threshold_value = p.threshold_value; hot_fits = record { stored = head.invariant.0.stored; room = loop-open p.accepted _ _ _ _ _ stored none head.i head.invariant.0 going; going = going } }
 
 pub overflow_add-i : goal.overflow_add-i
-overflow_add-i c = omega (arith, c.loop-i-test.true)
+overflow_add-i c = omega (arith, c.loop-i-test.true, c.well_formed)
 
 pub loop-i-smaller : goal.loop-i-smaller
 loop-i-smaller c = omega (arith, c.loop-i-test.true)
@@ -57,11 +57,11 @@ loop-i-preserved c =
     let entry = c.args in
     let p = c.requires in
     let by = c.begin-s in
-    let stored = begun-stored p.0 entry.words.now _ entry.floats.now entry.events.now p.1.1 by.auto.1.1.0 by.ensures.cleared _ by.ensures.value in
-    let none = begun p.0 entry.words.now _ entry.floats.now entry.events.now p.1.1 by.auto.1.1.0 by.ensures.cleared _ by.ensures.value in
+    let stored = begun-stored p.accepted entry.words.now _ entry.floats.now entry.events.now p.fill_fits by.auto.1.1.0 by.ensures.cleared _ by.ensures.value in
+    let none = begun p.accepted entry.words.now _ entry.floats.now entry.events.now p.fill_fits by.auto.1.1.0 by.ensures.cleared _ by.ensures.value in
     let head = c.loop-i in
     let by-hot-id = c.hot_id-s in (
-      loop-next p.0 _ _ _ _ _ stored none head.i head.invariant.0 c.loop-i-test.true (by-hot-id.ensures entry.hot.now),
+      loop-next p.accepted _ _ _ _ _ stored none head.i head.invariant.0 c.loop-i-test.true (by-hot-id.ensures entry.hot.now),
       (by-hot-id.auto.1.1.1.1.1.1.1.0 ∙ head.invariant.1.0, by-hot-id.auto.1.1.1.1.1.1.1.1.0 ∙ head.invariant.1.1),
     )
 
@@ -79,6 +79,6 @@ returns c =
     let entry = c.args in
     let p = c.requires in
     let by = c.begin-s in
-    let stored = begun-stored p.0 entry.words.now _ entry.floats.now entry.events.now p.1.1 by.auto.1.1.0 by.ensures.cleared _ by.ensures.value in
-    let none = begun p.0 entry.words.now _ entry.floats.now entry.events.now p.1.1 by.auto.1.1.0 by.ensures.cleared _ by.ensures.value in
-    all-filled p.0 entry.words.now _ entry.floats.now entry.events.now p.1.1 by.auto.1.1.0 by.ensures.cleared _ by.ensures.value _ _ _ _ _ (loop-end p.0 _ _ _ _ _ stored none c.loop-i.i c.loop-i.invariant.0 c.loop-i-test.false)
+    let stored = begun-stored p.accepted entry.words.now _ entry.floats.now entry.events.now p.fill_fits by.auto.1.1.0 by.ensures.cleared _ by.ensures.value in
+    let none = begun p.accepted entry.words.now _ entry.floats.now entry.events.now p.fill_fits by.auto.1.1.0 by.ensures.cleared _ by.ensures.value in
+    all-filled p.accepted entry.words.now _ entry.floats.now entry.events.now p.fill_fits by.auto.1.1.0 by.ensures.cleared _ by.ensures.value _ _ _ _ _ (loop-end p.accepted _ _ _ _ _ stored none c.loop-i.i c.loop-i.invariant.0 c.loop-i-test.false)

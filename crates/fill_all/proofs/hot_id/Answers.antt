@@ -21,7 +21,7 @@ returns-in_default c = λ hot.
     let p = c.requires in
     let b = board_at args.rows args.marks args.gases in
     let q = asked hot args.settings in
-    fills-unknown b _ q _ p.1.1.stored p.1.1.room (sym (c.find.ensures b refl) ∙ c.in_default.is)
+    fills-unknown b _ q _ p.hot_fits.stored p.hot_fits.room (sym (c.find.ensures b refl) ∙ c.in_default.is)
 
 pub passed_over-requires : goal.passed_over-requires
 passed_over-requires c =
@@ -30,7 +30,7 @@ passed_over-requires c =
     let b = board_at args.rows args.marks args.gases in
     let found = sym (c.find.ensures b refl) in
     let is_at = c.in-At.is in
-    let row = row-in p.0 _ _ found _ is_at in record { accepted = p.0; threshold_value = p.1.0; fact = record { sizes = p.1.1.stored.sizes; words = p.1.1.stored.words; row = row } }
+    let row = row-in p.accepted _ _ found _ is_at in record { accepted = p.accepted; threshold_value = p.threshold_value; fact = record { sizes = p.hot_fits.stored.sizes; words = p.hot_fits.stored.words; row = row } }
 
 pub returns-then-passed_over : goal.returns-then-passed_over
 returns-then-passed_over c = λ hot.
@@ -40,7 +40,7 @@ returns-then-passed_over c = λ hot.
     let q = asked hot args.settings in
     let found = sym (c.find.ensures b refl) in
     let is_at = c.in-At.is in
-    fills-id b _ q _ _ p.1.1.going (found ∙ is_at) (row-none q p.1.1.stored p.1.1.room _ _ (c.passed_over.ensures q refl) c.if-passed_over.true)
+    fills-id b _ q _ _ p.hot_fits.going (found ∙ is_at) (row-none q p.hot_fits.stored p.hot_fits.room _ _ (c.passed_over.ensures q refl) c.if-passed_over.true)
 
 pub overflow_cast-seed : goal.overflow_cast-seed
 overflow_cast-seed c =
@@ -49,8 +49,8 @@ overflow_cast-seed c =
     let b = board_at args.rows args.marks args.gases in
     let found = sym (c.find.ensures b refl) in
     let is_at = c.in-At.is in
-    let row = row-in p.0 _ _ found _ is_at in
-    omega (arith, row, p.0.turfs.1)
+    let row = row-in p.accepted _ _ found _ is_at in
+    omega (arith, row, p.accepted.turfs.1)
 
 pub overflow_cast-seed-2 : goal.overflow_cast-seed-2
 overflow_cast-seed-2 c = omega (arith, c.requires.hot_fits.stored.zones, c.requires.accepted.turfs.1)
@@ -63,10 +63,10 @@ flood_fill-t-requires c =
     let q = asked [] args.settings in
     let found = sym (c.find.ensures b refl) in
     let is_at = c.in-At.is in
-    let row = row-in p.0 _ _ found _ is_at in
+    let row = row-in p.accepted _ _ found _ is_at in
     let pass = c.passed_over.ensures q refl in
     let left = c.if-passed_over.false in
-    let new = is_new b args.gas.now q _ (found_in (turf_count b) (link_count b) args.words.now) pass left in record { accepted = p.0; zone_fits = fill-ready p.0 args.gas.now q _ p.1.1.stored p.1.1.room row new; tests_le_allowance = p.1.1.room.tests }
+    let new = is_new b args.gas.now q _ (found_in (turf_count b) (link_count b) args.words.now) pass left in record { accepted = p.accepted; zone_fits = fill-ready p.accepted args.gas.now q _ p.hot_fits.stored p.hot_fits.room row new; tests_le_allowance = p.hot_fits.room.tests }
 
 pub after_fill-requires : goal.after_fill-requires
 after_fill-requires c =
@@ -76,10 +76,10 @@ after_fill-requires c =
     let q = asked [] args.settings in
     let found = sym (c.find.ensures b refl) in
     let is_at = c.in-At.is in
-    let row = row-in p.0 _ _ found _ is_at in
+    let row = row-in p.accepted _ _ found _ is_at in
     let pass = c.passed_over.ensures q refl in
     let left = c.if-passed_over.false in
-    let new = is_new b args.gas.now q _ (found_in (turf_count b) (link_count b) args.words.now) pass left in let whole = after-asks p.0 args.gas.now q _ p.1.1.stored p.1.1.room row new c.flood_fill-t.ensures in record { keep_fits = whole.0; pushed_fits = whole.1.0; spans = whole.1.1 }
+    let new = is_new b args.gas.now q _ (found_in (turf_count b) (link_count b) args.words.now) pass left in let whole = after-asks p.accepted args.gas.now q _ p.hot_fits.stored p.hot_fits.room row new c.flood_fill-t.ensures in record { keep_fits = whole.0; pushed_fits = whole.1.0; spans = whole.1.1 }
 
 pub shape_of-words : goal.shape_of-words
 shape_of-words c = c.after_fill.auto.1.1.1.1.1.0 ∙ c.flood_fill-t.auto.1.1.1.1.1.1.0
@@ -98,9 +98,9 @@ returns c = λ hot.
     let q = asked hot args.settings in
     let found = sym (c.find.ensures b refl) in
     let is_at = c.in-At.is in
-    let row = row-in p.0 _ _ found _ is_at in
+    let row = row-in p.accepted _ _ found _ is_at in
     let pass = c.passed_over.ensures q refl in
     let left = c.if-passed_over.false in
     let new = is_new b args.gas.now q _ (found_in (turf_count b) (link_count b) args.words.now) pass left in
-    fills-id b _ q _ _ p.1.1.going (found ∙ is_at)
-    (after-fills p.0 args.gas.now q _ p.1.1.stored p.1.1.room row new pass left c.flood_fill-t.ensures c.after_fill.ensures)
+    fills-id b _ q _ _ p.hot_fits.going (found ∙ is_at)
+    (after-fills p.accepted args.gas.now q _ p.hot_fits.stored p.hot_fits.room row new pass left c.flood_fill-t.ensures c.after_fill.ensures)

@@ -10,11 +10,11 @@ bounds-flags-a c = rw c.requires.tables_fit.flags c.requires.row_bound
 pub is_immutable-requires : goal.is_immutable-requires
 is_immutable-requires c =
     let pre = c.requires in
-    (rw pre.0.mixtures pre.1.0, pre.0.mixed _ pre.1.0)
+    (rw pre.tables_fit.mixtures pre.row_bound, pre.tables_fit.mixed _ pre.row_bound)
 
 pub across_firelock-requires : goal.across_firelock-requires
 across_firelock-requires c =
-    let pre = c.requires in record { row_in_bounds = rw pre.0.planetary pre.1.0; k_in_bounds = rw pre.0.link_flags pre.1.1 }
+    let pre = c.requires in record { row_in_bounds = rw pre.tables_fit.planetary pre.row_bound; k_in_bounds = rw pre.tables_fit.link_flags pre.k_bound }
 
 pub returns : goal.returns
 unfolding enabled planetary firelock

@@ -14,33 +14,33 @@ bounds-ids-at c = c.requires.turf_fits.row
 pub loop-i-init : goal.loop-i-init
 loop-i-init c =
     let p = c.requires in
-    let to = near-to p.0.parts p.1.0.row p.1.1.0 in
-    (walked_start _ _ (add-zero _) p.1.1.1.fit p.1.1.1.bounds (omega arith) (λ j a l. p.1.0.free j (omega (arith, p.1.1.0.start)) (omega (arith, to))), refl)
+    let to = near-to p.tables_fit.parts p.turf_fits.row p.near in
+    (walked_start _ _ (add-zero _) p.fact.fit p.fact.bounds (omega arith) (λ j a l. p.turf_fits.free j (omega (arith, p.near.start)) (omega (arith, to))), refl)
 
 pub overflow_add-k : goal.overflow_add-k
 overflow_add-k c =
     let p = c.requires in
-    omega (arith, near-inside p.0.parts p.1.0.row p.1.1.0, p.0.links, c.loop-i-test.true)
+    omega (arith, near-inside p.tables_fit.parts p.turf_fits.row p.near, p.tables_fit.links, c.loop-i-test.true)
 
 pub meet-m-requires : goal.meet-m-requires
 meet-m-requires c =
-    let p = c.requires in record { tables_fit = p.0; row_bound = near-row p.0 p.1.0.row p.1.1.0 _ c.loop-i-test.true; k_bound = omega (arith, near-inside p.0.parts p.1.0.row p.1.1.0, c.loop-i-test.true) }
+    let p = c.requires in record { tables_fit = p.tables_fit; row_bound = near-row p.tables_fit p.turf_fits.row p.near _ c.loop-i-test.true; k_bound = omega (arith, near-inside p.tables_fit.parts p.turf_fits.row p.near, c.loop-i-test.true) }
 
 pub reach-s-requires : goal.reach-s-requires
 reach-s-requires c =
     let p = c.requires in
     let inv = c.loop-i.invariant.0 in
     let taken = c.loop-i-test.true in
-    let inside = near-inside p.0.parts p.1.0.row p.1.1.0 in record { walking = record { fit = inv.done.fit; bounds = inv.done.bounds }; link_fits = record {
+    let inside = near-inside p.tables_fit.parts p.turf_fits.row p.near in record { walking = record { fit = inv.done.fit; bounds = inv.done.bounds }; link_fits = record {
         link = omega (arith, taken, inside);
-        row = met-row p.0 _ (omega (arith, taken, inside)) _ (near-met p.0 p.1.0.row p.1.1.0 _ taken _ c.meet-m.ensures);
+        row = met-row p.tables_fit _ (omega (arith, taken, inside)) _ (near-met p.tables_fit p.turf_fits.row p.near _ taken _ c.meet-m.ensures);
         free = walked-free _ inv (omega (arith, taken)) inside;
       } }
 
 pub overflow_add-i : goal.overflow_add-i
 overflow_add-i c =
     let p = c.requires in
-    omega (arith, near-inside p.0.parts p.1.0.row p.1.1.0, p.0.links, c.loop-i-test.true)
+    omega (arith, near-inside p.tables_fit.parts p.turf_fits.row p.near, p.tables_fit.links, c.loop-i-test.true)
 
 pub loop-i-smaller : goal.loop-i-smaller
 loop-i-smaller c = omega (arith, c.loop-i-test.true)
@@ -50,8 +50,8 @@ loop-i-preserved c =
     let entry = c in
     let p = entry.requires in
     let taken = c.loop-i-test.true in
-    let inside = near-inside p.0.parts p.1.0.row p.1.1.0 in
-    let step = met-step (board_of entry.args.rows.now entry.args.marks.now 0) _ _ _ _ (near-met p.0 p.1.0.row p.1.1.0 _ taken _ c.meet-m.ensures) in (
+    let inside = near-inside p.tables_fit.parts p.turf_fits.row p.near in
+    let step = met-step (board_of entry.args.rows.now entry.args.marks.now 0) _ _ _ _ (near-met p.tables_fit p.turf_fits.row p.near _ taken _ c.meet-m.ensures) in (
       walked_next _ c.loop-i.invariant.0 (omega (arith, taken)) inside _ _ step c.reach-s.ensures _ (omega arith),
       c.reach-s.auto.1.1.1.1.1.1.1.0 ∙ c.loop-i.invariant.1,
     )
@@ -66,4 +66,4 @@ pub returns : goal.returns
 returns c = λ gases.
     let entry = c in
     let p = entry.requires in
-    links-walked entry.args.rows.now entry.args.marks.now entry.args.row c.loop-i.invariant.0 p.1.1.0.start (near-to p.0.parts p.1.0.row p.1.1.0) (omega (arith, c.loop-i-test.false)) gases
+    links-walked entry.args.rows.now entry.args.marks.now entry.args.row c.loop-i.invariant.0 p.near.start (near-to p.tables_fit.parts p.turf_fits.row p.near) (omega (arith, c.loop-i-test.false)) gases

@@ -43,7 +43,7 @@ returns-then-not-enabled c = λ q et.
 
 pub unshareable-requires : goal.unshareable-requires
 unshareable-requires c =
-    let pre = c.requires in record { accepted = pre.0; threshold_value = pre.1.0; row_bound = pre.1.1.row }
+    let pre = c.requires in record { accepted = pre.accepted; threshold_value = pre.threshold_value; row_bound = pre.fact.row }
 
 pub returns : goal.returns
 returns c = λ q et.

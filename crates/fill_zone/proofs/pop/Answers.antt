@@ -38,7 +38,7 @@ expand-requires c =
           free = subst (λ (x : ℕ). Free (table entry.args.rows.now 2) (get_or entry.args.words.now (x + entry.args.t.popped) 0) entry.args.words.now) (sym c.queue_at.ensures) entry.requires.pop_fits.free;
         };
         popped = omega (arith, entry.requires.pop_fits.left, entry.requires.pop_fits.walking.fit.queue, entry.requires.accepted.turfs);
-        tests = omega (arith, entry.requires.pop_fits.clock);
+        tests = omega (arith, entry.requires.pop_fits.clock, entry.well_formed);
       } }
 
 pub returns : goal.returns

@@ -31,7 +31,7 @@ returns-then-live-eq0 c =
     from_start _ _ _ start.ensures (taking_none _ _ _ _ _ (started_fit entry.requires.turns_fit start.ensures) (started_laid entry.requires.fact start.ensures) _ _ _ _ loop.invariant c.if-live-eq0.true)
 
 pub offset_bounds-turns-i : goal.offset_bounds-turns-i
-offset_bounds-turns-i c = omega (arith, c.loop-i-test.true)
+offset_bounds-turns-i c = omega (arith, c.well_formed, c.loop-i-test.true)
 
 pub bounds-turns-i : goal.bounds-turns-i
 bounds-turns-i c = c.loop-i-test.true
@@ -47,7 +47,7 @@ pub overflow_add-i : goal.overflow_add-i
 overflow_add-i c =
     let entry = c in
     let loop-test = c.loop-i-test in
-    omega (arith, loop-test.true)
+    omega (arith, entry.well_formed, loop-test.true)
 
 pub loop-i-smaller : goal.loop-i-smaller
 loop-i-smaller c = omega (arith, c.loop-i-test.true)

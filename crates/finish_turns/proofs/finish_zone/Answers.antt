@@ -25,7 +25,7 @@ overflow_add-i c =
     let entry = c in
     let size-of = c.size_of-size in
     let loop-test = c.loop-i-test in
-    omega (arith, loop-test.true, size-of.ensures, entry.requires.fact.within)
+    omega (arith, entry.well_formed, loop-test.true, size-of.ensures, entry.requires.fact.within)
 
 pub loop-i-smaller : goal.loop-i-smaller
 loop-i-smaller c = omega (arith, c.loop-i-test.true)

@@ -3,8 +3,13 @@ use Prim.Native.Nat.{ℕ}
 use mathlib.Core.Path.{◌∙◌, ap}
 use Rattle.basics.specs.Floats.{0f}
 use Rattle.lent_room.specs.Areas.{cleared_first}
+use borrow.Author.Rules.{rules}
 use Rattle.rules_lent.specs.Lent.{floats_room}
 use Rattle.lent_room.proofs.clear_scratch.Goals as goal
+
+pub clear_floats-requires : goal.clear_floats-requires
+unfolding floats_room
+clear_floats-requires c = search rules
 
 pub returns : goal.returns
 unfolding floats_room

@@ -14,7 +14,7 @@ float_to_bits-result c = not_nan c.args.x (below_inf c.args.x c.if-x.true)
 
 pub returns-then-x : goal.returns-then-x
 unfolding of_bits
-returns-then-x c = sign_clear c.args.x c.WELL_FORMED.0.1 (below_inf c.args.x c.if-x.true)
+returns-then-x c = sign_clear c.args.x c.well_formed.0.1 (below_inf c.args.x c.if-x.true)
 
 pub returns-else-x : goal.returns-else-x
 unfolding of_bits

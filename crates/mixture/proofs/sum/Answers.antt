@@ -1,19 +1,16 @@
 use mathlib.Core.Path.{refl, sym, ◌∙◌, ap}
 use mathlib.Core.List.{List}
-use Prim.Native.Nat.{◌+◌, ◌-◌, ◌<◌}
+use Prim.Native.Nat.{◌-◌, ◌<◌}
 use native.Mathlib.Numerals.{add-one}
 use native.Mathlib.Omega.{arith}
 use lib.ListN.{length, drop_of_length-le}
 use lib.Seq.{drop-cons}
 use lib.Ieee.{Float, nan}
 use Rattle.basics.specs.Loops.{run}
-use Rattle.basics.specs.Floats.{◌+f◌}
 use Rattle.rules_mixture.specs.Mixture.{sum}
 use borrow.Author.Rules.{rules}
+use Rattle.mixture.proofs.sum.Invariants.{rest}
 use Rattle.mixture.proofs.sum.Goals as goal
-
-abbrev rest : List Float → Float → Float
-rest xs t = run (λ x u. u +f x) xs t
 
 pub loop-i-init : goal.loop-i-init
 unfolding sum

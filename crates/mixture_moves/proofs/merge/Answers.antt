@@ -21,7 +21,7 @@ loop-i-preserved c =
     let a = c.args in
     let p = c.requires in
     let l = c.loop-i in
-    (search rules, (length-set l.gas _ _ ∙ l.invariant.1.0, joining_next a.gas.now a.gases a.giver a.goes a.taker p.1.0 p.1.1 l.gas l.i (omega arith) l.invariant.1.1))
+    (search rules, (length-set l.gas _ _ ∙ l.invariant.1.0, joining_next a.gas.now a.gases a.giver a.goes a.taker p.holds_gas.0 p.holds_gas.1 l.gas l.i (omega arith) l.invariant.1.1))
 
 pub shape_of-gas : goal.shape_of-gas
 shape_of-gas c = c.loop-i.invariant.1.0
@@ -34,4 +34,4 @@ returns c =
     let n : c.loop-i.i ≡ a.gases = omega arith in
     c.loop-i.invariant.1.1
     ∙ ap (joining a.gas.now a.gases a.giver a.goes a.taker) n
-    ∙ joining_all a.gas.now a.gases a.giver a.goes a.taker p.1.0 p.1.1 b e (mark-is b a.taker _ _ i (eq-eqb _ _ c.if-immutable-taker-ne0.false))
+    ∙ joining_all a.gas.now a.gases a.giver a.goes a.taker p.holds_gas.0 p.holds_gas.1 b e (mark-is b a.taker _ _ i (eq-eqb _ _ c.if-immutable-taker-ne0.false))

@@ -11,6 +11,6 @@ returns c =
     let entry = c in
     let a = entry.args in
     let p = entry.requires in
-    moved b a.giver a.taker p.1.1.0 a.gas.now a.gases e p.1.0.0 p.1.0.1 a.amount share.result
-    (share.ensures ∙ ap (ratio a.amount) (p.1.1.1 b e))
+    moved b a.giver a.taker p.fact a.gas.now a.gases e p.holds_gas.0 p.holds_gas.1 a.amount share.result
+    (share.ensures ∙ ap (ratio a.amount) (p.total_value b e))
     _ _ (c.merge.ensures b i e) (c.remove.ensures b i e)

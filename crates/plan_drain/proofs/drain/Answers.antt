@@ -20,7 +20,7 @@ overflow_add-queue c =
     omega (arith, c.queue_at-queue.ensures, pre.fit.links, pre.fit.turfs, pre.few, c.loop-i.invariant.0, c.loop-i-test.true)
 
 pub offset_bounds-words-queue : goal.offset_bounds-words-queue
-offset_bounds-words-queue c = omega (arith, c.queue_at-queue.ensures, c.requires.fit.words, c.requires.few, c.loop-i.invariant.0, c.loop-i-test.true)
+offset_bounds-words-queue c = omega (arith, c.queue_at-queue.ensures, c.requires.fit.words, c.requires.few, c.loop-i.invariant.0, c.well_formed, c.loop-i-test.true)
 
 pub bounds-words-queue : goal.bounds-words-queue
 bounds-words-queue c = omega (arith, c.queue_at-queue.ensures, c.requires.fit.words, c.requires.few, c.loop-i.invariant.0, c.loop-i-test.true)

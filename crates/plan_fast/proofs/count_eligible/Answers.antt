@@ -1,17 +1,11 @@
-use Prim.Native.Nat.{ℕ, ◌-◌}
+use Prim.Native.Nat.{◌-◌}
 use native.Mathlib.Omega.{arith}
 use mathlib.Core.Path.{refl, ◌∙◌, sym, ap}
-use mathlib.Core.List.{List}
 use lib.ListN.{get_or}
 use Rattle.basics.specs.Loops.{run}
 use Rattle.basics.proofs.Loops.{run_up, run-up_end}
-use Rattle.scratch.specs.View.{owner_in, fast_in}
-use Rattle.plan_fast.specs.Steps.{tally_step}
 use Rattle.plan_fast.proofs.Moves.{tally_le}
 use Rattle.plan_fast.proofs.count_eligible.Goals as goal
-
-abbrev step : ℕ → ℕ → ℕ → List ℕ → List ℕ → ℕ → ℕ → ℕ
-step z n e neighbours w k d = tally_step (owner_in e w) (fast_in n e w) z k (get_or neighbours k 0) d
 
 pub loop-k-init : goal.loop-k-init
 loop-k-init c = ((omega arith, (c.requires.rise, omega arith)), refl)

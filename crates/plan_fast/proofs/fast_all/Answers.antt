@@ -9,13 +9,13 @@ pub loop-i-init : goal.loop-i-init
 loop-i-init c = ((omega arith, (refl, refl)), onto_start _ c.requires.planning.fit)
 
 pub overflow_add-first : goal.overflow_add-first
-overflow_add-first c = omega (arith, c.requires.nodes.room, c.loop-i.invariant.0, c.loop-i-test.true)
+overflow_add-first c = omega (arith, c.requires.nodes.room, c.loop-i.invariant.0, c.well_formed, c.loop-i-test.true)
 
 pub offset_bounds-words-first : goal.offset_bounds-words-first
-offset_bounds-words-first c = omega (arith, c.requires.nodes.room, c.loop-i.invariant.0, c.loop-i-test.true)
+offset_bounds-words-first c = omega (arith, c.requires.nodes.room, c.loop-i.invariant.0, c.well_formed, c.loop-i-test.true)
 
 pub bounds-words-first : goal.bounds-words-first
-bounds-words-first c = omega (arith, c.requires.nodes.room, c.loop-i.invariant.0, c.loop-i-test.true)
+bounds-words-first c = omega (arith, c.requires.nodes.room, c.loop-i.invariant.0, c.well_formed, c.loop-i-test.true)
 
 pub fast_turf-requires : goal.fast_turf-requires
 fast_turf-requires c =

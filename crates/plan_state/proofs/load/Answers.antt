@@ -32,7 +32,7 @@ bounds-words-direction_at c = omega (arith, c.direction_at.ensures, c.requires)
 
 pub fast_at-requires : goal.fast_at-requires
 fast_at-requires c =
-    let pre = c.requires in record { row_bound = omega (arith, pre); sizes = record { turfs = pre.0.turfs; links = pre.0.links } }
+    let pre = c.requires in record { row_bound = omega (arith, pre); sizes = record { turfs = pre.plan_fits.turfs; links = pre.plan_fits.links } }
 
 pub offset_bounds-words-fast_at : goal.offset_bounds-words-fast_at
 offset_bounds-words-fast_at c = omega (arith, c.fast_at.ensures, c.requires)

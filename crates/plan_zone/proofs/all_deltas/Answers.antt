@@ -1,19 +1,13 @@
-use Prim.Native.Nat.{ℕ, ◌-◌}
+use Prim.Native.Nat.{◌-◌}
 use native.Mathlib.Omega.{arith}
 use mathlib.Core.Path.{refl, ◌∙◌}
-use mathlib.Core.List.{List}
-use lib.Ieee.{Float}
-use Rattle.basics.specs.Floats.{0f, ◌-f◌}
-use Rattle.rules_board.specs.Board.{Board}
+use Rattle.basics.specs.Floats.{◌-f◌}
 use Rattle.turfs.specs.Tables.{board_of}
-use Rattle.rules_mixture.specs.Mixture.{total}
-use Rattle.rules_plan.specs.Plan.{Plan, store, deltas}
+use Rattle.rules_plan.specs.Plan.{deltas}
 use Rattle.plan_state.proofs.Nodes.{onto_start, onto_next, onto_end, onto_frame, now_below, walk-next, walk_end}
 use Rattle.plan_zone.proofs.Whole.{delta-set}
+use Rattle.plan_zone.proofs.all_deltas.Invariants.{step}
 use Rattle.plan_zone.proofs.all_deltas.Goals as goal
-
-abbrev step : Board → List Float → Float → ℕ → Plan → Plan
-step b gas average r t = store t r (record { delta = total b gas r -f average; amount = 0f; direction = 0; fast = 0 })
 
 pub overflow_cast-size : goal.overflow_cast-size
 overflow_cast-size c = omega (arith, c.requires.nodes.few, c.requires.plan_fits.turfs)
@@ -22,13 +16,13 @@ pub loop-i-init : goal.loop-i-init
 loop-i-init c = ((omega arith, (refl, refl)), onto_start _ c.requires.plan_fits)
 
 pub overflow_add-row : goal.overflow_add-row
-overflow_add-row c = omega (arith, c.requires.nodes.room, c.loop-i.invariant.0, c.loop-i-test.true)
+overflow_add-row c = omega (arith, c.requires.nodes.room, c.loop-i.invariant.0, c.well_formed, c.loop-i-test.true)
 
 pub offset_bounds-words-first : goal.offset_bounds-words-first
-offset_bounds-words-first c = omega (arith, c.requires.nodes.room, c.loop-i.invariant.0, c.loop-i-test.true)
+offset_bounds-words-first c = omega (arith, c.requires.nodes.room, c.loop-i.invariant.0, c.well_formed, c.loop-i-test.true)
 
 pub bounds-words-first : goal.bounds-words-first
-bounds-words-first c = omega (arith, c.requires.nodes.room, c.loop-i.invariant.0, c.loop-i-test.true)
+bounds-words-first c = omega (arith, c.requires.nodes.room, c.loop-i.invariant.0, c.well_formed, c.loop-i-test.true)
 
 pub overflow_cast-row : goal.overflow_cast-row
 overflow_cast-row c = omega (arith, now_below c.requires.nodes (onto_frame c.loop-i.invariant.1) c.loop-i.invariant.0.1.0 _ c.loop-i-test.true, c.requires.plan_fits.turfs)

@@ -1,13 +1,22 @@
 -- The loop's invariant: the nodes left, from here on, come to all nodes from the start. Assumes nothing.
 -- the state of one turf at first
-use Prim.Native.Nat.{◌≤◌, ◌-◌}
+use Prim.Native.Nat.{ℕ, ◌≤◌, ◌-◌}
 use mathlib.Core.Path.{◌≡◌}
+use mathlib.Core.List.{List}
 use lib.ListN.{length, drop}
+use lib.Ieee.{Float}
+use Rattle.basics.specs.Floats.{0f, ◌-f◌}
 use Rattle.basics.specs.Loops.{run}
+use Rattle.rules_board.specs.Board.{Board}
 use Rattle.turfs.specs.Tables.{board_of}
+use Rattle.rules_mixture.specs.Mixture.{total}
+use Rattle.rules_plan.specs.Plan.{Plan, store}
 use Rattle.plan_state.specs.Held.{area, plan_view, nodes_of}
 use Rattle.plan_state.proofs.Nodes.{Onto}
 use Rattle.plan_zone.proofs.all_deltas.Given as goal
+
+abbrev pub step : Board → List Float → Float → ℕ → Plan → Plan
+step b gas average r t = store t r (record { delta = total b gas r -f average; amount = 0f; direction = 0; fast = 0 })
 
 abbrev pub invariant-loop-i : goal.invariant-loop-i
 invariant-loop-i l = ((l.i ≤ l.count) × ((length l.words ≡ length l.initial.words) × (length l.floats ≡ length l.initial.floats)))

@@ -13,13 +13,13 @@ pub loop-i-init : goal.loop-i-init
 loop-i-init c = unfold chosen in ((omega arith, omega arith), omega arith)
 
 pub overflow_add-first : goal.overflow_add-first
-overflow_add-first c = omega (arith, c.requires.nodes.room, c.loop-i.invariant.0, c.loop-i-test.true)
+overflow_add-first c = omega (arith, c.requires.nodes.room, c.loop-i.invariant.0, c.well_formed, c.loop-i-test.true)
 
 pub offset_bounds-words-first : goal.offset_bounds-words-first
-offset_bounds-words-first c = omega (arith, c.requires.nodes.room, c.loop-i.invariant.0, c.loop-i-test.true)
+offset_bounds-words-first c = omega (arith, c.requires.nodes.room, c.loop-i.invariant.0, c.well_formed, c.loop-i-test.true)
 
 pub bounds-words-first : goal.bounds-words-first
-bounds-words-first c = omega (arith, c.requires.nodes.room, c.loop-i.invariant.0, c.loop-i-test.true)
+bounds-words-first c = omega (arith, c.requires.nodes.room, c.loop-i.invariant.0, c.well_formed, c.loop-i-test.true)
 
 pub count_one-c-requires : goal.count_one-c-requires
 count_one-c-requires c =

@@ -15,13 +15,13 @@ pub loop-i-init : goal.loop-i-init
 loop-i-init c = ((omega arith, (refl, refl)), along-start _ c.requires.planning.fit)
 
 pub overflow_add-g : goal.overflow_add-g
-overflow_add-g c = omega (arith, c.requires.listed_le_n, c.loop-i.invariant.1.fit.words, c.loop-i.invariant.0, c.loop-i-test.true, c.list_at-list.ensures)
+overflow_add-g c = omega (arith, c.requires.listed_le_n, c.loop-i.invariant.1.fit.words, c.loop-i.invariant.0, c.well_formed, c.loop-i-test.true, c.list_at-list.ensures)
 
 pub offset_bounds-words-list : goal.offset_bounds-words-list
-offset_bounds-words-list c = omega (arith, c.requires.listed_le_n, c.loop-i.invariant.1.fit.words, c.loop-i.invariant.0, c.loop-i-test.true, c.list_at-list.ensures)
+offset_bounds-words-list c = omega (arith, c.requires.listed_le_n, c.loop-i.invariant.1.fit.words, c.loop-i.invariant.0, c.well_formed, c.loop-i-test.true, c.list_at-list.ensures)
 
 pub bounds-words-list : goal.bounds-words-list
-bounds-words-list c = omega (arith, c.requires.listed_le_n, c.loop-i.invariant.1.fit.words, c.loop-i.invariant.0, c.loop-i-test.true, c.list_at-list.ensures)
+bounds-words-list c = omega (arith, c.requires.listed_le_n, c.loop-i.invariant.1.fit.words, c.loop-i.invariant.0, c.well_formed, c.loop-i-test.true, c.list_at-list.ensures)
 
 pub overflow_cast-g : goal.overflow_cast-g
 overflow_cast-g c =

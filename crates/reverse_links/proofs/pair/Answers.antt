@@ -28,31 +28,31 @@ returns-then-words-here-ne0 c = let entry = c in record { but = but_none; paired
 pub offset_bounds-neighbours-k : goal.offset_bounds-neighbours-k
 offset_bounds-neighbours-k c =
     let pre = c.requires in
-    omega (arith, link-below pre.0.linked _ _ pre.1.0.row pre.1.0.link, pre.0)
+    omega (arith, link-below pre.pairing.linked _ _ pre.of_row.row pre.of_row.link, pre.pairing)
 
 pub bounds-neighbours-k : goal.bounds-neighbours-k
 bounds-neighbours-k c =
     let pre = c.requires in
-    link-below pre.0.linked _ _ pre.1.0.row pre.1.0.link
+    link-below pre.pairing.linked _ _ pre.of_row.row pre.of_row.link
 
 pub overflow_cast-a : goal.overflow_cast-a
 overflow_cast-a c =
     let pre = c.requires in
-    omega (arith, end_below pre.0.linked _ _ pre.1.0.row pre.1.0.link, pre.0)
+    omega (arith, end_below pre.pairing.linked _ _ pre.of_row.row pre.of_row.link, pre.pairing)
 
 pub offset_bounds-starts-a : goal.offset_bounds-starts-a
 offset_bounds-starts-a c =
     let pre = c.requires in
-    omega (arith, end_below pre.0.linked _ _ pre.1.0.row pre.1.0.link, pre.0)
+    omega (arith, end_below pre.pairing.linked _ _ pre.of_row.row pre.of_row.link, pre.pairing)
 
 pub bounds-starts-a : goal.bounds-starts-a
 bounds-starts-a c =
     let pre = c.requires in
     omega (
       arith,
-      end_below pre.0.linked _ _ pre.1.0.row
-          pre.1.0.link,
-      pre.0.linked.starts_n,
+      end_below pre.pairing.linked _ _ pre.of_row.row
+          pre.of_row.link,
+      pre.pairing.linked.starts_n,
     )
 
 pub overflow_cast-from : goal.overflow_cast-from
@@ -70,21 +70,21 @@ overflow_cast-from c =
 pub overflow_add-to : goal.overflow_add-to
 overflow_add-to c =
     let pre = c.requires in
-    omega (arith, end_below pre.0.linked _ _ pre.1.0.row pre.1.0.link, pre.0)
+    omega (arith, end_below pre.pairing.linked _ _ pre.of_row.row pre.of_row.link, pre.pairing)
 
 pub offset_bounds-starts-a-2 : goal.offset_bounds-starts-a-2
 offset_bounds-starts-a-2 c =
     let pre = c.requires in
-    omega (arith, end_below pre.0.linked _ _ pre.1.0.row pre.1.0.link, pre.0)
+    omega (arith, end_below pre.pairing.linked _ _ pre.of_row.row pre.of_row.link, pre.pairing)
 
 pub bounds-starts-a-2 : goal.bounds-starts-a-2
 bounds-starts-a-2 c =
     let pre = c.requires in
     omega (
       arith,
-      end_below pre.0.linked _ _ pre.1.0.row
-          pre.1.0.link,
-      pre.0.linked.starts_n,
+      end_below pre.pairing.linked _ _ pre.of_row.row
+          pre.of_row.link,
+      pre.pairing.linked.starts_n,
     )
 
 pub overflow_cast-to : goal.overflow_cast-to
@@ -169,4 +169,4 @@ bounds-words-there c =
     )
 
 pub returns : goal.returns
-returns c = let entry = c in let whole = rw (c.reverse_at-here.ensures, c.reverse_at-there.ensures) (paired_word entry.requires.pairing.linked _ _ _ c.look_back-p.result _ entry.requires.pairing.all entry.requires.pairing.room entry.requires.of_row.row entry.requires.of_row.link c.if-p-eq0.false c.look_back-p.ensures entry.requires.paired) in record { but = whole.0; paired_2 = whole.1 }
+returns c = let entry = c in record { but = rw (c.reverse_at-here.ensures, c.reverse_at-there.ensures) (paired_word entry.requires.pairing.linked _ _ _ c.look_back-p.result _ entry.requires.pairing.all entry.requires.pairing.room entry.requires.of_row.row entry.requires.of_row.link c.if-p-eq0.false c.look_back-p.ensures entry.requires.paired).0; paired_2 = rw (c.reverse_at-here.ensures, c.reverse_at-there.ensures) (paired_word entry.requires.pairing.linked _ _ _ c.look_back-p.result _ entry.requires.pairing.all entry.requires.pairing.room entry.requires.of_row.row entry.requires.of_row.link c.if-p-eq0.false c.look_back-p.ensures entry.requires.paired).1 }

@@ -26,12 +26,12 @@ bounds-starts-r-2 c = omega (arith, c.requires.r_lt_n, c.requires.pairing.linked
 pub overflow_cast-to : goal.overflow_cast-to
 overflow_cast-to c =
     let pre = c.requires in
-    omega (arith, pre.0.linked.within _ pre.1.0, pre.0)
+    omega (arith, pre.pairing.linked.within _ pre.r_lt_n, pre.pairing)
 
 pub loop-k-init : goal.loop-k-init
 loop-k-init c =
     let pre = c.requires in
-    ((omega arith, pre.0.linked.rise _ pre.1.0), (but_none, pre.1.1))
+    ((omega arith, pre.pairing.linked.rise _ pre.r_lt_n), (but_none, pre.paired))
 
 pub overflow_cast-r : goal.overflow_cast-r
 overflow_cast-r c = omega (arith, c.requires.r_lt_n, c.requires.pairing)
@@ -49,9 +49,9 @@ overflow_add-k c =
     omega (
       arith,
       c.loop-k-test.true,
-      pre.0.linked.within _
-          pre.1.0,
-      pre.0,
+      pre.pairing.linked.within _
+          pre.r_lt_n,
+      pre.pairing,
     )
 
 pub loop-k-smaller : goal.loop-k-smaller

@@ -25,7 +25,7 @@ loop-t-preserved c =
     let inv = c.loop-t.invariant in
     let turn = c.back-t.ensures in
     let n = turf_count (board_at args.rows args.marks 0) in
-    going_next (backing _) _ _ inv (turn-as inv _ _ turn.0) (λ es. back-next _ _ _ _ _ turn.1 (order-long n _ args.words.now p.fit.words (omega (arith, inv.fit.few))))
+    going_next (backing _) _ _ inv (turn-as inv _ _ turn.fact_2) (λ es. back-next _ _ _ _ _ turn.left_value (order-long n _ args.words.now p.fit.words (omega (arith, inv.fit.few))))
 
 pub shape_of-gas : goal.shape_of-gas
 shape_of-gas c = kept-gas c.loop-t.invariant

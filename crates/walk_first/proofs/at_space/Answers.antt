@@ -8,13 +8,13 @@ pub order_at-requires : goal.order_at-requires
 order_at-requires c = c.requires.fact.fit.small
 
 pub overflow_add-words : goal.overflow_add-words
-overflow_add-words c = let p = c.requires in omega (arith, c.order_at.ensures, p.0.fit.small, p.0.fit.few, p.0.fit.past, p.0.fit.line.few)
+overflow_add-words c = let p = c.requires in omega (arith, c.order_at.ensures, p.fact.fit.small, p.fact.fit.few, p.fact.fit.past, p.fact.fit.line.few)
 
 pub offset_bounds-words-order_at : goal.offset_bounds-words-order_at
-offset_bounds-words-order_at c = let p = c.requires in omega (arith, c.order_at.ensures, p.0.fit.small, p.0.fit.few, p.0.fit.past, p.0.fit.line.few)
+offset_bounds-words-order_at c = let p = c.requires in omega (arith, c.order_at.ensures, p.fact.fit.small, p.fact.fit.few, p.fact.fit.past, p.fact.fit.line.few)
 
 pub bounds-words-order_at : goal.bounds-words-order_at
-bounds-words-order_at c = let p = c.requires in omega (arith, c.order_at.ensures, p.0.fit.words, p.1.counted, p.0.fit.past, p.0.fit.line.few)
+bounds-words-order_at c = let p = c.requires in omega (arith, c.order_at.ensures, p.fact.fit.words, p.fact_2.counted, p.fact.fit.past, p.fact.fit.line.few)
 
 pub returns : goal.returns
-returns c = let p = c.requires in rw c.order_at.ensures (does-open _ _ _ _ _ p.0.fit p.1 _ _ _ c.opened.ensures (one-added _ c.append.ensures))
+returns c = let p = c.requires in rw c.order_at.ensures (does-open _ _ _ _ _ p.fact.fit p.fact_2 _ _ _ c.opened.ensures (one-added _ c.append.ensures))

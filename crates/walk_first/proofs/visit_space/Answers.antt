@@ -19,7 +19,7 @@ returns-then-is_immutable c =
     let if2 = c.if-is_immutable in
     let is-immutable = c.is_immutable in
     let at-space = c.at_space in
-    space-open _ _ _ _ _ _ _ pre.0.fit (not_planetary _ _ if1.false) (sym if2.true ∙ is-immutable.ensures _ refl refl) at-space.ensures
+    space-open _ _ _ _ _ _ _ pre.fact.fit (not_planetary _ _ if1.false) (sym if2.true ∙ is-immutable.ensures _ refl refl) at-space.ensures
 
 pub spread-requires : goal.spread-requires
 spread-requires c = c.requires.fact
@@ -31,4 +31,4 @@ returns c =
     let if2 = c.if-is_immutable in
     let is-immutable = c.is_immutable in
     let spread = c.spread in
-    space-on _ _ _ _ _ _ _ pre.0.fit (not_planetary _ _ if1.false) (sym if2.false ∙ is-immutable.ensures _ refl refl) spread.ensures
+    space-on _ _ _ _ _ _ _ pre.fact.fit (not_planetary _ _ if1.false) (sym if2.false ∙ is-immutable.ensures _ refl refl) spread.ensures

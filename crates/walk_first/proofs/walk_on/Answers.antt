@@ -13,7 +13,7 @@ loop-kind-init c =
     let p = c.requires in
     let args = c.args in
     let b = board_at args.rows args.marks 0 in
-    going_start (walking _) p.0.fit (written-room _ _ p.0.fit) (λ v. steps_start b args.kind args.limit (turf_count b) _ p.1 v)
+    going_start (walking _) p.fact.fit (written-room _ _ p.fact.fit) (λ v. steps_start b args.kind args.limit (turf_count b) _ p.walked_value v)
 
 pub walk_next-t-requires : goal.walk_next-t-requires
 walk_next-t-requires c =

@@ -10,14 +10,14 @@ use Rattle.walk_links.proofs.walk_links.Goals as goal
 pub loop-i-init : goal.loop-i-init
 loop-i-init c =
     let p = c.requires in
-    going_start (walking _) p.0.fit (written-room _ _ p.0.fit) (λ v. near-run _ _ _ _ p.0.ground p.0.inside p.1 _ v)
+    going_start (walking _) p.fact.fit (written-room _ _ p.fact.fit) (λ v. near-run _ _ _ _ p.fact.ground p.fact.inside p.fact_2 _ v)
 
 pub overflow_add-from : goal.overflow_add-from
-overflow_add-from c = let p = c.requires in omega (arith, near-inside p.0.ground.parts p.0.inside p.1, p.0.ground.small.links, c.loop-i-test.true)
+overflow_add-from c = let p = c.requires in omega (arith, near-inside p.fact.ground.parts p.fact.inside p.fact_2, p.fact.ground.small.links, c.loop-i-test.true)
 
 pub walk_link-t-requires : goal.walk_link-t-requires
 walk_link-t-requires c =
-    let p = c.requires in record { fact = record { ground = p.0.ground; fit = c.loop-i.invariant.fit; inside = p.0.inside }; fact_2 = near-leads _ _ _ _ p.0.ground p.0.inside p.1 _ c.loop-i-test.true }
+    let p = c.requires in record { fact = record { ground = p.fact.ground; fit = c.loop-i.invariant.fit; inside = p.fact.inside }; fact_2 = near-leads _ _ _ _ p.fact.ground p.fact.inside p.fact_2 _ c.loop-i-test.true }
 
 pub loop-i-preserved : goal.loop-i-preserved
 loop-i-preserved c = going_next (walking _) _ _ c.loop-i.invariant c.walk_link-t.ensures (λ es. near_next _ _ _ _ _ c.loop-i-test.true)

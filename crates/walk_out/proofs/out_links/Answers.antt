@@ -8,17 +8,17 @@ use Rattle.walk_out.proofs.out_links.Goals as goal
 pub loop-i-init : goal.loop-i-init
 loop-i-init c =
     let p = c.requires in
-    going_start (outing _) p.0.fit (written-room _ _ p.0.fit) (λ v. near-run _ _ _ _ p.0.ground p.0.inside (near-here p.1) _ v)
+    going_start (outing _) p.fact.fit (written-room _ _ p.fact.fit) (λ v. near-run _ _ _ _ p.fact.ground p.fact.inside (near-here p.near_value) _ v)
 
 pub out_link-t-requires : goal.out_link-t-requires
 out_link-t-requires c =
-    let p = c.requires in record { fact = record { ground = p.0.ground; fit = c.loop-i.invariant.fit; inside = p.0.inside }; a_bound = leads-below p.0.ground (near-leads _ _ _ _ p.0.ground p.0.inside (near-here p.1) _ c.loop-i-test.true) }
+    let p = c.requires in record { fact = record { ground = p.fact.ground; fit = c.loop-i.invariant.fit; inside = p.fact.inside }; a_bound = leads-below p.fact.ground (near-leads _ _ _ _ p.fact.ground p.fact.inside (near-here p.near_value) _ c.loop-i-test.true) }
 
 pub loop-i-preserved : goal.loop-i-preserved
 loop-i-preserved c =
     let p = c.requires in
     let taken = c.loop-i-test.true in
-    going_next (outing _) _ _ c.loop-i.invariant (c.out_link-t.ensures _ (near-leads _ _ _ _ p.0.ground p.0.inside (near-here p.1) _ taken).end) (λ es. near_next _ _ _ _ _ taken)
+    going_next (outing _) _ _ c.loop-i.invariant (c.out_link-t.ensures _ (near-leads _ _ _ _ p.fact.ground p.fact.inside (near-here p.near_value) _ taken).end) (λ es. near_next _ _ _ _ _ taken)
 
 pub shape_of-words : goal.shape_of-words
 shape_of-words c = kept-words c.loop-i.invariant

@@ -13,7 +13,7 @@ loop-t-init c =
     let p = c.requires in
     let args = c.args in
     let b = board_at args.rows args.marks 0 in
-    going_start (outing _) p.0.fit (written-room _ _ p.0.fit) (λ v. steps_start b args.limit (turf_count b) _ p.1 v)
+    going_start (outing _) p.fact.fit (written-room _ _ p.fact.fit) (λ v. steps_start b args.limit (turf_count b) _ p.place_value v)
 
 pub out_row-t-requires : goal.out_row-t-requires
 out_row-t-requires c = record { fact = record { ground = c.requires.fact.ground; fit = c.loop-t.invariant.fit }; place_lt_count = c.loop-t-test.true }
