@@ -23,7 +23,7 @@ fn bits(items: &[f32]) -> String {
 
 fn tables(board: &Board) -> String {
     format!(
-        "(record {{ ids = {}; flags = {}; planetary = {}; mixtures = {}; starts = {}; neighbours = {}; link_flags_of = {}; immutable = {}; gases = {} }})",
+        "(record {{ ids = {}; flags = {}; planetary = {}; mixtures = {}; starts = {}; neighbours = {}; link_flags = {}; immutable = {}; gases = {} }})",
         words(&board.ids),
         bytes(&board.flags),
         bytes(&board.planetary),
