@@ -82,13 +82,13 @@ after_fill-requires c =
     let new = is_new b args.gas.now q _ (found_in (turf_count b) (link_count b) args.words.now) pass left in let whole = after-asks p.accepted args.gas.now q _ p.hot_fits.stored p.hot_fits.room row new c.flood_fill-t.ensures in record { keep_fits = whole.0; pushed_fits = whole.1.0; spans = whole.1.1 }
 
 pub shape_of-words : goal.shape_of-words
-shape_of-words c = c.after_fill.auto.1.1.1.1.1.0 ∙ c.flood_fill-t.auto.1.1.1.1.1.1.0
+shape_of-words c = c.after_fill.auto.words ∙ c.flood_fill-t.auto.words
 
 pub shape_of-floats : goal.shape_of-floats
-shape_of-floats c = c.after_fill.auto.1.1.1.1.1.1.0
+shape_of-floats c = c.after_fill.auto.floats.0
 
 pub shape_of-events : goal.shape_of-events
-shape_of-events c = c.flood_fill-t.auto.1.1.1.1.1.1.1.0
+shape_of-events c = c.flood_fill-t.auto.events.0
 
 pub returns : goal.returns
 returns c = λ hot.

@@ -53,7 +53,7 @@ loop-i-preserved c =
     let inside = near-inside p.tables_fit.parts p.turf_fits.row p.near in
     let step = met-step (board_of entry.args.rows.now entry.args.marks.now 0) _ _ _ _ (near-met p.tables_fit p.turf_fits.row p.near _ taken _ c.meet-m.ensures) in (
       walked_next _ c.loop-i.invariant.0 (omega (arith, taken)) inside _ _ step c.reach-s.ensures _ (omega arith),
-      c.reach-s.auto.1.1.1.1.1.1.1.0 ∙ c.loop-i.invariant.1,
+      c.reach-s.auto.words ∙ c.loop-i.invariant.1,
     )
 
 pub shape_of-words : goal.shape_of-words

@@ -46,11 +46,11 @@ loop-settings-preserved c =
     let t = head.t in
     let on = going_on t.state t.popped t.reach.queued (sym by-goes-on.ensures ∙ by-if1.true) in (
       popping_next entry.requires.accepted _ _ _ _ _ _ _ _ entry.requires.zone_fits by-start.ensures.zone_starts by-start.ensures.at_start head.invariant.0 on.1 by-pop.ensures.fact by-pop.ensures.moved,
-      by-pop.auto.1.1.1.1.1.1.1.0 ∙ head.invariant.1,
+      by-pop.auto.words ∙ head.invariant.1,
     )
 
 pub shape_of-words : goal.shape_of-words
-shape_of-words c = c.loop-settings.invariant.1 ∙ c.start-t.auto.1.1.1.0
+shape_of-words c = c.loop-settings.invariant.1 ∙ c.start-t.auto.words.0
 
 pub shape_of-events : goal.shape_of-events
 shape_of-events c = wrote-length c.loop-settings.invariant.0.done.does.wrote

@@ -75,7 +75,7 @@ next_edge-k-requires-in-loop-k c =
     let entry = l in
     let lifted-at = l.lifted_at-up in
     let loop = l.loop-k in
-    let send = c.send-now in let whole = edge-room _ _ entry.args.links.stop _ _ _ _ _ _ lifted-at.ensures entry.requires (loop.k + 1) send.new.load.1.1.1.1.1.1.0 (sent_size send.ensures ∙ loop.invariant.made.kept.floats) (omega (arith, l.loop-k-test.true)) in record { zone_bound = whole.0; k_le_to = whole.1.0; to_in_bounds = whole.1.1.0; to_in_bounds_2 = whole.1.1.1 }
+    let send = c.send-now in let whole = edge-room _ _ entry.args.links.stop _ _ _ _ _ _ lifted-at.ensures entry.requires (loop.k + 1) send.new.floats (sent_size send.ensures ∙ loop.invariant.made.kept.floats) (omega (arith, l.loop-k-test.true)) in record { zone_bound = whole.0; k_le_to = whole.1.0; to_in_bounds = whole.1.1.0; to_in_bounds_2 = whole.1.1.1 }
 
 pub loop-k-smaller : goal.loop-k-smaller
 loop-k-smaller c = omega (arith, c.next_edge-k-in-loop-k.ensures.low, c.loop-k-test.true)

@@ -42,4 +42,4 @@ returns c = let clear-part = c.clear_part in
     let clear-floats = c.clear_floats in
     blanked_at _ _ _ c.requires c.direction_at-pairs.ensures
     c.fast_at-fast.ensures c.queue_at-queue.ensures c.lifted_at.ensures
-    clear-part.ensures clear-part2.ensures clear-floats.ensures (clear-part2.auto.0 ∙ clear-part.auto.0) clear-part.auto.0 clear-floats.auto.0
+    clear-part.ensures clear-part2.ensures clear-floats.ensures (clear-part2.auto.words ∙ clear-part.auto.words) clear-part.auto.words clear-floats.auto.floats

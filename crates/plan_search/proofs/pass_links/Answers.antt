@@ -12,10 +12,10 @@ pass_link-p-requires c =
     let entry = c in record { searching = record { seeking = c.loop-k.invariant.1.seeking; zone = entry.requires.searching.zone; row = entry.requires.searching.row }; ends = record { row = entry.requires.ends.row; all = entry.requires.ends.all; within = omega (arith, entry.requires.ends.within, c.loop-k-test.true); ends = entry.requires.ends.ends } }
 
 pub shape_of-words-then-p : goal.shape_of-words-then-p
-shape_of-words-then-p c = c.pass_link-p.auto.1.1.1.1.1.0 ∙ c.loop-k.invariant.0.1.1.0
+shape_of-words-then-p c = c.pass_link-p.auto.words ∙ c.loop-k.invariant.0.1.1.0
 
 pub shape_of-floats-then-p : goal.shape_of-floats-then-p
-shape_of-floats-then-p c = c.pass_link-p.auto.1.1.1.1.1.1.0 ∙ c.loop-k.invariant.0.1.1.1
+shape_of-floats-then-p c = c.pass_link-p.auto.floats.0 ∙ c.loop-k.invariant.0.1.1.1
 
 pub returns-then-p : goal.returns-then-p
 returns-then-p c =
@@ -37,8 +37,8 @@ loop-k-preserved c =
         (
           omega (arith, loop-test.true),
           (
-            pass-link.auto.1.1.1.1.1.0 ∙ loop.invariant.0.1.1.0,
-            pass-link.auto.1.1.1.1.1.1.0 ∙
+            pass-link.auto.words ∙ loop.invariant.0.1.1.0,
+            pass-link.auto.floats.0 ∙
                 loop.invariant.0.1.1.1,
           ),
         ),

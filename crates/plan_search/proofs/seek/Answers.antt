@@ -81,7 +81,7 @@ loop-looked-preserved c = let entry = c in
     let loop = c.loop-looked in
     let loop-test = c.loop-looked-test in
     let seek-turf = c.seek_turf-reach in (
-      (seek-turf.auto.1.1.1.1.1.0 ∙ loop.invariant.0.0, seek-turf.auto.1.1.1.1.1.1.0 ∙ loop.invariant.0.1),
+      (seek-turf.auto.words ∙ loop.invariant.0.0, seek-turf.auto.floats.0 ∙ loop.invariant.0.1),
       (
         trail_next _ _ loop.invariant.1.0 (sought-as seek-turf.ensures.sought (links-are (board_of entry.args.rows.now entry.args.marks.now entry.args.gases) entry.args.hand.z entry.args.hand.side entry.args.hand.g _)) (omega (arith, loop.invariant.1.0.seeking.line.few, loop-test.true))
             (turn_on _ _ _ _ _ _ loop.invariant.1.0.seeking loop-test.true _ queue-at.ensures (board_of entry.args.rows.now entry.args.marks.now entry.args.gases) _ _ _ entry.requires.searching.row _

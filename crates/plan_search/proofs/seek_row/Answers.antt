@@ -32,12 +32,12 @@ overflow_add-k c =
 
 pub shape_of-words-then-step : goal.shape_of-words-then-step
 shape_of-words-then-step c =
-    c.seek_link-step.auto.1.1.1.1.1.0 ∙ c.pass_links-pass.auto.1.1.1.1.1.1.0
+    c.seek_link-step.auto.words ∙ c.pass_links-pass.auto.words
     ∙ c.loop-k.invariant.0.1.1.0
 
 pub shape_of-floats-then-step : goal.shape_of-floats-then-step
 shape_of-floats-then-step c =
-    c.seek_link-step.auto.1.1.1.1.1.1.0 ∙ c.pass_links-pass.auto.1.1.1.1.1.1.1.0
+    c.seek_link-step.auto.floats.0 ∙ c.pass_links-pass.auto.floats.0
     ∙ c.loop-k.invariant.0.1.1.1
 
 pub returns-then-step : goal.returns-then-step
@@ -66,9 +66,9 @@ loop-k-preserved-else-step c =
         (
           omega (arith, if1.true),
           (
-            seek-link.auto.1.1.1.1.1.0 ∙ pass-links.auto.1.1.1.1.1.1.0 ∙
+            seek-link.auto.words ∙ pass-links.auto.words ∙
                 loop.invariant.0.1.1.0,
-            seek-link.auto.1.1.1.1.1.1.0 ∙ pass-links.auto.1.1.1.1.1.1.1.0 ∙ loop.invariant.0.1.1.1,
+            seek-link.auto.floats.0 ∙ pass-links.auto.floats.0 ∙ loop.invariant.0.1.1.1,
           ),
         ),
       ),
@@ -87,8 +87,8 @@ loop-k-preserved c =
         (
           pass-links.ensures.at_le_to_2,
           (
-            pass-links.auto.1.1.1.1.1.1.0 ∙ loop.invariant.0.1.1.0,
-            pass-links.auto.1.1.1.1.1.1.1.0
+            pass-links.auto.words ∙ loop.invariant.0.1.1.0,
+            pass-links.auto.floats.0
                 ∙ loop.invariant.0.1.1.1,
           ),
         ),

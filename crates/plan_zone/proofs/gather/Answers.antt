@@ -48,7 +48,7 @@ loop-i-preserved c =
     let loop = c.loop-i in
     let loop-test = c.loop-i-test in
     let choose = c.choose-c in (
-      (omega (arith, loop-test.true), choose.auto.1.1.1.1.1.0 ∙ loop.invariant.0.1),
+      (omega (arith, loop-test.true), choose.auto.words ∙ loop.invariant.0.1),
       picking_next _ _ loop.invariant.1 (rw (nodes-length entry.requires.nodes) loop-test.true) _ c.list_at-list.ensures
           (omega (arith, loop.invariant.1.few, loop-test.true, entry.requires.nodes.few)) _
           (pick-test entry.requires.nodes entry.args.side loop.invariant.1 loop.invariant.0.1 loop-test.true) _ (pick-row entry.requires.nodes entry.args.side loop.invariant.1

@@ -13,7 +13,7 @@ fast_pass-requires c =
         fit = deltas.ensures.fit;
         zone = entry.requires.planning.zone;
         reverses = reverses-kept entry.requires.planning.reverses (does-frame deltas.ensures);
-      }; nodes = nodes-kept entry.requires.nodes (does-frame deltas.ensures) deltas.auto.1.1.1.1.1.0 }
+      }; nodes = nodes-kept entry.requires.nodes (does-frame deltas.ensures) deltas.auto.words }
 
 pub share_out-requires : goal.share_out-requires
 share_out-requires c =
@@ -24,7 +24,7 @@ share_out-requires c =
         fit = fast-pass.ensures.fit;
         zone = entry.requires.planning.zone;
         reverses = reverses-kept (reverses-kept entry.requires.planning.reverses (does-frame all-deltas.ensures)) (does-frame fast-pass.ensures);
-      }; nodes = nodes-kept (nodes-kept entry.requires.nodes (does-frame all-deltas.ensures) all-deltas.auto.1.1.1.1.1.0) (does-frame fast-pass.ensures) fast-pass.auto.1.1.1.1.0 }
+      }; nodes = nodes-kept (nodes-kept entry.requires.nodes (does-frame all-deltas.ensures) all-deltas.auto.words) (does-frame fast-pass.ensures) fast-pass.auto.words }
 
 pub returns : goal.returns
 returns c =
