@@ -4,7 +4,7 @@
 ghost use Rattle.std.specs.Prelude.{◌≡◌};
 ghost use Rattle.turfs.specs.Tables.{board_at};
 ghost use Rattle.rules_lent.specs.Lent.{Lent};
-ghost use Rattle.lent.specs.Given.{lent_at};
+ghost use Rattle.lent.specs.Given.{lent};
 ghost use Rattle.fill_all.specs.Held.{asked};
 ghost use Rattle.rules_equalize.specs.Equalize.{Ask, filled_all, played, equalize};
 ghost use Rattle.rules_equalize.specs.Result.{refused_equalize, equalize_number, equalize_result};
@@ -59,9 +59,9 @@ fn play(
     floats: &mut [f32],
     events: &mut [u8],
 ) -> Outcome
-    requires { CallFilled (board_at rows marks gases) s (lent_at gas events words floats) }
-    ensures { let b = board_at rows.entry marks.entry gases in ((q : Ask) (l : Lent) → CallFills b q s l (lent_at gas.entry events.entry words.entry floats.entry)
-        → Comes b (played b l.gas q turns.now (filled_all b l.gas q)) result l (lent_at gas.exit events.exit words.exit floats.exit)) }
+    requires { CallFilled (board_at rows marks gases) s (lent gas.old events.old words.old floats.old) }
+    ensures { let b = board_at rows.entry marks.entry gases in ((q : Ask) (l : Lent) → CallFills b q s l (lent gas.old events.old words.old floats.old)
+        → Comes b (played b l.gas q turns.now (filled_all b l.gas q)) result l (lent gas.new events.new words.new floats.new)) }
 {
     plan_all::plan_all(s.zones, rows, marks, gases, gas, words, floats);
     let apart = apart::apart(s.zones, rows, marks, words);
@@ -91,9 +91,9 @@ fn timed(
     floats: &mut [f32],
     events: &mut [u8],
 ) -> Outcome
-    requires { CallFilled (board_at rows marks gases) s (lent_at gas events words floats) }
-    ensures { let b = board_at rows.entry marks.entry gases in ((q : Ask) (l : Lent) → q.allowance ≡ allowance → CallFills b q s l (lent_at gas.entry events.entry words.entry floats.entry)
-        → Comes b (equalize b l.gas q turns.now) result l (lent_at gas.exit events.exit words.exit floats.exit)) }
+    requires { CallFilled (board_at rows marks gases) s (lent gas.old events.old words.old floats.old) }
+    ensures { let b = board_at rows.entry marks.entry gases in ((q : Ask) (l : Lent) → q.allowance ≡ allowance → CallFills b q s l (lent gas.old events.old words.old floats.old)
+        → Comes b (equalize b l.gas q turns.now) result l (lent gas.new events.new words.new floats.new)) }
 {
     let tests = s.tests;
     if s.cancelled {
@@ -121,9 +121,9 @@ fn accepted(
     floats: &mut [f32],
     events: &mut [u8],
 ) -> Outcome
-    requires { equalize_number (board_at rows marks gases) (asked hot.now settings) turns.now (lent_at gas events words floats) ≡ 0 }
+    requires { equalize_number (board_at rows marks gases) (asked hot.now settings) turns.now (lent gas.old events.old words.old floats.old) ≡ 0 }
     ensures { let b = board_at rows.entry marks.entry gases in Comes b (equalize b gas.old (asked hot.now settings) turns.now) result
-        (lent_at gas.entry events.entry words.entry floats.entry) (lent_at gas.exit events.exit words.exit floats.exit) }
+        (lent gas.old events.old words.old floats.old) (lent gas.new events.new words.new floats.new) }
 {
     let s = fill_all::fill_all(
         hot, settings, rows, marks, gases, gas, words, floats, events,
@@ -170,8 +170,8 @@ pub fn equalize(
     floats: &mut [f32],
     events: &mut [u8],
 ) -> EqualizeAnswer
-    ensures { record { answer = result; lent = lent_at gas.exit events.exit words.exit floats.exit }
-        ≡ equalize_result (board_at rows.entry marks.entry gases) (asked hot.now settings) turns.now (lent_at gas.entry events.entry words.entry floats.entry) }
+    ensures { record { answer = result; lent = lent gas.new events.new words.new floats.new }
+        ≡ equalize_result (board_at rows.entry marks.entry gases) (asked hot.now settings) turns.now (lent gas.old events.old words.old floats.old) }
 {
     let extra = lent_equalize::extra_tests(hot, turns.len(), settings.threshold);
     let number = lent::refusal(

@@ -11,7 +11,7 @@ ghost use Rattle.basics.specs.Lists.{Found};
 ghost use Rattle.rules_mixture.specs.Mixture.{total};
 ghost use Rattle.rules_plan.specs.Edges.{alter};
 ghost use Rattle.turfs.specs.Tables.{board_at};
-ghost use Rattle.finish_send.specs.Areas.{finish_areas_at};
+ghost use Rattle.finish_send.specs.Areas.{finish_areas};
 ghost use Rattle.finish_send.specs.Sending.{on_side, is_marked, Next, lift_at, zero_at, shared, MoveFits, SendFits, Sends, Going, SentOver};
 
 use basics::Spot;
@@ -198,9 +198,9 @@ fn send(
     floats: &mut [f32],
     events: &mut [u8],
 ) -> usize
-    requires fact { let b = board_at rows marks turf.gases in SendFits b turf.row load.link turf.zone load.amount words.now (finish_areas_at gas floats events used) }
+    requires fact { let b = board_at rows marks turf.gases in SendFits b turf.row load.link turf.zone load.amount words.now (finish_areas gas.old floats.old events.old used) }
     requires has_value { load.has ≡ total (board_at rows marks turf.gases) gas.old turf.row }
-    ensures { let b = board_at rows.entry marks.entry turf.gases in Sends b turf.row load.link turf.zone load.amount words.now (finish_areas_at gas.entry floats.entry events.entry used) (finish_areas_at gas.exit floats.exit events.exit result) }
+    ensures { let b = board_at rows.entry marks.entry turf.gases in Sends b turf.row load.link turf.zone load.amount words.now (finish_areas gas.old floats.old events.old used) (finish_areas gas.new floats.new events.new result) }
 {
     let ids = rows[IDS];
     let neighbours = rows[NEIGHBOURS];
@@ -238,8 +238,8 @@ pub fn send_edges(
     floats: &mut [f32],
     events: &mut [u8],
 ) -> Sent
-    requires { Going (board_at rows marks turf.gases) words.now turf.zone turf.row links.from links.to (finish_areas_at gas floats events used) }
-    ensures { let b = board_at rows.entry marks.entry turf.gases in SentOver b words.now turf links (finish_areas_at gas.entry floats.entry events.entry used) result.at (finish_areas_at gas.exit floats.exit events.exit result.used) }
+    requires { Going (board_at rows marks turf.gases) words.now turf.zone turf.row links.from links.to (finish_areas gas.old floats.old events.old used) }
+    ensures { let b = board_at rows.entry marks.entry turf.gases in SentOver b words.now turf links (finish_areas gas.old floats.old events.old used) result.at (finish_areas gas.new floats.new events.new result.used) }
 {
     let zone = turf.zone;
     let to = links.to;

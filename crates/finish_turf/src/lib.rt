@@ -5,7 +5,7 @@
 
 ghost use Rattle.std.specs.Prelude.{◌≡◌, ◌<◌};
 ghost use Rattle.turfs.specs.Tables.{board_at};
-ghost use Rattle.finish_send.specs.Areas.{finish_areas_at};
+ghost use Rattle.finish_send.specs.Areas.{finish_areas};
 ghost use Rattle.finish_send.specs.Sending.{Going};
 ghost use Rattle.finish_turf.specs.Finishing.{TurfBegun, TurfDone, GiversDone, links_end, SentFirst, SentRest};
 
@@ -23,8 +23,8 @@ fn send_first(
     floats: &mut [f32],
     events: &mut [u8],
 ) -> Sent
-    requires { TurfBegun (board_at rows marks turf.gases) words.now turf.zone turf.row (finish_areas_at gas floats events used) }
-    ensures { let b = board_at rows.entry marks.entry turf.gases in SentFirst b words.now turf.zone turf.row result.at (finish_areas_at gas.entry floats.entry events.entry used) (finish_areas_at gas.exit floats.exit events.exit result.used) }
+    requires { TurfBegun (board_at rows marks turf.gases) words.now turf.zone turf.row (finish_areas gas.old floats.old events.old used) }
+    ensures { let b = board_at rows.entry marks.entry turf.gases in SentFirst b words.now turf.zone turf.row result.at (finish_areas gas.old floats.old events.old used) (finish_areas gas.new floats.new events.new result.used) }
 {
     let zone = turf.zone;
     let links = turfs::links_of(rows[STARTS], turf.row);
@@ -56,8 +56,8 @@ fn send_rest(
     floats: &mut [f32],
     events: &mut [u8],
 ) -> usize
-    requires { let b = board_at rows marks turf.gases in Going b words.now turf.zone turf.row at (links_end b turf.row) (finish_areas_at gas floats events used) }
-    ensures { let b = board_at rows.entry marks.entry turf.gases in SentRest b words.now turf.zone turf.row at (finish_areas_at gas.entry floats.entry events.entry used) (finish_areas_at gas.exit floats.exit events.exit result) }
+    requires { let b = board_at rows marks turf.gases in Going b words.now turf.zone turf.row at (links_end b turf.row) (finish_areas gas.old floats.old events.old used) }
+    ensures { let b = board_at rows.entry marks.entry turf.gases in SentRest b words.now turf.zone turf.row at (finish_areas gas.old floats.old events.old used) (finish_areas gas.new floats.new events.new result) }
 {
     let links = turfs::links_of(rows[STARTS], turf.row);
     let left = Span {
@@ -81,8 +81,8 @@ pub fn finalize_eq(
     floats: &mut [f32],
     events: &mut [u8],
 ) -> usize
-    requires { TurfBegun (board_at rows marks turf.gases) words.now turf.zone turf.row (finish_areas_at gas floats events used) }
-    ensures { let b = board_at rows.entry marks.entry turf.gases in TurfDone b words.now turf.zone turf.row (finish_areas_at gas.entry floats.entry events.entry used) (finish_areas_at gas.exit floats.exit events.exit result) }
+    requires { TurfBegun (board_at rows marks turf.gases) words.now turf.zone turf.row (finish_areas gas.old floats.old events.old used) }
+    ensures { let b = board_at rows.entry marks.entry turf.gases in TurfDone b words.now turf.zone turf.row (finish_areas gas.old floats.old events.old used) (finish_areas gas.new floats.new events.new result) }
 {
     let sent = send_first(turf, used, rows, marks, gas, words, floats, events);
     let links = turfs::links_of(rows[STARTS], turf.row);
@@ -106,8 +106,8 @@ fn finalize_eq_neighbors(
     floats: &mut [f32],
     events: &mut [u8],
 ) -> usize
-    requires { TurfBegun (board_at rows marks turf.gases) words.now turf.zone turf.row (finish_areas_at gas floats events used) }
-    ensures { let b = board_at rows.entry marks.entry turf.gases in GiversDone b words.now turf.zone turf.row (finish_areas_at gas.entry floats.entry events.entry used) (finish_areas_at gas.exit floats.exit events.exit result) }
+    requires { TurfBegun (board_at rows marks turf.gases) words.now turf.zone turf.row (finish_areas gas.old floats.old events.old used) }
+    ensures { let b = board_at rows.entry marks.entry turf.gases in GiversDone b words.now turf.zone turf.row (finish_areas gas.old floats.old events.old used) (finish_areas gas.new floats.new events.new result) }
 {
     let zone = turf.zone;
     let gases = turf.gases;

@@ -4,7 +4,7 @@
 ghost use Rattle.std.specs.Prelude.{◌≡◌};
 ghost use Rattle.rules_board.specs.Board.{turf_count, link_count};
 ghost use Rattle.turfs.specs.Tables.{board_at};
-ghost use Rattle.finish_send.specs.Areas.{finish_areas_at};
+ghost use Rattle.finish_send.specs.Areas.{finish_areas};
 ghost use Rattle.finish_zones.specs.Zones.{Laid, AllLaid, ZoneOpen, Live};
 ghost use Rattle.finish_turns.specs.Turning.{TurnsFit, Nexts, TurnOf, ByTurns, ZoneDone, Planned, FinishesAll};
 
@@ -30,9 +30,9 @@ fn finish_next(
     floats: &mut [f32],
     events: &mut [u8],
 ) -> usize
-    requires turns_fit { TurnsFit (board_at rows marks gases) words.old (finish_areas_at gas floats events used) }
+    requires turns_fit { TurnsFit (board_at rows marks gases) words.old (finish_areas gas.old floats.old events.old used) }
     requires fact { let b = board_at rows marks gases in ZoneOpen (turf_count b) (link_count b) words.old zone }
-    ensures { Nexts (board_at rows.entry marks.entry gases) zone words.old words.new (finish_areas_at gas.entry floats.entry events.entry used) (finish_areas_at gas.exit floats.exit events.exit result) }
+    ensures { Nexts (board_at rows.entry marks.entry gases) zone words.old words.new (finish_areas gas.old floats.old events.old used) (finish_areas gas.new floats.new events.new result) }
 {
     let n = rows[IDS].len();
     let e = rows[NEIGHBOURS].len();
@@ -58,10 +58,10 @@ fn turn(
     floats: &mut [f32],
     events: &mut [u8],
 ) -> Left
-    requires turns_fit { TurnsFit (board_at rows marks gases) words.old (finish_areas_at gas floats events left.used) }
+    requires turns_fit { TurnsFit (board_at rows marks gases) words.old (finish_areas gas.old floats.old events.old left.used) }
     requires fact { let b = board_at rows marks gases in Live (turf_count b) (link_count b) left.live words.old }
     ensures { let b = board_at rows.entry marks.entry gases in TurnOf b c left.live result.live
-        words.old words.new (finish_areas_at gas.entry floats.entry events.entry left.used) (finish_areas_at gas.exit floats.exit events.exit result.used) }
+        words.old words.new (finish_areas gas.old floats.old events.old left.used) (finish_areas gas.new floats.new events.new result.used) }
 {
     let n = rows[IDS].len();
     let e = rows[NEIGHBOURS].len();
@@ -88,9 +88,9 @@ fn by_turns(
     floats: &mut [f32],
     events: &mut [u8],
 ) -> usize
-    requires turns_fit { TurnsFit (board_at rows marks gases) words.old (finish_areas_at gas floats events used) }
+    requires turns_fit { TurnsFit (board_at rows marks gases) words.old (finish_areas gas.old floats.old events.old used) }
     requires fact { let b = board_at rows marks gases in AllLaid (turf_count b) (link_count b) zones words.old }
-    ensures { ByTurns (board_at rows.entry marks.entry gases) zones turns.now words.old words.new (finish_areas_at gas.entry floats.entry events.entry used) (finish_areas_at gas.exit floats.exit events.exit result) }
+    ensures { ByTurns (board_at rows.entry marks.entry gases) zones turns.now words.old words.new (finish_areas gas.old floats.old events.old used) (finish_areas gas.new floats.new events.new result) }
 {
     let mut live = finish_live::start(zones, rows[IDS].len(), rows[NEIGHBOURS].len(), words);
     let mut now = used;
@@ -122,9 +122,9 @@ fn finish_zone(
     floats: &mut [f32],
     events: &mut [u8],
 ) -> usize
-    requires turns_fit { TurnsFit (board_at rows marks gases) words.old (finish_areas_at gas floats events used) }
+    requires turns_fit { TurnsFit (board_at rows marks gases) words.old (finish_areas gas.old floats.old events.old used) }
     requires fact { let b = board_at rows marks gases in Laid (turf_count b) (link_count b) words.old zone }
-    ensures { ZoneDone (board_at rows.entry marks.entry gases) zone words.old words.new (finish_areas_at gas.entry floats.entry events.entry used) (finish_areas_at gas.exit floats.exit events.exit result) }
+    ensures { ZoneDone (board_at rows.entry marks.entry gases) zone words.old words.new (finish_areas gas.old floats.old events.old used) (finish_areas gas.new floats.new events.new result) }
 {
     let n = rows[IDS].len();
     let e = rows[NEIGHBOURS].len();
@@ -151,8 +151,8 @@ pub fn finish_all(
     floats: &mut [f32],
     events: &mut [u8],
 ) -> usize
-    requires { Planned (board_at rows marks gases) zones words.old (finish_areas_at gas floats events used) }
-    ensures { FinishesAll (board_at rows.entry marks.entry gases) zones turns.now words.old words.new (finish_areas_at gas.entry floats.entry events.entry used) (finish_areas_at gas.exit floats.exit events.exit result) }
+    requires { Planned (board_at rows marks gases) zones words.old (finish_areas gas.old floats.old events.old used) }
+    ensures { FinishesAll (board_at rows.entry marks.entry gases) zones turns.now words.old words.new (finish_areas gas.old floats.old events.old used) (finish_areas gas.new floats.new events.new result) }
 {
     let mut now = by_turns(
         zones, turns, used, rows, marks, gases, gas, words, floats, events,

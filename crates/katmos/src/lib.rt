@@ -2,7 +2,7 @@
 #![tactic(auto)]
 
 ghost use Rattle.rules_board.specs.Board.{board};
-ghost use Rattle.lent.specs.Given.{lent_at};
+ghost use Rattle.lent.specs.Given.{lent};
 ghost use Rattle.rules_equalize.specs.Equalize.{ask_of};
 ghost use Rattle.rules_equalize.specs.Result.{equalize_result};
 ghost use Rattle.rules_planet.specs.Planet.{planet_result};
@@ -37,7 +37,7 @@ pub extern "C" fn katmos_equalize<'a>(
 ) -> u32
     ensures { let b = board ids.now flags.now planetary.now mixtures.now starts.now neighbours.now link_flags.now immutable.now gases in
         Answers equalize_numbers b (equalize_result b (ask_of hot.now threshold limit allowance) turns.now
-        (lent_at amounts.entry events.entry words.entry floats.entry)) result answer.new (lent_at amounts.exit events.exit words.exit floats.exit) }
+        (lent amounts.old events.old words.old floats.old)) result answer.new (lent amounts.new events.new words.new floats.new) }
 {
     let rows = [ids, mixtures, starts, neighbours];
     let marks = [flags, planetary, link_flags, immutable];
@@ -74,7 +74,7 @@ pub extern "C" fn katmos_planet_walk<'a>(
     answer: &mut [u32; 2],
 ) -> u32
     ensures { let b = board ids.now flags.now planetary.now mixtures.now starts.now neighbours.now link_flags.now immutable.now gases in
-        Answers planet_numbers b (planet_result b limit id (lent_at amounts.entry events.entry words.entry floats.entry)) result answer.new (lent_at amounts.entry events.exit words.exit floats.exit) }
+        Answers planet_numbers b (planet_result b limit id (lent amounts.now events.old words.old floats.old)) result answer.new (lent amounts.now events.new words.new floats.new) }
 {
     let rows = [ids, mixtures, starts, neighbours];
     let marks = [flags, planetary, link_flags, immutable];
@@ -107,7 +107,7 @@ pub extern "C" fn katmos_depressurize<'a>(
     answer: &mut [u32; 3],
 ) -> u32
     ensures { let b = board ids.now flags.now planetary.now mixtures.now starts.now neighbours.now link_flags.now immutable.now gases in
-        Answers depressurize_numbers b (depressurize_result b (breach_of id limit arrows) (lent_at amounts.entry events.entry words.entry floats.entry)) result answer.new (lent_at amounts.exit events.exit words.exit floats.exit) }
+        Answers depressurize_numbers b (depressurize_result b (breach_of id limit arrows) (lent amounts.old events.old words.old floats.old)) result answer.new (lent amounts.new events.new words.new floats.new) }
 {
     let rows = [ids, mixtures, starts, neighbours];
     let marks = [flags, planetary, link_flags, immutable];

@@ -58,7 +58,7 @@ module _ {A : Type 0} (p : A → Bool) (d : A) (none : T (p d) → ⊥) where
           → ((i : ℕ) × T (p (get_or (x ∷ xs) i d))) ⊎ ((i : ℕ) → T (p (get_or (x ∷ xs) i d)) → ⊥)
       go true e r = inl (0, subst T (sym e) tt)
       go false e (inl w) = inl (suc w.0, w.1)
-      go false e (inr u) = inr (λ i. elim i [ zero ↦ λ h. subst T e h | suc j ↦ λ h. u j h ])
+      go false e (inr u) = inr (λ i. elim i as (λ k. T (p (get_or (x ∷ xs) k d)) → ⊥) [ zero ↦ λ h. subst T e h | suc j ↦ λ h. u j h ])
 
 -- ---- the theorem
 

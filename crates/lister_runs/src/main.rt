@@ -1,6 +1,9 @@
 // The lister's rules, one stored input each, listed one after the other with a line of dashes between.
 #![tactic(auto)]
 
+use std::io;
+use std::io::Write;
+
 const BETWEEN: [u8; 3] = [b'-', b'-', 10];
 
 // An event of each kind: an id of ten digits, an amount with every hex digit among them.
@@ -37,22 +40,23 @@ const TORN: [u8; 19] = [8, 0, 2, 0, 5, 0, 0, 0, 12, 0, 4, 0, 1, 0, 0, 0, 2, 0, 0
 const HEAD: [u8; 11] = [8, 0, 2, 0, 5, 0, 0, 0, 12, 0, 4];
 
 // Lists an input, and a line behind it.
-fn show(input: &[u8]) {
-    listing::print(input);
-    io::write_all(libc::STDOUT_FILENO, &BETWEEN);
+fn show<W: Write>(out: &mut W, input: &[u8]) -> io::Result<()> {
+    listing::print(out, input)?;
+    out.write_all(&BETWEEN)
 }
 
 // Each input in turn.
-fn main() {
-    show(&KINDS);
-    show(&PRESSURE);
-    show(&UNKNOWN);
-    show(&UNFIT);
-    show(&INFINITE);
-    show(&NAN);
-    show(&TORN);
-    show(&HEAD);
-    show(&KINDS[..0]);
-    show(&[0u8; 65_536]);
-    show(&[0u8; 65_537]);
+fn main(rt: HostRuntime) -> io::Result<()> {
+    let mut out = io::writer(&rt);
+    show(&mut out, &KINDS)?;
+    show(&mut out, &PRESSURE)?;
+    show(&mut out, &UNKNOWN)?;
+    show(&mut out, &UNFIT)?;
+    show(&mut out, &INFINITE)?;
+    show(&mut out, &NAN)?;
+    show(&mut out, &TORN)?;
+    show(&mut out, &HEAD)?;
+    show(&mut out, &KINDS[..0])?;
+    show(&mut out, &[0u8; 65_536])?;
+    show(&mut out, &[0u8; 65_537])
 }

@@ -7,7 +7,7 @@ ghost use Rattle.rules_board.specs.Board.{turf_count, link_count};
 ghost use Rattle.turfs.specs.Tables.{board_at};
 ghost use Rattle.rules_plan.specs.Plan.{planned_zone};
 ghost use Rattle.reverse_links.specs.Reverse.{Reverses};
-ghost use Rattle.plan_state.specs.Held.{area_at, plan_view, PlanFits};
+ghost use Rattle.plan_state.specs.Held.{area, plan_view, PlanFits};
 ghost use Rattle.plan_zone.specs.Zone.{Plans};
 ghost use Rattle.plan_all.specs.Zones.{zone_held, Plannable, Zoned, Blanks, plan_zones, PlansAll, ZoneAtFits};
 
@@ -16,8 +16,8 @@ use turfs::{IDS, Marks, NEIGHBOURS, Rows, STARTS};
 
 // Nothing is planned yet: no weights, no planning state.
 fn clear_plan(n: usize, e: usize, words: &mut [u32], floats: &mut [f32])
-    requires { PlanFits n e (area_at words floats) }
-    ensures { Blanks n e (area_at words.entry floats.entry) (area_at words.exit floats.exit) }
+    requires { PlanFits n e (area words.old floats.old) }
+    ensures { Blanks n e (area words.old floats.old) (area words.new floats.new) }
 {
     let pairs = scratch::direction_at(0, e);
     let fast = scratch::fast_at(0, n, e);
@@ -37,8 +37,8 @@ fn plan_zone_at(
     words: &mut [u32],
     floats: &mut [f32],
 )
-    requires { ZoneAtFits (board_at rows marks gases) z gas.now (area_at words floats) }
-    ensures { let b = board_at rows.entry marks.entry gases in let a = area_at words.entry floats.entry in Plans (turf_count b) (link_count b) (λ o p. planned_zone b o z gas.now (zone_held b a z).nodes (zone_held b a z).moles p) a (area_at words.exit floats.exit) }
+    requires { ZoneAtFits (board_at rows marks gases) z gas.now (area words.old floats.old) }
+    ensures { let b = board_at rows.entry marks.entry gases in let a = area words.old floats.old in Plans (turf_count b) (link_count b) (λ o p. planned_zone b o z gas.now (zone_held b a z).nodes (zone_held b a z).moles p) a (area words.new floats.new) }
 {
     let ids = rows[IDS];
     let neighbours = rows[NEIGHBOURS];
@@ -71,8 +71,8 @@ fn plan_zones(
 )
     requires plannable { Plannable (board_at rows marks gases) gas.now }
     requires fact { let b = board_at rows marks gases in Zoned (turf_count b) (link_count b) zones words.old floats.old }
-    requires fact_2 { let b = board_at rows marks gases in Reverses b (turf_count b) (plan_view (turf_count b) (link_count b) (area_at words floats)).reverse }
-    ensures { let b = board_at rows.entry marks.entry gases in let a = area_at words.entry floats.entry in Plans (turf_count b) (link_count b) (plan_zones b gas.now (zone_held b a) (up_from 0 zones)) a (area_at words.exit floats.exit) }
+    requires fact_2 { let b = board_at rows marks gases in Reverses b (turf_count b) (plan_view (turf_count b) (link_count b) (area words.old floats.old)).reverse }
+    ensures { let b = board_at rows.entry marks.entry gases in let a = area words.old floats.old in Plans (turf_count b) (link_count b) (plan_zones b gas.now (zone_held b a) (up_from 0 zones)) a (area words.new floats.new) }
 {
     let mut z = 0;
     while z < zones {

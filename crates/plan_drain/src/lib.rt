@@ -3,7 +3,7 @@
 
 ghost use Rattle.std.specs.Prelude.{reverse, ◌-◌, take, drop};
 ghost use Rattle.basics.specs.Loops.{run};
-ghost use Rattle.plan_state.specs.Held.{area_at, plan_view, PlanDoes, EdgeMoveFits};
+ghost use Rattle.plan_state.specs.Held.{area, plan_view, PlanDoes, EdgeMoveFits};
 ghost use Rattle.plan_trade.specs.Steps.{hand_on, drain_via};
 ghost use Rattle.plan_drain.specs.Drain.{DrainTurfFits, DrainFits};
 
@@ -22,8 +22,8 @@ fn hand_on(
     words: &[u32],
     floats: &mut [f32],
 )
-    requires { EdgeMoveFits n e r d there back (area_at words floats) }
-    ensures { PlanDoes n e (λ o p. hand_on there back r d p) (area_at words.entry floats.entry) (area_at words.exit floats.exit) }
+    requires { EdgeMoveFits n e r d there back (area words.now floats.old) }
+    ensures { PlanDoes n e (λ o p. hand_on there back r d p) (area words.now floats.old) (area words.now floats.new) }
 {
     let from = scratch::amount_at(r, e);
     let to = scratch::amount_at(d, e);
@@ -35,8 +35,8 @@ fn hand_on(
 
 // The turf r of the queue, on the way back.
 fn drain_turf(r: u32, z: u32, n: usize, e: usize, words: &[u32], floats: &mut [f32])
-    requires { DrainTurfFits r z n e (area_at words floats) }
-    ensures { let v = plan_view n e (area_at words.entry floats.entry) in PlanDoes n e (λ o p. drain_via v.reverse v.via z o r p) (area_at words.entry floats.entry) (area_at words.exit floats.exit) }
+    requires { DrainTurfFits r z n e (area words.now floats.old) }
+    ensures { let v = plan_view n e (area words.now floats.old) in PlanDoes n e (λ o p. drain_via v.reverse v.via z o r p) (area words.now floats.old) (area words.now floats.new) }
 {
     let row = r as usize;
     let i = load(row, n, e, words, floats);
@@ -53,8 +53,8 @@ fn drain_turf(r: u32, z: u32, n: usize, e: usize, words: &[u32], floats: &mut [f
 
 // The rows of the queue from the place `to` back to the place `from`.
 pub fn drain(from: usize, to: usize, z: u32, n: usize, e: usize, words: &[u32], floats: &mut [f32])
-    requires { DrainFits to z n e (area_at words floats) }
-    ensures { let v = plan_view n e (area_at words.entry floats.entry) in PlanDoes n e (λ o p. run (drain_via v.reverse v.via z o) (reverse (take (to - from) (drop from v.queue))) p) (area_at words.entry floats.entry) (area_at words.exit floats.exit) }
+    requires { DrainFits to z n e (area words.now floats.old) }
+    ensures { let v = plan_view n e (area words.now floats.old) in PlanDoes n e (λ o p. run (drain_via v.reverse v.via z o) (reverse (take (to - from) (drop from v.queue))) p) (area words.now floats.old) (area words.now floats.new) }
 {
     let queue = scratch::queue_at(n, e);
     let mut i = to;

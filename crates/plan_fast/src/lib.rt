@@ -6,7 +6,7 @@ ghost use Rattle.basics.specs.Loops.{run, up_from};
 ghost use Rattle.scratch.specs.View.{owner_in, fast_in};
 ghost use Rattle.turfs.specs.Tables.{board_at};
 ghost use Rattle.rules_plan.specs.Plan.{fast_turf};
-ghost use Rattle.plan_state.specs.Held.{area_at, plan_view, Planning, PlanDoes, Nodes, nodes_in_hand, EdgeMoveFits};
+ghost use Rattle.plan_state.specs.Held.{area, plan_view, Planning, PlanDoes, Nodes, nodes_in_hand, EdgeMoveFits};
 ghost use Rattle.plan_fast.specs.Steps.{tally_step, move_at, share_over};
 ghost use Rattle.plan_fast.specs.Fits.{TallyFits, EligibleFits, FastLinkFits, FastRowFits};
 
@@ -64,8 +64,8 @@ pub struct Share {
 
 // The share moves to the neighbour a, over the edges at hand.
 fn fast_move(share: Share, there: Spot, back: Spot, a: usize, words: &[u32], floats: &mut [f32])
-    requires { EdgeMoveFits share.n share.e share.r a there back (area_at words floats) }
-    ensures { PlanDoes share.n share.e (λ o p. move_at there back share.r share.x a p) (area_at words.entry floats.entry) (area_at words.exit floats.exit) }
+    requires { EdgeMoveFits share.n share.e share.r a there back (area words.now floats.old) }
+    ensures { PlanDoes share.n share.e (λ o p. move_at there back share.r share.x a p) (area words.now floats.old) (area words.now floats.new) }
 {
     let r = share.r;
     let x = share.x;
@@ -79,8 +79,8 @@ fn fast_move(share: Share, there: Spot, back: Spot, a: usize, words: &[u32], flo
 
 // The link k of the giver: its share moves if the turf at the end has no fast mark.
 fn fast_link(share: Share, k: usize, neighbours: &[u32], words: &[u32], floats: &mut [f32])
-    requires { FastLinkFits share k neighbours.now (area_at words floats) }
-    ensures { let a = area_at words.entry floats.entry in let rev = (plan_view share.n share.e a).reverse in PlanDoes share.n share.e (λ o p. share_over share neighbours.now rev o k p) a (area_at words.exit floats.exit) }
+    requires { FastLinkFits share k neighbours.now (area words.now floats.old) }
+    ensures { let a = area words.now floats.old in let rev = (plan_view share.n share.e a).reverse in PlanDoes share.n share.e (λ o p. share_over share neighbours.now rev o k p) a (area words.now floats.new) }
 {
     let z = share.z;
     let n = share.n;
@@ -105,8 +105,8 @@ fn fast_row(
     words: &[u32],
     floats: &mut [f32],
 )
-    requires { FastRowFits share from to neighbours.now (area_at words floats) }
-    ensures { let a = area_at words.entry floats.entry in let rev = (plan_view share.n share.e a).reverse in PlanDoes share.n share.e (λ o p. run (share_over share neighbours.now rev o) (up_from from (to - from)) p) a (area_at words.exit floats.exit) }
+    requires { FastRowFits share from to neighbours.now (area words.now floats.old) }
+    ensures { let a = area words.now floats.old in let rev = (plan_view share.n share.e a).reverse in PlanDoes share.n share.e (λ o p. run (share_over share neighbours.now rev o) (up_from from (to - from)) p) a (area words.now floats.new) }
 {
     let mut k = from;
     while k < to {
@@ -125,9 +125,9 @@ fn fast_turf(
     words: &mut [u32],
     floats: &mut [f32],
 )
-    requires planning { Planning (board_at rows marks gases) zone.n zone.e zone.z (area_at words floats) }
+    requires planning { Planning (board_at rows marks gases) zone.n zone.e zone.z (area words.old floats.old) }
     requires r_lt_n { r < zone.n }
-    ensures { let b = board_at rows.entry marks.entry gases in PlanDoes zone.n zone.e (λ o p. fast_turf b o zone.z r p) (area_at words.entry floats.entry) (area_at words.exit floats.exit) }
+    ensures { let b = board_at rows.entry marks.entry gases in PlanDoes zone.n zone.e (λ o p. fast_turf b o zone.z r p) (area words.old floats.old) (area words.new floats.new) }
 {
     let z = zone.z;
     let n = zone.n;
@@ -162,9 +162,9 @@ pub fn fast_all(
     words: &mut [u32],
     floats: &mut [f32],
 )
-    requires planning { Planning (board_at rows marks gases) zone.n zone.e zone.z (area_at words floats) }
-    requires nodes { Nodes zone.n zone.e zone.first zone.count (area_at words floats) }
-    ensures { let b = board_at rows.entry marks.entry gases in let a = area_at words.entry floats.entry in PlanDoes zone.n zone.e (λ o p. run (fast_turf b o zone.z) (nodes_in_hand zone a) p) a (area_at words.exit floats.exit) }
+    requires planning { Planning (board_at rows marks gases) zone.n zone.e zone.z (area words.old floats.old) }
+    requires nodes { Nodes zone.n zone.e zone.first zone.count (area words.old floats.old) }
+    ensures { let b = board_at rows.entry marks.entry gases in let a = area words.old floats.old in PlanDoes zone.n zone.e (λ o p. run (fast_turf b o zone.z) (nodes_in_hand zone a) p) a (area words.new floats.new) }
 {
     let first = zone.first;
     let count = zone.count;

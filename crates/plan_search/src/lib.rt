@@ -6,7 +6,7 @@ ghost use Rattle.std.specs.Prelude.{◌-◌, ◌≤◌, ◌<◌};
 ghost use Rattle.basics.specs.Loops.{run, times, up_from};
 ghost use Rattle.turfs.specs.Tables.{board_at};
 ghost use Rattle.rules_plan.specs.Plan.{seek_next, serve};
-ghost use Rattle.plan_state.specs.Held.{area_at, plan_view, Ends, Planning, Serves};
+ghost use Rattle.plan_state.specs.Held.{area, plan_view, Ends, Planning, Serves};
 ghost use Rattle.plan_trade.specs.Search.{Searched, AllMet, Idle};
 ghost use Rattle.plan_trade.specs.Steps.{along};
 ghost use Rattle.plan_trade.specs.Hands.{Searching, along_all, SearchGoes, GoesTurf, PassesBy};
@@ -38,12 +38,12 @@ fn pass_links(
     words: &mut [u32],
     floats: &mut [f32],
 ) -> Pass
-    requires searching { Searching hand count (area_at words floats) }
+    requires searching { Searching hand count (area words.old floats.old) }
     requires ends { Ends hand.n hand.e r to neighbours.now }
     requires at_le_to { at ≤ to }
     ensures at_le_at { at ≤ result.at }
     ensures at_le_to_2 { result.at ≤ to }
-    ensures fact { let ends = neighbours.now in PassesBy hand (λ g o s. run (along hand.side g r ends hand.z o) (up_from at (result.at - at)) s) r at to ends count result.count (area_at words.entry floats.entry) (area_at words.exit floats.exit) }
+    ensures fact { let ends = neighbours.now in PassesBy hand (λ g o s. run (along hand.side g r ends hand.z o) (up_from at (result.at - at)) s) r at to ends count result.count (area words.old floats.old) (area words.new floats.new) }
 {
     let mut c = count;
     let mut k = at;
@@ -69,8 +69,8 @@ fn seek_row(
     words: &mut [u32],
     floats: &mut [f32],
 ) -> Reach
-    requires { SeekRowFits hand r from to reach.count neighbours.now (area_at words floats) }
-    ensures { let ends = neighbours.now in SearchGoes hand r from to ends (along_all hand r ends from to) reach.count reach.first result.count result.first (area_at words.entry floats.entry) (area_at words.exit floats.exit) }
+    requires { SeekRowFits hand r from to reach.count neighbours.now (area words.old floats.old) }
+    ensures { let ends = neighbours.now in SearchGoes hand r from to ends (along_all hand r ends from to) reach.count reach.first result.count result.first (area words.old floats.old) (area words.new floats.new) }
 {
     let mut c = reach.count;
     let mut f = reach.first;
@@ -103,8 +103,8 @@ fn seek_turf(
     words: &mut [u32],
     floats: &mut [f32],
 ) -> Reach
-    requires { SeekTurfFits hand r reach.count starts.now neighbours.now (area_at words floats) }
-    ensures { GoesTurf hand r starts.now neighbours.now reach.count reach.first result.count result.first (area_at words.entry floats.entry) (area_at words.exit floats.exit) }
+    requires { SeekTurfFits hand r reach.count starts.now neighbours.now (area words.old floats.old) }
+    ensures { GoesTurf hand r starts.now neighbours.now reach.count reach.first result.count result.first (area words.old floats.old) (area words.new floats.new) }
 {
     let row = r as usize;
     let from = starts[row] as usize;
@@ -129,10 +129,10 @@ fn seek(
     words: &mut [u32],
     floats: &mut [f32],
 ) -> Sweep
-    requires { SeekFits (board_at rows marks gases) hand (area_at words floats) }
-    ensures fact { let b = board_at rows.entry marks.entry gases in Searched hand.n hand.e (λ o s. times (seek_next b o hand.z hand.side hand.g) hand.n s) 1 result.count result.looked (area_at words.entry floats.entry) (area_at words.exit floats.exit) }
-    ensures fact_2 { let b = board_at rows.entry marks.entry gases in AllMet hand.n hand.z b.starts b.neighbours (plan_view hand.n hand.e (area_at words.exit floats.exit)) result.count }
-    ensures idle { Idle (plan_view hand.n hand.e (area_at words.exit floats.exit)) result.count result.first }
+    requires { SeekFits (board_at rows marks gases) hand (area words.old floats.old) }
+    ensures fact { let b = board_at rows.entry marks.entry gases in Searched hand.n hand.e (λ o s. times (seek_next b o hand.z hand.side hand.g) hand.n s) 1 result.count result.looked (area words.old floats.old) (area words.new floats.new) }
+    ensures fact_2 { let b = board_at rows.entry marks.entry gases in AllMet hand.n hand.z b.starts b.neighbours (plan_view hand.n hand.e (area words.new floats.new)) result.count }
+    ensures idle { Idle (plan_view hand.n hand.e (area words.new floats.new)) result.count result.first }
 {
     let side = hand.side;
     let g = hand.g;
@@ -176,9 +176,9 @@ pub fn serve(
     words: &mut [u32],
     floats: &mut [f32],
 )
-    requires planning { Planning (board_at rows marks gases) hand.n hand.e hand.z (area_at words floats) }
+    requires planning { Planning (board_at rows marks gases) hand.n hand.e hand.z (area words.old floats.old) }
     requires g_lt_n { hand.g < hand.n }
-    ensures { let b = board_at rows.entry marks.entry gases in Serves hand.n hand.e (λ o p. serve b o hand.z hand.side hand.g p) (area_at words.entry floats.entry) (area_at words.exit floats.exit) }
+    ensures { let b = board_at rows.entry marks.entry gases in Serves hand.n hand.e (λ o p. serve b o hand.z hand.side hand.g p) (area words.old floats.old) (area words.new floats.new) }
 {
     let g = hand.g;
     let z = hand.z;

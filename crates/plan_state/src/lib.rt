@@ -3,7 +3,7 @@
 
 ghost use Rattle.std.specs.Prelude.{◌≡◌, ◌<◌};
 ghost use Rattle.rules_plan.specs.Plan.{load, store};
-ghost use Rattle.plan_state.specs.Held.{area_at, plan_view, PlanFits, PlanDoes};
+ghost use Rattle.plan_state.specs.Held.{area, area_at, plan_view, PlanFits, PlanDoes};
 
 use rules_plan::MonstermosInfo;
 
@@ -41,9 +41,9 @@ pub fn store(
     words: &mut [u32],
     floats: &mut [f32],
 )
-    requires plan_fits { PlanFits n e (area_at words floats) }
+    requires plan_fits { PlanFits n e (area words.old floats.old) }
     requires row_lt_n { row < n }
-    ensures { PlanDoes n e (λ o p. store p row info) (area_at words.entry floats.entry) (area_at words.exit floats.exit) }
+    ensures { PlanDoes n e (λ o p. store p row info) (area words.old floats.old) (area words.new floats.new) }
 {
     floats[scratch::delta_at(row, e)] = info.delta;
     floats[scratch::amount_at(row, e)] = info.amount;

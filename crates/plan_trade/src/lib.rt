@@ -5,7 +5,7 @@ ghost use Rattle.std.specs.Prelude.{◌≡◌, true, false, cond, ◌+◌, ◌�
 ghost use Rattle.std.specs.Float.{nan};
 ghost use Rattle.scratch.specs.Layout.{delta_at};
 ghost use Rattle.rules_plan.specs.Plan.{settled, wants, trade, meet};
-ghost use Rattle.plan_state.specs.Held.{area_at, plan_view, PlanFits, Ends, PlanDoes};
+ghost use Rattle.plan_state.specs.Held.{area, plan_view, PlanFits, Ends, PlanDoes};
 ghost use Rattle.plan_trade.specs.Steps.{lesser, bargain, point, along};
 ghost use Rattle.plan_trade.specs.Hands.{Searching, Unsettled, SearchGoes, PassesBy};
 ghost use Rattle.plan_trade.specs.Search.{MeetFits};
@@ -71,10 +71,10 @@ pub fn trade(
     words: &mut [u32],
     floats: &mut [f32],
 )
-    requires plan_fits { PlanFits n e (area_at words floats) }
+    requires plan_fits { PlanFits n e (area words.old floats.old) }
     requires g_lt_n { g < n }
     requires a_lt_n { a < n }
-    ensures { PlanDoes n e (λ o p. trade side g a p) (area_at words.entry floats.entry) (area_at words.exit floats.exit) }
+    ensures { PlanDoes n e (λ o p. trade side g a p) (area words.old floats.old) (area words.new floats.new) }
 {
     let hand = load(g, n, e, words, floats);
     let met = load(a, n, e, words, floats);
@@ -95,9 +95,9 @@ fn wants_at(side: Side, row: usize, e: usize, floats: &[f32]) -> bool
 
 // The turf at row a points at d - 1, and has moved nothing yet.
 pub fn point(a: usize, d: u32, n: usize, e: usize, words: &mut [u32], floats: &mut [f32])
-    requires plan_fits { PlanFits n e (area_at words floats) }
+    requires plan_fits { PlanFits n e (area words.old floats.old) }
     requires a_lt_n { a < n }
-    ensures { PlanDoes n e (λ o p. point a d p) (area_at words.entry floats.entry) (area_at words.exit floats.exit) }
+    ensures { PlanDoes n e (λ o p. point a d p) (area words.old floats.old) (area words.new floats.new) }
 {
     words[scratch::direction_at(a, e)] = d;
     floats[scratch::amount_at(a, e)] = 0.0;
@@ -114,9 +114,9 @@ pub fn meet(
     words: &mut [u32],
     floats: &mut [f32],
 ) -> bool
-    requires { MeetFits g r a n e (area_at words floats) }
-    ensures plan_does { PlanDoes n e (λ o p. meet side g r a p) (area_at words.entry floats.entry) (area_at words.exit floats.exit) }
-    ensures value { result ≡ wants side (get_or (plan_view n e (area_at words.entry floats.entry)).plan.delta a nan) }
+    requires { MeetFits g r a n e (area words.old floats.old) }
+    ensures plan_does { PlanDoes n e (λ o p. meet side g r a p) (area words.old floats.old) (area words.new floats.new) }
+    ensures value { result ≡ wants side (get_or (plan_view n e (area words.old floats.old)).plan.delta a nan) }
 {
     point(a, r + 1, n, e, words, floats);
     let can = wants_at(side, a, e, floats);
@@ -193,10 +193,10 @@ pub fn seek_link(
     words: &mut [u32],
     floats: &mut [f32],
 ) -> Step
-    requires searching { Searching hand reach.count (area_at words floats) }
-    requires unsettled { Unsettled hand (area_at words floats) }
+    requires searching { Searching hand reach.count (area words.old floats.old) }
+    requires unsettled { Unsettled hand (area words.old floats.old) }
     requires ends { Ends hand.n hand.e r (k + 1) neighbours.now }
-    ensures fact { let ends = neighbours.now in SearchGoes hand r k (k + 1) ends (λ o t. along hand.side hand.g r ends hand.z o k t) reach.count reach.first result.count result.first (area_at words.entry floats.entry) (area_at words.exit floats.exit) }
+    ensures fact { let ends = neighbours.now in SearchGoes hand r k (k + 1) ends (λ o t. along hand.side hand.g r ends hand.z o k t) reach.count reach.first result.count result.first (area words.old floats.old) (area words.new floats.new) }
     ensures done_value { result.done ≡ settled hand.side (get_or floats.new (delta_at hand.g hand.e) nan) }
 {
     let side = hand.side;
@@ -251,10 +251,10 @@ pub fn pass_link(
     words: &mut [u32],
     floats: &mut [f32],
 ) -> Passed
-    requires searching { Searching hand count (area_at words floats) }
+    requires searching { Searching hand count (area words.old floats.old) }
     requires ends { Ends hand.n hand.e r (k + 1) neighbours.now }
-    ensures floats_value { result.wants ≡ true → area_at words.exit floats.exit ≡ area_at words.entry floats.entry }
-    ensures fact { let ends = neighbours.now in (result.wants ≡ false → PassesBy hand (λ g o s. along hand.side g r ends hand.z o k s) r k (k + 1) ends count result.count (area_at words.entry floats.entry) (area_at words.exit floats.exit)) }
+    ensures floats_value { result.wants ≡ true → area words.new floats.new ≡ area words.old floats.old }
+    ensures fact { let ends = neighbours.now in (result.wants ≡ false → PassesBy hand (λ g o s. along hand.side g r ends hand.z o k s) r k (k + 1) ends count result.count (area words.old floats.old) (area words.new floats.new)) }
 {
     let side = hand.side;
     let z = hand.z;

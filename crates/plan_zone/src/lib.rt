@@ -10,7 +10,7 @@ ghost use Rattle.turfs.specs.Tables.{board_at};
 ghost use Rattle.rules_plan.specs.Plan.{store, picks, chosen, serve, fast_pass, share_out, deltas, planned_zone};
 ghost use Rattle.rules_plan.specs.declared.Side.TheVariants.{Giving};
 ghost use Rattle.index_set.specs.Line.{Below};
-ghost use Rattle.plan_state.specs.Held.{area_at, plan_view, PlanFits, Planning, PlanDoes, Serves, Nodes, nodes_in_hand};
+ghost use Rattle.plan_state.specs.Held.{area, area_at, plan_view, PlanFits, Planning, PlanDoes, Serves, Nodes, nodes_in_hand};
 ghost use Rattle.plan_zone.specs.Zone.{Gassed, Picked, Plans, average_of, CountFits, ChooseFits};
 
 use plan_fast::fast_all;
@@ -77,9 +77,9 @@ fn choose(
 
 // The list of the nodes that give, or that take: it answers how many.
 fn gather(side: Side, zone: ZoneAt, words: &mut [u32], floats: &[f32]) -> usize
-    requires plan_fits { PlanFits zone.n zone.e (area_at words floats) }
-    requires nodes { Nodes zone.n zone.e zone.first zone.count (area_at words floats) }
-    ensures { let a = area_at words.entry floats.entry in Picked zone.n zone.e (chosen side (nodes_in_hand zone a) (plan_view zone.n zone.e a).plan) result a (area_at words.exit floats.exit) }
+    requires plan_fits { PlanFits zone.n zone.e (area words.old floats.now) }
+    requires nodes { Nodes zone.n zone.e zone.first zone.count (area words.old floats.now) }
+    ensures { let a = area words.old floats.now in Picked zone.n zone.e (chosen side (nodes_in_hand zone a) (plan_view zone.n zone.e a).plan) result a (area words.new floats.now) }
 {
     let first = zone.first;
     let count = zone.count;
@@ -104,10 +104,10 @@ fn serve_all(
     words: &mut [u32],
     floats: &mut [f32],
 )
-    requires planning { Planning (board_at rows marks gases) zone.n zone.e zone.z (area_at words floats) }
+    requires planning { Planning (board_at rows marks gases) zone.n zone.e zone.z (area words.old floats.old) }
     requires listed_le_n { listed ≤ zone.n }
-    requires below { Below zone.n (take listed (plan_view zone.n zone.e (area_at words floats)).list) }
-    ensures { let b = board_at rows.entry marks.entry gases in let a = area_at words.entry floats.entry in Serves zone.n zone.e (λ o p. run (serve b o zone.z side) (take listed (plan_view zone.n zone.e a).list) p) a (area_at words.exit floats.exit) }
+    requires below { Below zone.n (take listed (plan_view zone.n zone.e (area words.old floats.old)).list) }
+    ensures { let b = board_at rows.entry marks.entry gases in let a = area words.old floats.old in Serves zone.n zone.e (λ o p. run (serve b o zone.z side) (take listed (plan_view zone.n zone.e a).list) p) a (area words.new floats.new) }
 {
     let z = zone.z;
     let n = zone.n;
@@ -131,9 +131,9 @@ fn fast_pass(
     words: &mut [u32],
     floats: &mut [f32],
 )
-    requires planning { Planning (board_at rows marks gases) zone.n zone.e zone.z (area_at words floats) }
-    requires nodes { Nodes zone.n zone.e zone.first zone.count (area_at words floats) }
-    ensures { let b = board_at rows.entry marks.entry gases in let a = area_at words.entry floats.entry in PlanDoes zone.n zone.e (λ o p. fast_pass b o zone.z (nodes_in_hand zone a) p) a (area_at words.exit floats.exit) }
+    requires planning { Planning (board_at rows marks gases) zone.n zone.e zone.z (area words.old floats.old) }
+    requires nodes { Nodes zone.n zone.e zone.first zone.count (area words.old floats.old) }
+    ensures { let b = board_at rows.entry marks.entry gases in let a = area words.old floats.old in PlanDoes zone.n zone.e (λ o p. fast_pass b o zone.z (nodes_in_hand zone a) p) a (area words.new floats.new) }
 {
     let count = zone.count;
     let givers = count_givers(zone, words, floats);
@@ -155,9 +155,9 @@ fn share_out(
     words: &mut [u32],
     floats: &mut [f32],
 )
-    requires planning { Planning (board_at rows marks gases) zone.n zone.e zone.z (area_at words floats) }
-    requires nodes { Nodes zone.n zone.e zone.first zone.count (area_at words floats) }
-    ensures { let b = board_at rows.entry marks.entry gases in let a = area_at words.entry floats.entry in Plans zone.n zone.e (λ o p. share_out b o zone.z (nodes_in_hand zone a) p) a (area_at words.exit floats.exit) }
+    requires planning { Planning (board_at rows marks gases) zone.n zone.e zone.z (area words.old floats.old) }
+    requires nodes { Nodes zone.n zone.e zone.first zone.count (area words.old floats.old) }
+    ensures { let b = board_at rows.entry marks.entry gases in let a = area words.old floats.old in Plans zone.n zone.e (λ o p. share_out b o zone.z (nodes_in_hand zone a) p) a (area words.new floats.new) }
 {
     let count = zone.count;
     let givers = count_givers(zone, words, floats);
@@ -168,9 +168,9 @@ fn share_out(
 
 // The planning state of a turf at first.
 fn first_delta(row: usize, delta: f32, n: usize, e: usize, words: &mut [u32], floats: &mut [f32])
-    requires plan_fits { PlanFits n e (area_at words floats) }
+    requires plan_fits { PlanFits n e (area words.old floats.old) }
     requires row_lt_n { row < n }
-    ensures { PlanDoes n e (λ o p. store p row (record { delta = delta; amount = 0f; direction = 0; fast = 0 })) (area_at words.entry floats.entry) (area_at words.exit floats.exit) }
+    ensures { PlanDoes n e (λ o p. store p row (record { delta = delta; amount = 0f; direction = 0; fast = 0 })) (area words.old floats.old) (area words.new floats.new) }
 {
     let info = MonstermosInfo {
         delta,
@@ -192,9 +192,9 @@ fn all_deltas(
     floats: &mut [f32],
 )
     requires fact { let b = board_at rows marks gases in Gassed zone.n b.mixtures gases gas.now }
-    requires plan_fits { PlanFits zone.n zone.e (area_at words floats) }
-    requires nodes { Nodes zone.n zone.e zone.first zone.count (area_at words floats) }
-    ensures { let b = board_at rows.entry marks.entry gases in let a = area_at words.entry floats.entry in PlanDoes zone.n zone.e (λ o p. deltas b o zone.z gas.now (nodes_in_hand zone a) (average_of zone) p) a (area_at words.exit floats.exit) }
+    requires plan_fits { PlanFits zone.n zone.e (area words.old floats.old) }
+    requires nodes { Nodes zone.n zone.e zone.first zone.count (area words.old floats.old) }
+    ensures { let b = board_at rows.entry marks.entry gases in let a = area words.old floats.old in PlanDoes zone.n zone.e (λ o p. deltas b o zone.z gas.now (nodes_in_hand zone a) (average_of zone) p) a (area words.new floats.new) }
 {
     let first = zone.first;
     let count = zone.count;
@@ -223,9 +223,9 @@ pub fn process_zone(
     floats: &mut [f32],
 )
     requires fact { let b = board_at rows marks gases in Gassed zone.n b.mixtures gases gas.now }
-    requires planning { Planning (board_at rows marks gases) zone.n zone.e zone.z (area_at words floats) }
-    requires nodes { Nodes zone.n zone.e zone.first zone.count (area_at words floats) }
-    ensures { let b = board_at rows.entry marks.entry gases in let a = area_at words.entry floats.entry in Plans zone.n zone.e (λ o p. planned_zone b o zone.z gas.now (nodes_in_hand zone a) zone.moles p) a (area_at words.exit floats.exit) }
+    requires planning { Planning (board_at rows marks gases) zone.n zone.e zone.z (area words.old floats.old) }
+    requires nodes { Nodes zone.n zone.e zone.first zone.count (area words.old floats.old) }
+    ensures { let b = board_at rows.entry marks.entry gases in let a = area words.old floats.old in Plans zone.n zone.e (λ o p. planned_zone b o zone.z gas.now (nodes_in_hand zone a) zone.moles p) a (area words.new floats.new) }
 {
     all_deltas(zone, rows, marks, gases, gas, words, floats);
     fast_pass(zone, rows, marks, gases, words, floats);

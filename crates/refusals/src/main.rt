@@ -3,7 +3,8 @@
 
 use lent::ExtraTests;
 use lent_room::Room;
-use libc::STDOUT_FILENO;
+use std::io;
+use std::io::Write;
 
 // What may differ from board A: the second turf's id, its neighbour, where its links start; the gases; the amounts; the event bytes for a turf.
 #[derive(Clone, Copy)]
@@ -87,50 +88,52 @@ fn number(w: Wrong) -> u32 {
 }
 
 // A line with the number.
-fn show(n: u32) {
+fn show<W: Write>(out: &mut W, n: u32) -> io::Result<()> {
     if n < 10 {
         let line = [48 + n as u8, 10];
-        io::write_all(STDOUT_FILENO, &line);
+        out.write_all(&line)?;
     }
+    Ok(())
 }
 
 // Amounts by their range: -0.0, a NaN, an infinity, a negative one, 2^40 and the next one up.
-fn amounts() {
+fn amounts<W: Write>(out: &mut W) -> io::Result<()> {
     let mut w = board_a();
     w.second = -0.0;
-    show(number(w));
+    show(out, number(w))?;
     w.second = 0.0 / 0.0;
-    show(number(w));
+    show(out, number(w))?;
     w.second = 1.0 / 0.0;
-    show(number(w));
+    show(out, number(w))?;
     w.second = -1.0;
-    show(number(w));
+    show(out, number(w))?;
     w.second = 1099511627776.0;
-    show(number(w));
+    show(out, number(w))?;
     w.second = 1099511758848.0;
-    show(number(w));
+    show(out, number(w))
 }
 
 // Board A, and what refuses it, in turn.
-fn main() {
-    show(number(board_a()));
+fn main(rt: HostRuntime) -> io::Result<()> {
+    let mut out = io::writer(&rt);
+    show(&mut out, number(board_a()))?;
     let mut w = board_a();
     w.gases = 0;
-    show(number(w));
+    show(&mut out, number(w))?;
     w.gases = 2;
-    show(number(w));
+    show(&mut out, number(w))?;
     let mut v = board_a();
     v.id = 10;
-    show(number(v));
+    show(&mut out, number(v))?;
     v.neighbour = 1;
-    show(number(v));
+    show(&mut out, number(v))?;
     v.id = 20;
-    show(number(v));
+    show(&mut out, number(v))?;
     v.neighbour = 0;
     v.start = 3;
-    show(number(v));
+    show(&mut out, number(v))?;
     v.start = 1;
     v.per_turf = 17;
-    show(number(v));
-    amounts();
+    show(&mut out, number(v))?;
+    amounts(&mut out)
 }

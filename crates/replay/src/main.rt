@@ -5,31 +5,27 @@
 
 ghost use Rattle.std.specs.Prelude.{◌<◌, length};
 
-use libc::STDOUT_FILENO;
 use replay_one::replay;
+use std::io;
+use std::io::Write;
 use vectors_count::{CHANGED, TORN};
 
-// Prints a text.
-fn show(text: &[u8]) {
-    io::write_all(STDOUT_FILENO, text);
-}
-
 // The counts, eight a line: a line for each call, and one for the vectors.
-fn report(counts: &[u64; 40]) {
-    show(b"done, refused by 1 to 7: equalize, depressurize, planet walk; then\n");
-    show(
+fn report<W: Write>(out: &mut W, counts: &[u64; 40]) -> io::Result<()> {
+    out.write_all(b"done, refused by 1 to 7: equalize, depressurize, planet walk; then\n")?;
+    out.write_all(
         b"vectors, those that differ, the first of these, digits changed, found, times torn, found:",
-    );
+    )?;
     let mut k = 8;
     while k < 39 {
         if k % 8 == 0 {
-            show(b"\n");
+            out.write_all(b"\n")?;
         }
-        show(b" ");
-        io::print_decimal(STDOUT_FILENO, counts[k]);
+        let n = counts[k];
+        write!(out, " {n}")?;
         k += 1;
     }
-    show(b"\n");
+    out.write_all(b"\n")
 }
 
 // Replays a vector with another number at a place, which it must notice, and puts the number back. A NaN for a NaN isn't tried: one is as good
@@ -95,25 +91,26 @@ fn run_at(numbers: &mut [u32], at: usize, counts: &mut [u64; 40]) -> usize
 }
 
 // Replays every vector, changes and tears each, and prints what came of it; at one that isn't whole it stops.
-fn run(numbers: &mut [u32]) {
+fn run<W: Write>(out: &mut W, numbers: &mut [u32]) -> io::Result<()> {
     let mut counts = [0u64; 40];
     let mut at = 0;
     while at < numbers.len() {
         at = run_at(numbers, at, &mut counts);
     }
-    report(&counts);
+    report(out, &counts)?;
     if numbers.len() < at {
-        show(b"the next vector is torn\n");
+        out.write_all(b"the next vector is torn\n")?;
     }
+    Ok(())
 }
 
 // One number more than is taken tells that there are too many.
-fn main() {
+fn main(rt: HostRuntime) -> io::Result<()> {
     let mut numbers = vectors_text::room();
-    let n = vectors_text::read(&mut numbers);
+    let n = vectors_text::read(&mut rt.reader(), &mut numbers)?;
+    let mut out = io::writer(&rt);
     if 140_000 < n {
-        show(b"too long\n");
-        return;
+        return out.write_all(b"too long\n");
     }
-    run(&mut numbers[..n]);
+    run(&mut out, &mut numbers[..n])
 }

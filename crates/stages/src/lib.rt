@@ -4,7 +4,7 @@
 ghost use Rattle.std.specs.Prelude.{◌≡◌, [], ℕ};
 ghost use Rattle.rules_board.specs.Board.{board};
 ghost use Rattle.turfs.specs.Tables.{board_at};
-ghost use Rattle.lent.specs.Given.{lent_at};
+ghost use Rattle.lent.specs.Given.{lent, lent_at};
 ghost use Rattle.rules_equalize.specs.Result.{equalize_number};
 ghost use Rattle.fill_all.specs.Held.{asked};
 ghost use Rattle.rules_equalize.specs.Equalize.{ask_of};
@@ -72,7 +72,7 @@ pub fn fill(
     events: &mut [u8],
 ) -> FillAnswer
     ensures { let b = board_at rows.entry marks.entry gases in StageFills b (asked hot.now settings)
-        (lent_at gas.entry events.entry words.entry floats.entry) (lent_at gas.entry events.exit words.exit floats.exit) result.number result.filling }
+        (lent gas.now events.old words.old floats.old) (lent gas.now events.new words.new floats.new) result.number result.filling }
 {
     let number = refusal(
         hot,
@@ -122,7 +122,7 @@ pub fn plan(
     events: &mut [u8],
 ) -> FillAnswer
     ensures { let b = board_at rows.entry marks.entry gases in StagePlans b (asked hot.now settings)
-        (lent_at gas.entry events.entry words.entry floats.entry) (lent_at gas.entry events.exit words.exit floats.exit) result.number result.filling }
+        (lent gas.now events.old words.old floats.old) (lent gas.now events.new words.new floats.new) result.number result.filling }
 {
     let a = fill(
         hot, settings, rows, marks, gases, gas, words, floats, events,
@@ -168,7 +168,7 @@ pub extern "C" fn stages_fill<'a>(
     answer: &mut [u32; 6],
 ) -> u32
     ensures { let b = board ids.now flags.now planetary.now mixtures.now starts.now neighbours.now link_flags.now immutable.now gases in
-        FillAnswers b (ask_of hot.now threshold limit allowance) (lent_at amounts.entry events.entry words.entry floats.entry) (lent_at amounts.entry events.exit words.exit floats.exit) result answer.new }
+        FillAnswers b (ask_of hot.now threshold limit allowance) (lent amounts.now events.old words.old floats.old) (lent amounts.now events.new words.new floats.new) result answer.new }
 {
     let rows = [ids, mixtures, starts, neighbours];
     let marks = [flags, planetary, link_flags, immutable];
@@ -207,7 +207,7 @@ pub extern "C" fn stages_plan<'a>(
     answer: &mut [u32; 6],
 ) -> u32
     ensures { let b = board ids.now flags.now planetary.now mixtures.now starts.now neighbours.now link_flags.now immutable.now gases in
-        PlanAnswers b (ask_of hot.now threshold limit allowance) (lent_at amounts.entry events.entry words.entry floats.entry) (lent_at amounts.entry events.exit words.exit floats.exit) result answer.new }
+        PlanAnswers b (ask_of hot.now threshold limit allowance) (lent amounts.now events.old words.old floats.old) (lent amounts.now events.new words.new floats.new) result answer.new }
 {
     let rows = [ids, mixtures, starts, neighbours];
     let marks = [flags, planetary, link_flags, immutable];

@@ -14,8 +14,8 @@ pub record Owns (ids : List ℕ) (i : ℕ) (w : List ℕ) : Type 0 where
   pub row : get_or w (order_at (length ids) + i) 0 < length ids
 
 -- it is given its place, and is its own target
-abbrev pub field_own : List ℕ → ℕ → List ℕ → List ℕ
-field_own ids i w =
+abbrev pub own_at : List ℕ → ℕ → List ℕ → List ℕ
+own_at ids i w =
     let n = length ids in
     let row = get_or w (order_at n + i) 0 in
     set (set w (spots_at n + row) i) (targets_at n + row) (get_or ids row 0)

@@ -68,7 +68,7 @@ returns-then-not-zone_apart c =
     let head = loop in
     let by-loop-test = loop-test in
     let by-zone-apart = zone-apart in
-    record { words = but_then (omega arith) (omega arith) head.invariant.0.1 by-zone-apart.ensures.0; answer = λ zs e s. sym (apart-false _ zs _ (omega (arith, e, by-loop-test.true)) ((zone-next entry.requires.zones_laid head.invariant.0.1 _ by-loop-test.true _ zs s e (head.invariant.1 zs e s) (by-zone-apart.ensures.1 zs)).1 (not-true _ c.if-not-zone_apart.true-raw))) }
+    record { words = but_then (omega arith) (omega arith) head.invariant.0.1 by-zone-apart.ensures.but; answer = λ zs e s. sym (apart-false _ zs _ (omega (arith, e, by-loop-test.true)) ((zone-next entry.requires.zones_laid head.invariant.0.1 _ by-loop-test.true _ zs s e (head.invariant.1 zs e s) (by-zone-apart.ensures.passed zs)).1 (not-true _ c.if-not-zone_apart.true-raw))) }
 
 pub overflow_add-z : goal.overflow_add-z
 overflow_add-z c = omega (arith, c.loop-z-test.true, c.requires.zones_laid.few)
@@ -86,7 +86,7 @@ loop-z-preserved c =
     let head = loop in
     let by-loop-test = loop-test in
     let by-zone-apart = zone-apart in
-    ((omega (arith, by-loop-test.true), but_then (omega arith) (omega arith) head.invariant.0.1 by-zone-apart.ensures.0), λ zs e s. (zone-next entry.requires.zones_laid head.invariant.0.1 _ by-loop-test.true _ zs s e (head.invariant.1 zs e s) (by-zone-apart.ensures.1 zs)).0 (not-false _ c.if-not-zone_apart.false-raw))
+    ((omega (arith, by-loop-test.true), but_then (omega arith) (omega arith) head.invariant.0.1 by-zone-apart.ensures.but), λ zs e s. (zone-next entry.requires.zones_laid head.invariant.0.1 _ by-loop-test.true _ zs s e (head.invariant.1 zs e s) (by-zone-apart.ensures.passed zs)).0 (not-false _ c.if-not-zone_apart.false-raw))
 
 pub returns : goal.returns
 returns c = record { words = c.loop-z.invariant.0.1; answer = λ zs e s. sym (apart-true _ zs _ _ _ (omega (arith, e, c.loop-z-test.false)) (c.loop-z.invariant.1 zs e s)) }

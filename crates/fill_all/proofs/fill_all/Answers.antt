@@ -14,12 +14,12 @@ loop-i-init c =
     let entry = c.args in
     let p = c.requires in
     let by = c.begin-s in
-    let stored = begun-stored p.accepted entry.words.now _ entry.floats.now entry.events.now p.fill_fits by.auto.words.0 by.ensures.cleared _ by.ensures.value in
-    let none = begun p.accepted entry.words.now _ entry.floats.now entry.events.now p.fill_fits by.auto.words.0 by.ensures.cleared _ by.ensures.value in
+    let stored = begun-stored p.accepted entry.words.now _ entry.floats.now entry.events.now p.fill_fits by.auto.words by.ensures.cleared _ by.ensures.value in
+    let none = begun p.accepted entry.words.now _ entry.floats.now entry.events.now p.fill_fits by.auto.words by.ensures.cleared _ by.ensures.value in
     (loop-start p.accepted _ _ _ _ _ stored none, (refl, refl))
 
 pub shape_of-words-then-s : goal.shape_of-words-then-s
-shape_of-words-then-s c = c.loop-i.invariant.1.0 ∙ c.begin-s.auto.words.0
+shape_of-words-then-s c = c.loop-i.invariant.1.0 ∙ c.begin-s.auto.words
 
 pub shape_of-floats-then-s : goal.shape_of-floats-then-s
 shape_of-floats-then-s c = c.loop-i.invariant.1.1
@@ -32,17 +32,17 @@ returns-then-s c =
     let entry = c.args in
     let p = c.requires in
     let by = c.begin-s in
-    let stored = begun-stored p.accepted entry.words.now _ entry.floats.now entry.events.now p.fill_fits by.auto.words.0 by.ensures.cleared _ by.ensures.value in
-    let none = begun p.accepted entry.words.now _ entry.floats.now entry.events.now p.fill_fits by.auto.words.0 by.ensures.cleared _ by.ensures.value in
-    all-filled p.accepted entry.words.now _ entry.floats.now entry.events.now p.fill_fits by.auto.words.0 by.ensures.cleared _ by.ensures.value _ _ _ _ _ (loop-over p.accepted _ _ _ _ _ stored none c.loop-i.i c.loop-i.invariant.0 c.if-s.true)
+    let stored = begun-stored p.accepted entry.words.now _ entry.floats.now entry.events.now p.fill_fits by.auto.words by.ensures.cleared _ by.ensures.value in
+    let none = begun p.accepted entry.words.now _ entry.floats.now entry.events.now p.fill_fits by.auto.words by.ensures.cleared _ by.ensures.value in
+    all-filled p.accepted entry.words.now _ entry.floats.now entry.events.now p.fill_fits by.auto.words by.ensures.cleared _ by.ensures.value _ _ _ _ _ (loop-over p.accepted _ _ _ _ _ stored none c.loop-i.i c.loop-i.invariant.0 c.if-s.true)
 
 pub hot_id-s-requires : goal.hot_id-s-requires
 hot_id-s-requires c =
     let entry = c.args in
     let p = c.requires in
     let by = c.begin-s in
-    let stored = begun-stored p.accepted entry.words.now _ entry.floats.now entry.events.now p.fill_fits by.auto.words.0 by.ensures.cleared _ by.ensures.value in
-    let none = begun p.accepted entry.words.now _ entry.floats.now entry.events.now p.fill_fits by.auto.words.0 by.ensures.cleared _ by.ensures.value in
+    let stored = begun-stored p.accepted entry.words.now _ entry.floats.now entry.events.now p.fill_fits by.auto.words by.ensures.cleared _ by.ensures.value in
+    let none = begun p.accepted entry.words.now _ entry.floats.now entry.events.now p.fill_fits by.auto.words by.ensures.cleared _ by.ensures.value in
     let head = c.loop-i in
     let going = c.if-s.false in record { accepted = p.accepted; threshold_value = p.threshold_value; hot_fits = record { stored = head.invariant.0.stored; room = loop-open p.accepted _ _ _ _ _ stored none head.i head.invariant.0 going; going = going } }
 
@@ -57,8 +57,8 @@ loop-i-preserved c =
     let entry = c.args in
     let p = c.requires in
     let by = c.begin-s in
-    let stored = begun-stored p.accepted entry.words.now _ entry.floats.now entry.events.now p.fill_fits by.auto.words.0 by.ensures.cleared _ by.ensures.value in
-    let none = begun p.accepted entry.words.now _ entry.floats.now entry.events.now p.fill_fits by.auto.words.0 by.ensures.cleared _ by.ensures.value in
+    let stored = begun-stored p.accepted entry.words.now _ entry.floats.now entry.events.now p.fill_fits by.auto.words by.ensures.cleared _ by.ensures.value in
+    let none = begun p.accepted entry.words.now _ entry.floats.now entry.events.now p.fill_fits by.auto.words by.ensures.cleared _ by.ensures.value in
     let head = c.loop-i in
     let by-hot-id = c.hot_id-s in (
       loop-next p.accepted _ _ _ _ _ stored none head.i head.invariant.0 c.loop-i-test.true (by-hot-id.ensures entry.hot.now),
@@ -66,7 +66,7 @@ loop-i-preserved c =
     )
 
 pub shape_of-words : goal.shape_of-words
-shape_of-words c = c.loop-i.invariant.1.0 ∙ c.begin-s.auto.words.0
+shape_of-words c = c.loop-i.invariant.1.0 ∙ c.begin-s.auto.words
 
 pub shape_of-floats : goal.shape_of-floats
 shape_of-floats c = c.loop-i.invariant.1.1
@@ -79,6 +79,6 @@ returns c =
     let entry = c.args in
     let p = c.requires in
     let by = c.begin-s in
-    let stored = begun-stored p.accepted entry.words.now _ entry.floats.now entry.events.now p.fill_fits by.auto.words.0 by.ensures.cleared _ by.ensures.value in
-    let none = begun p.accepted entry.words.now _ entry.floats.now entry.events.now p.fill_fits by.auto.words.0 by.ensures.cleared _ by.ensures.value in
-    all-filled p.accepted entry.words.now _ entry.floats.now entry.events.now p.fill_fits by.auto.words.0 by.ensures.cleared _ by.ensures.value _ _ _ _ _ (loop-end p.accepted _ _ _ _ _ stored none c.loop-i.i c.loop-i.invariant.0 c.loop-i-test.false)
+    let stored = begun-stored p.accepted entry.words.now _ entry.floats.now entry.events.now p.fill_fits by.auto.words by.ensures.cleared _ by.ensures.value in
+    let none = begun p.accepted entry.words.now _ entry.floats.now entry.events.now p.fill_fits by.auto.words by.ensures.cleared _ by.ensures.value in
+    all-filled p.accepted entry.words.now _ entry.floats.now entry.events.now p.fill_fits by.auto.words by.ensures.cleared _ by.ensures.value _ _ _ _ _ (loop-end p.accepted _ _ _ _ _ stored none c.loop-i.i c.loop-i.invariant.0 c.loop-i-test.false)

@@ -85,10 +85,10 @@ pub shape_of-words : goal.shape_of-words
 shape_of-words c = c.after_fill.auto.words ∙ c.flood_fill-t.auto.words
 
 pub shape_of-floats : goal.shape_of-floats
-shape_of-floats c = c.after_fill.auto.floats.0
+shape_of-floats c = c.after_fill.auto.floats
 
 pub shape_of-events : goal.shape_of-events
-shape_of-events c = c.flood_fill-t.auto.events.0
+shape_of-events c = c.flood_fill-t.auto.events
 
 pub returns : goal.returns
 returns c = λ hot.

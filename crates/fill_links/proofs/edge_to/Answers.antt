@@ -29,7 +29,7 @@ insert-requires c =
     let by-nodes-at = c.nodes_at in let whole = edge-room entry.args.m _ _ _ _ _ _ _ entry.requires.fit entry.requires.link (not-false _ by-if1.false) _ _ by-nodes-at.ensures by-places-at.ensures entry.requires.row entry.requires.room (sym c.if-contains.false ∙ c.contains.ensures) in record { count_in_bounds = whole.0; a_in_bounds = whole.1.0; count_bound = whole.1.1 }
 
 pub shape_of-words : goal.shape_of-words
-shape_of-words c = c.insert.auto.words.0 ∙ simp length-set
+shape_of-words c = c.insert.auto.words ∙ simp length-set
 
 pub returns : goal.returns
 returns c =

@@ -20,7 +20,7 @@ discover-requires c =
     let entry = c in let whole = discover-asks entry.args.m entry.args.k entry.args.id entry.requires.walking entry.requires.link_fits c.edge_to-t.ensures _ (ap (λ (x : ℕ). x + entry.args.m.row) c.found_at.ensures) c.if-found-ne0.false in record { push_fits = whole.0; used_in_bounds = whole.1 }
 
 pub shape_of-words : goal.shape_of-words
-shape_of-words c = c.discover.auto.words ∙ simp length-set c.edge_to-t.auto.words.0
+shape_of-words c = c.discover.auto.words ∙ simp length-set c.edge_to-t.auto.words
 
 pub returns : goal.returns
 returns c =

@@ -34,4 +34,4 @@ returns c = λ q et.
     let b = board_at entry.args.rows entry.args.marks entry.args.gases in
     let ends = c.links_of-links.ensures in
     let rise = (parts entry.requires.accepted).rise _ entry.requires.row_bound in
-    all_tested b _ q _ _ _ ends.0 ends.1 c.if-links.false (omega arith) _ (c.total-mine.ensures b refl refl) c.if-mine.false _ et _ c.all_Near.ensures
+    all_tested b _ q _ _ _ ends.0 ends.1 c.if-links.false (omega arith) _ (c.total-mine.ensures b refl refl) c.if-mine.false _ et _ c.all_near.ensures

@@ -50,7 +50,7 @@ loop-settings-preserved c =
     )
 
 pub shape_of-words : goal.shape_of-words
-shape_of-words c = c.loop-settings.invariant.1 ∙ c.start-t.auto.words.0
+shape_of-words c = c.loop-settings.invariant.1 ∙ c.start-t.auto.words
 
 pub shape_of-events : goal.shape_of-events
 shape_of-events c = wrote-length c.loop-settings.invariant.0.done.does.wrote

@@ -16,7 +16,7 @@ insert-requires c =
     let by-nodes-at = c.nodes_at in let whole = (start-room entry.args.seed.row entry.args.seed.used entry.args.seed.tests entry.args.seed.kept entry.args.n entry.args.e entry.args.words.now entry.requires.sizes entry.requires.row entry.requires.room entry.requires.words _ _ _ _ by-found-at.ensures by-queue-at.ensures by-nodes-at.ensures c.places_at-places.ensures).1 in record { count_in_bounds = whole.0; a_in_bounds = whole.1.0; count_bound = whole.1.1 }
 
 pub shape_of-words : goal.shape_of-words
-shape_of-words c = c.insert.auto.words.0 ∙ simp length-set
+shape_of-words c = c.insert.auto.words ∙ simp length-set
 
 pub returns : goal.returns
 returns c =

@@ -9,7 +9,7 @@ pub plan_zones-requires : goal.plan_zones-requires
 plan_zones-requires c =
     let entry = c in
     let find-reverses = c.find_reverses in
-    let clear-plan = c.clear_plan in record { plannable = entry.requires.plannable; fact = cleared-zoned entry.requires.fact find-reverses.ensures.but clear-plan.ensures clear-plan.auto.words clear-plan.auto.floats.0; fact_2 = cleared-reverses entry.requires.fact find-reverses.ensures.but clear-plan.ensures (reverses-of (board_of entry.args.rows.now entry.args.marks.now entry.args.gases)
+    let clear-plan = c.clear_plan in record { plannable = entry.requires.plannable; fact = cleared-zoned entry.requires.fact find-reverses.ensures.but clear-plan.ensures clear-plan.auto.words clear-plan.auto.floats; fact_2 = cleared-reverses entry.requires.fact find-reverses.ensures.but clear-plan.ensures (reverses-of (board_of entry.args.rows.now entry.args.marks.now entry.args.gases)
             _ find-reverses.ensures.backs) }
 
 pub returns : goal.returns
@@ -19,5 +19,5 @@ returns c =
     let clear-plan = c.clear_plan in
     let plan-zones = c.plan_zones in
     planned-all entry.requires.fact find-reverses.ensures.but clear-plan.ensures plan-zones.ensures (plan-zones.auto.words ∙ clear-plan.auto.words)
-    (plan-zones.auto.floats.0 ∙ clear-plan.auto.floats.0) refl refl (reverses-of (board_of entry.args.rows.now entry.args.marks.now entry.args.gases)
+    (plan-zones.auto.floats ∙ clear-plan.auto.floats) refl refl (reverses-of (board_of entry.args.rows.now entry.args.marks.now entry.args.gases)
     _ find-reverses.ensures.backs)

@@ -32,7 +32,7 @@ loop-z-preserved c =
     let loop = c.loop-z in
     let loop-test = c.loop-z-test in
     let plan-zone-at = c.plan_zone_at in (
-      (omega (arith, loop-test.true), (plan-zone-at.auto.words ∙ loop.invariant.0.1.0, plan-zone-at.auto.floats.0 ∙ loop.invariant.0.1.1)),
+      (omega (arith, loop-test.true), (plan-zone-at.auto.words ∙ loop.invariant.0.1.0, plan-zone-at.auto.floats ∙ loop.invariant.0.1.1)),
       going_next loop.invariant.1 loop-test.true plan-zone-at.ensures,
     )
 

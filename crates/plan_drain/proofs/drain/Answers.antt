@@ -43,7 +43,7 @@ loop-i-preserved c =
     let loop = c.loop-i in
     let loop-test = c.loop-i-test in
     let drain-turf = c.drain_turf in (
-      (omega (arith, loop.invariant.0), drain-turf.auto.floats.0 ∙ loop.invariant.0.1),
+      (omega (arith, loop.invariant.0), drain-turf.auto.floats ∙ loop.invariant.0.1),
       onto_next _ _ loop.invariant.1 (drained_same _ _ _ _ _ _ _ drain-turf.ensures)
           (λ o p. row_next _ _ _ (loop.i - 1) _ _ _ c.queue_at-queue.ensures (omega (
             arith,

@@ -37,7 +37,7 @@ loop-i-preserved c =
     let loop = c.loop-i in
     let loop-test = c.loop-i-test in
     let fast-turf = c.fast_turf in (
-      (omega (arith, loop-test.true), (fast-turf.auto.words ∙ loop.invariant.0.1.0, fast-turf.auto.floats.0 ∙ loop.invariant.0.1.1)),
+      (omega (arith, loop-test.true), (fast-turf.auto.words ∙ loop.invariant.0.1.0, fast-turf.auto.floats ∙ loop.invariant.0.1.1)),
       onto_next _ _ loop.invariant.1 fast-turf.ensures (λ o p. walk-next c.requires.nodes
           (onto_frame loop.invariant.1) loop.invariant.0.1.0 _ loop-test.true _ p),
     )

@@ -28,7 +28,7 @@ loop-k-smaller c = omega (arith, c.loop-k-test.true)
 pub loop-k-preserved : goal.loop-k-preserved
 loop-k-preserved c =
     let loop = c.loop-k in (
-      (omega (arith, loop.invariant.0.0), (omega (arith, c.loop-k-test.true), c.fast_link.auto.floats.0 ∙ loop.invariant.0.1.1)),
+      (omega (arith, loop.invariant.0.0), (omega (arith, c.loop-k-test.true), c.fast_link.auto.floats ∙ loop.invariant.0.1.1)),
       onto_next _ _ loop.invariant.1 (fast-same _ _ _ _ _ _ _ _ _ _ c.fast_link.ensures) (λ o p. run_up _ _ _ _ c.loop-k-test.true),
     )
 

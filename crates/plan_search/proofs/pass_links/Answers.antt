@@ -15,7 +15,7 @@ pub shape_of-words-then-p : goal.shape_of-words-then-p
 shape_of-words-then-p c = c.pass_link-p.auto.words ∙ c.loop-k.invariant.0.1.1.0
 
 pub shape_of-floats-then-p : goal.shape_of-floats-then-p
-shape_of-floats-then-p c = c.pass_link-p.auto.floats.0 ∙ c.loop-k.invariant.0.1.1.1
+shape_of-floats-then-p c = c.pass_link-p.auto.floats ∙ c.loop-k.invariant.0.1.1.1
 
 pub returns-then-p : goal.returns-then-p
 returns-then-p c =
@@ -38,7 +38,7 @@ loop-k-preserved c =
           omega (arith, loop-test.true),
           (
             pass-link.auto.words ∙ loop.invariant.0.1.1.0,
-            pass-link.auto.floats.0 ∙
+            pass-link.auto.floats ∙
                 loop.invariant.0.1.1.1,
           ),
         ),

@@ -35,11 +35,8 @@ pub shape_of-floats-then-settled : goal.shape_of-floats-then-settled
 shape_of-floats-then-settled c = c.loop-looked.invariant.0.1
 
 pub returns-then-settled : goal.returns-then-settled
-returns-then-settled c = let loop = c.loop-looked in (
-  trail_end _ loop.invariant.1.0 (turn-settled _ _ _ _ _ _ loop.invariant.1.0.seeking c.loop-looked-test.true _ c.queue_at-queue.ensures _ _ _ _ c.requires.searching.row _
-      c.delta_at-own.ensures (sym c.settled.ensures ∙ c.if-settled.true)),
-  loop.invariant.1.1,
-)
+returns-then-settled c = let loop = c.loop-looked in record { fact = trail_end _ loop.invariant.1.0 (turn-settled _ _ _ _ _ _ loop.invariant.1.0.seeking c.loop-looked-test.true _ c.queue_at-queue.ensures _ _ _ _ c.requires.searching.row _
+      c.delta_at-own.ensures (sym c.settled.ensures ∙ c.if-settled.true)); fact_2 = loop.invariant.1.1.0; idle = loop.invariant.1.1.1 }
 
 pub overflow_add-r : goal.overflow_add-r
 overflow_add-r c =
@@ -81,7 +78,7 @@ loop-looked-preserved c = let entry = c in
     let loop = c.loop-looked in
     let loop-test = c.loop-looked-test in
     let seek-turf = c.seek_turf-reach in (
-      (seek-turf.auto.words ∙ loop.invariant.0.0, seek-turf.auto.floats.0 ∙ loop.invariant.0.1),
+      (seek-turf.auto.words ∙ loop.invariant.0.0, seek-turf.auto.floats ∙ loop.invariant.0.1),
       (
         trail_next _ _ loop.invariant.1.0 (sought-as seek-turf.ensures.sought (links-are (board_of entry.args.rows.now entry.args.marks.now entry.args.gases) entry.args.hand.z entry.args.hand.side entry.args.hand.g _)) (omega (arith, loop.invariant.1.0.seeking.line.few, loop-test.true))
             (turn_on _ _ _ _ _ _ loop.invariant.1.0.seeking loop-test.true _ queue-at.ensures (board_of entry.args.rows.now entry.args.marks.now entry.args.gases) _ _ _ entry.requires.searching.row _
@@ -100,4 +97,4 @@ pub shape_of-floats : goal.shape_of-floats
 shape_of-floats c = c.loop-looked.invariant.0.1
 
 pub returns : goal.returns
-returns c = (trail_end _ c.loop-looked.invariant.1.0 (turn_end _ _ _ _ _ _ c.loop-looked.invariant.1.0.seeking _ _ _ _ c.loop-looked-test.false), c.loop-looked.invariant.1.1)
+returns c = record { fact = trail_end _ c.loop-looked.invariant.1.0 (turn_end _ _ _ _ _ _ c.loop-looked.invariant.1.0.seeking _ _ _ _ c.loop-looked-test.false); fact_2 = c.loop-looked.invariant.1.1.0; idle = c.loop-looked.invariant.1.1.1 }

@@ -37,7 +37,7 @@ shape_of-words-then-step c =
 
 pub shape_of-floats-then-step : goal.shape_of-floats-then-step
 shape_of-floats-then-step c =
-    c.seek_link-step.auto.floats.0 ∙ c.pass_links-pass.auto.floats.0
+    c.seek_link-step.auto.floats ∙ c.pass_links-pass.auto.floats
     ∙ c.loop-k.invariant.0.1.1.1
 
 pub returns-then-step : goal.returns-then-step
@@ -68,7 +68,7 @@ loop-k-preserved-else-step c =
           (
             seek-link.auto.words ∙ pass-links.auto.words ∙
                 loop.invariant.0.1.1.0,
-            seek-link.auto.floats.0 ∙ pass-links.auto.floats.0 ∙ loop.invariant.0.1.1.1,
+            seek-link.auto.floats ∙ pass-links.auto.floats ∙ loop.invariant.0.1.1.1,
           ),
         ),
       ),
@@ -88,7 +88,7 @@ loop-k-preserved c =
           pass-links.ensures.at_le_to_2,
           (
             pass-links.auto.words ∙ loop.invariant.0.1.1.0,
-            pass-links.auto.floats.0
+            pass-links.auto.floats
                 ∙ loop.invariant.0.1.1.1,
           ),
         ),

@@ -93,13 +93,13 @@ drain-requires-2 c =
 
 pub shape_of-words : goal.shape_of-words
 shape_of-words c =
-    c.seek-sweep.auto.words ∙ (c.insert.auto.words.0
+    c.seek-sweep.auto.words ∙ (c.insert.auto.words
     ∙ c.store.auto.words)
 
 pub shape_of-floats : goal.shape_of-floats
 shape_of-floats c =
-    c.drain-2.auto.floats.0 ∙ (c.drain.auto.floats.0 ∙ (c.seek-sweep.auto.floats.0
-    ∙ c.store.auto.floats.0))
+    c.drain-2.auto.floats ∙ (c.drain.auto.floats ∙ (c.seek-sweep.auto.floats
+    ∙ c.store.auto.floats))
 
 pub returns : goal.returns
 returns c =

@@ -108,7 +108,7 @@ offset_bounds-words-via_at c =
 pub bounds-words-via_at : goal.bounds-words-via_at
 bounds-words-via_at c =
     let entry = c in
-    omega (arith, c.via_at.ensures, entry.requires.ends.ends entry.args.k (omega (arith, entry.requires.ends.within)), entry.requires.searching.seeking.fit.words, c.insert.auto.words.0)
+    omega (arith, c.via_at.ensures, entry.requires.ends.ends entry.args.k (omega (arith, entry.requires.ends.within)), entry.requires.searching.seeking.fit.words, c.insert.auto.words)
 
 pub overflow_add-r : goal.overflow_add-r
 overflow_add-r c =
@@ -135,7 +135,7 @@ overflow_add-result c =
     omega (arith, l, entry.requires.searching.seeking.fit.turfs)
 
 pub shape_of-words : goal.shape_of-words
-shape_of-words c = c.point.auto.words ∙ simp length-set c.insert.auto.words.0
+shape_of-words c = c.point.auto.words ∙ simp length-set c.insert.auto.words
 
 pub returns : goal.returns
 returns c = let entry = c in

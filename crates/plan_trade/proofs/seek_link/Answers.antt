@@ -104,7 +104,7 @@ offset_bounds-words-via_at c =
 pub bounds-words-via_at : goal.bounds-words-via_at
 bounds-words-via_at c =
     let entry = c in
-    omega (arith, c.via_at.ensures, entry.requires.ends.ends entry.args.k (omega (arith, entry.requires.ends.within)), entry.requires.searching.seeking.fit.words, c.insert.auto.words.0)
+    omega (arith, c.via_at.ensures, entry.requires.ends.ends entry.args.k (omega (arith, entry.requires.ends.within)), entry.requires.searching.seeking.fit.words, c.insert.auto.words)
 
 pub meet-traded-requires : goal.meet-traded-requires
 meet-traded-requires c =
@@ -145,7 +145,7 @@ pub bounds-floats-delta_at : goal.bounds-floats-delta_at
 bounds-floats-delta_at c = omega (arith, c.delta_at.ensures, c.requires.searching.row, c.meet-traded.ensures.plan_does.fit.floats)
 
 pub shape_of-words : goal.shape_of-words
-shape_of-words c = c.meet-traded.auto.words ∙ simp length-set c.insert.auto.words.0
+shape_of-words c = c.meet-traded.auto.words ∙ simp length-set c.insert.auto.words
 
 pub returns : goal.returns
 unfolding along

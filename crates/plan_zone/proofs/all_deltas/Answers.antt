@@ -51,7 +51,7 @@ loop-i-preserved c =
     let loop = c.loop-i in
     let loop-test = c.loop-i-test in
     let first-delta = c.first_delta in (
-      (omega (arith, loop-test.true), (first-delta.auto.words ∙ loop.invariant.0.1.0, first-delta.auto.floats.0 ∙ loop.invariant.0.1.1)),
+      (omega (arith, loop-test.true), (first-delta.auto.words ∙ loop.invariant.0.1.0, first-delta.auto.floats ∙ loop.invariant.0.1.1)),
       onto_next _ _ loop.invariant.1 (delta-set _ _ _ (c.total-moles.ensures (board_of entry.args.rows.now entry.args.marks.now
           entry.args.gases) refl refl) first-delta.ensures)
           (λ o p. walk-next entry.requires.nodes (onto_frame loop.invariant.1) loop.invariant.0.1.0 _ loop-test.true (step (board_of entry.args.rows.now entry.args.marks.now

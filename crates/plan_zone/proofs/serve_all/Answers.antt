@@ -49,7 +49,7 @@ loop-i-preserved c =
     let loop = c.loop-i in
     let loop-test = c.loop-i-test in
     let serve' = c.serve in (
-      (omega (arith, loop-test.true), (serve'.auto.words ∙ loop.invariant.0.1.0, serve'.auto.floats.0 ∙ loop.invariant.0.1.1)),
+      (omega (arith, loop-test.true), (serve'.auto.words ∙ loop.invariant.0.1.0, serve'.auto.floats ∙ loop.invariant.0.1.1)),
       along-next _ _ loop.invariant.1 serve'.ensures (λ o p. list-next entry.requires.listed_le_n entry.requires.below loop.invariant.1 _ c.list_at-list.ensures
           _ loop-test.true _ p),
     )

@@ -1,9 +1,6 @@
 -- What is left falls. Assumes nothing.
-use Prim.Native.Nat.{◌-◌}
+use Rattle.std.proofs.Common.{◌-◌}
 use Rattle.replay.proofs.report.Given as goal
 
-abbrev pub invariant-loop-k : goal.invariant-loop-k
-invariant-loop-k l = Unit {0}
-
 abbrev pub decreases-loop-k : goal.decreases-loop-k
-decreases-loop-k l = 39 - k
+decreases-loop-k g l = 39 - l.k

@@ -1,7 +1,5 @@
 -- A change keeps the length; what is left falls. Assumes nothing.
-use mathlib.Core.Path.{◌≡◌}
-use Prim.Native.Nat.{◌-◌}
-use lib.ListN.{length}
+use Rattle.std.proofs.Common.{◌≡◌, ◌-◌, length}
 use Rattle.replay.proofs.try_all.Given as goal
 
 abbrev pub invariant-loop-n : goal.invariant-loop-n

@@ -5,7 +5,7 @@ use lib.ListN.{length}
 use Rattle.vectors_text.proofs.read.Given as goal
 
 abbrev pub invariant-loop-left : goal.invariant-loop-left
-invariant-loop-left l = (length l.numbers ≡ length l.initial.numbers) × ((l.r.count ≤ length l.numbers) × (4096 ≡ length l.piece))
+invariant-loop-left g l = (length l.numbers ≡ length l.initial.numbers) × ((l.r.count ≤ length l.numbers) × (4096 ≡ length l.piece))
 
 abbrev pub decreases-loop-left : goal.decreases-loop-left
-decreases-loop-left l = l.left
+decreases-loop-left g l = l.left

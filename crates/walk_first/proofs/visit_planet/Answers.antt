@@ -10,7 +10,7 @@ pub is_immutable-requires : goal.is_immutable-requires
 is_immutable-requires c = let p = c.requires in (rw p.ground.mixtures p.inside, p.ground.mixture _ p.inside)
 
 pub returns-then-is_immutable : goal.returns-then-is_immutable
-returns-then-is_immutable c = planet-still _ _ _ _ _ _ _ c.requires.fit _ (c.met.ensures _ refl) _ (sym c.if-is_immutable.true ∙ c.is_immutable.ensures _ refl refl) c.mark.ensures
+returns-then-is_immutable c = planet-still _ _ _ _ _ _ _ c.requires.fit _ (c.met-planet.ensures _ refl) _ (sym c.if-is_immutable.true ∙ c.is_immutable.ensures _ refl refl) c.mark.ensures
 
 pub spread-requires : goal.spread-requires
 spread-requires c = let p = c.requires in record { ground = p.ground; fit = marked-fit _ _ _ _ p.fit _ _ _ c.mark-t.ensures; inside = p.inside }
@@ -18,7 +18,7 @@ spread-requires c = let p = c.requires in record { ground = p.ground; fit = mark
 pub returns : goal.returns
 returns c =
     let pre = c.requires in
-    let met = c.met in
+    let met = c.met-planet in
     let if1 = c.if-is_immutable in
     let is-immutable = c.is_immutable in
     let mark2 = c.mark-t in

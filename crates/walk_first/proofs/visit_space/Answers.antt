@@ -9,9 +9,6 @@ returns-then-planetary-r-ne0 c = space-planet _ _ _ _ _ _ _ c.requires.fact.fit 
 pub is_immutable-requires : goal.is_immutable-requires
 is_immutable-requires c = let p = c.requires.fact in (rw p.ground.mixtures p.inside, p.ground.mixture _ p.inside)
 
-pub at_space-requires : goal.at_space-requires
-at_space-requires c = let whole = c.requires in record { fact = whole.0; fact_2 = whole.1 }
-
 pub returns-then-is_immutable : goal.returns-then-is_immutable
 returns-then-is_immutable c =
     let pre = c.requires in
