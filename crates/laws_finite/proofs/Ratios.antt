@@ -193,6 +193,9 @@ neither false q h = refl
 
 plain-part : (y : Float) → Plain y → Unit-part (cond (le 1f y) 1f y)
 unfolding le lt eq of_bits of_fields odd count_trailing_zeros
+plain-part nan x' = elim x' [ ]
+plain-part (inf true) x4 = elim x4 [ ]
+plain-part (fin true m e) x5 = elim x5 [ ]
 plain-part (inf false) plain_inf = one-part
 plain-part (fin false m e) plain_fin = go (le 1f (fin false m e)) refl
   where
@@ -202,6 +205,12 @@ plain-part (fin false m e) plain_fin = go (le 1f (fin false m e)) refl
 
 pub ratio-part : {C : ℕ} (a total : Float) → Up a → lt 0f a ≡ true → Clear C total → Unit-part (ratio a total)
 unfolding ratio div lt of_bits of_fields odd count_trailing_zeros
+ratio-part {C = C} nan total x3 p _ = elim x3 [ ]
+ratio-part {C = C} (inf _) total x5 p _ = elim x5 [ ]
+ratio-part {C = C} (fin false m e) nan _ p x13 = elim x13 [ ]
+ratio-part {C = C} (fin false m e) (inf _) _ p x15 = elim x15 [ ]
+ratio-part {C = C} (fin false m e) (fin true n d) _ p x19 = elim x19 [ ]
+ratio-part {C = C} (fin true m e) total x10 p _ = elim x10 [ ]
 ratio-part (fin false m e) (fin false n d) up_fin p (clear h) = go (eqb n 0) (eqb m 0) (eqb→eq m 0)
   where
     some : m ≡ 0 → ⊥

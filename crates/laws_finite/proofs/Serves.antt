@@ -40,6 +40,8 @@ zero_is = refl
 
 pub below-zero : {B : ℕ} (x : Float) → Under B x → lt x 0f ≡ true → Down x
 unfolding lt of_bits of_fields odd
+below-zero {B = B} nan x3 h = elim x3 [ ]
+below-zero {B = B} (lib.Ieee.inf _) x5 h = elim x5 [ ]
 below-zero (fin true m e) (under p) h = down_fin
 below-zero (fin false m e) (under p) h = absurd (no_less (m * up e * 1) (0 * 1 * down e) (zero-mul (down e)) h)
   where
@@ -48,6 +50,8 @@ below-zero (fin false m e) (under p) h = absurd (no_less (m * up e * 1) (0 * 1 *
 
 pub above_zero : {B : ℕ} (x : Float) → Under B x → lt 0f x ≡ true → Up x
 unfolding lt of_bits of_fields odd
+above_zero {B = B} nan x3 h = elim x3 [ ]
+above_zero {B = B} (lib.Ieee.inf _) x5 h = elim x5 [ ]
 above_zero (fin false m e) (under p) h = up_fin
 above_zero (fin true m e) (under p) h = absurd (differ (sym h))
 
@@ -57,6 +61,8 @@ neither false q h = (refl, h)
 
 pub not_below : {B : ℕ} (x : Float) → Under B x → le x 0f ≡ false → Up x
 unfolding le lt eq of_bits of_fields odd
+not_below {B = B} nan x3 h = elim x3 [ ]
+not_below {B = B} (lib.Ieee.inf _) x5 h = elim x5 [ ]
 not_below (fin false m e) (under p) h = up_fin
 not_below (fin true m e) (under p) h = absurd (never (m * up e * 1) (0 * 1 * down e) (zero-mul (down e)) (neither (ltb 0 (m * up e * 1 + 0 * 1 * down e)) _ h))
   where
@@ -68,6 +74,8 @@ not_below (fin true m e) (under p) h = absurd (never (m * up e * 1) (0 * 1 * dow
 
 pub not_above : {B : ℕ} (x : Float) → Under B x → le 0f x ≡ false → Down x
 unfolding le lt eq of_bits of_fields odd
+not_above {B = B} nan x3 h = elim x3 [ ]
+not_above {B = B} (lib.Ieee.inf _) x5 h = elim x5 [ ]
 not_above (fin true m e) (under p) h = down_fin
 not_above (fin false m e) (under p) h = absurd (never (0 * 1 * down e) (m * up e * 1) (zero-mul (down e)) (neither (ltb (0 * 1 * down e) (m * up e * 1)) _ h))
   where

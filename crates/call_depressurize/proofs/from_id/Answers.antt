@@ -18,15 +18,13 @@ pub from_walk-requires : goal.from_walk-requires
 from_walk-requires c =
     let pre = c.requires in
     let find = c.find in
-    let row = c.row-1 in
     let walk = c.walk-s in
-    walked _ _ pre c.args.breach _ (find.ensures _ refl) _ row.given.1 _ _ _ walk.ensures
+    walked _ _ pre c.args.breach _ (find.ensures _ refl) _ c.in-At.is _ _ _ walk.ensures
 
 pub returns : goal.returns
 returns c =
     let pre = c.requires in
     let find = c.find in
-    let row = c.row-1 in
     let walk = c.walk-s in
     let from-walk = c.from_walk in
-    from-turf _ _ pre c.args.breach _ (find.ensures _ refl) _ row.given.1 _ _ _ walk.ensures _ _ _ _ _ from-walk.ensures
+    from-turf _ _ pre c.args.breach _ (find.ensures _ refl) _ c.in-At.is _ _ _ walk.ensures _ _ _ _ _ from-walk.ensures

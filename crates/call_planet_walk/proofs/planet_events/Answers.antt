@@ -17,5 +17,4 @@ walk-s-requires c =
 pub returns : goal.returns
 returns c =
     let find = c.find in
-    let row = c.row-1 in
-    let walk = c.walk-s in record { fact = from-turf _ _ _ _ (find.ensures _ refl) _ row.given.1 walk.ensures; words_after = walk.ensures.beyond }
+    let walk = c.walk-s in record { fact = from-turf _ _ _ _ (find.ensures _ refl) _ c.in-At.is walk.ensures; words_after = walk.ensures.beyond }

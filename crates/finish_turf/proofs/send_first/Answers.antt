@@ -58,10 +58,10 @@ returns c =
     first-sent _ _ _ _ _ entry.requires _ _ _ at.lifted_at-up.ensures links-of.ensures.0 links-of.ensures.1 _ at.next_edge.ensures at.if-next_edge-to.false _ l.lift.ensures _ _ c.send_edges.ensures
 
 pub shape_of-gas : goal.shape_of-gas
-shape_of-gas c = (returns-2 c).kept.gas
+shape_of-gas c = (returns c).kept.gas
 
 pub shape_of-floats : goal.shape_of-floats
-shape_of-floats c = (returns-2 c).kept.floats
+shape_of-floats c = (returns c).kept.floats
 
 pub shape_of-events : goal.shape_of-events
-shape_of-events c = (returns-2 c).kept.events
+shape_of-events c = (returns c).kept.events

@@ -1,5 +1,4 @@
 use mathlib.Core.Path.{sym}
-use Prim.Native.Nat.{◌-◌}
 use lib.Seq.{length-take-le}
 use borrow.Author.Rules.{rules}
 use Rattle.replay.proofs.try_all.Goals as goal

@@ -8,5 +8,5 @@ use Rattle.stages.proofs.stages_plan.Goals as goal
 pub write-requires : goal.write-requires
 write-requires c =
     let a = c.args in
-    let b = board a.ids.now a.flags.now a.planetary.now a.mixtures.now a.starts.now a.neighbours.now a.link-flags.now a.immutable.now a.gases in
+    let b = board a.ids.now a.flags.now a.planetary.now a.mixtures.now a.starts.now a.neighbours.now a.link_flags.now a.immutable.now a.gases in
     few b (ask_of a.hot.now a.threshold a.limit a.allowance) (lent a.amounts.now a.events.now a.words.now a.floats.now) c.plan-a.ensures.fills
