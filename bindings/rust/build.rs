@@ -1,4 +1,4 @@
-//! Links the archive that `rt staticlib katmos` writes: the one in the directory KATMOS_LIB, or the repository's own.
+//! Links the archive that `bindings/archive` writes: the one in the directory KATMOS_LIB, or the repository's own.
 
 use std::env::var;
 use std::path::PathBuf;
@@ -9,7 +9,7 @@ fn main() {
     let own = concat!(env!("CARGO_MANIFEST_DIR"), "/../../target/staticlib");
     let place = PathBuf::from(var("KATMOS_LIB").unwrap_or(own.into()));
     let archive = place.join("libkatmos.a");
-    assert!(archive.is_file(), "no {}: write it by `rt staticlib katmos`, or let KATMOS_LIB name its directory", archive.display());
+    assert!(archive.is_file(), "no {}: write it by bindings/archive, or let KATMOS_LIB name its directory", archive.display());
     println!("cargo:rerun-if-env-changed=KATMOS_LIB");
     println!("cargo:rerun-if-changed={}", archive.display());
     println!("cargo:rustc-link-search=native={}", place.display());

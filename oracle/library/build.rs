@@ -1,4 +1,4 @@
-//! Links the archive that `rt staticlib katmos` writes, or the one in the folder that KATMOS_AT names.
+//! Links the archive that `bindings/archive` writes, or the one in the folder that KATMOS_AT names.
 
 fn main() {
     let archive = std::env::var("KATMOS_AT").unwrap_or(concat!(env!("CARGO_MANIFEST_DIR"), "/../../target/staticlib").to_string());

@@ -1,4 +1,4 @@
-//! Links the archive that `rt staticlib stages` writes, or the one in the folder that STAGES_AT names.
+//! Links the archive that `bindings/archive stages` writes, or the one in the folder that STAGES_AT names.
 
 fn main() {
     let archive = std::env::var("STAGES_AT").unwrap_or(concat!(env!("CARGO_MANIFEST_DIR"), "/../../target/staticlib").to_string());

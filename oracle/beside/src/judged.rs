@@ -23,7 +23,7 @@ fn bits(items: &[f32]) -> String {
 
 fn tables(board: &Board) -> String {
     format!(
-        "(record {{ ids = {}; flags = {}; planetary = {}; mixtures = {}; starts = {}; neighbours = {}; linkFlags = {}; immutable = {}; gases = {} }})",
+        "(record {{ ids = {}; flags = {}; planetary = {}; mixtures = {}; starts = {}; neighbours = {}; link_flags = {}; immutable = {}; gases = {} }})",
         words(&board.ids),
         bytes(&board.flags),
         bytes(&board.planetary),
@@ -41,16 +41,16 @@ fn row(case: &Case, outcome: &Outcome) -> String {
     let (call, board) = match &case.call {
         Call::Equalize(ask) => {
             let record = format!(
-                "(record {{ hot = {}; threshold = ofWord {}; limit = {}; allowance = {} }})",
+                "(record {{ hot = {}; threshold = of_word {}; limit = {}; allowance = {} }})",
                 words(&ask.hot),
                 ask.threshold.to_bits(),
                 ask.limit,
                 ask.allowance
             );
-            (format!("{record} {}", words(&ask.turns)), "equalizesAs")
+            (format!("{record} {}", words(&ask.turns)), "equalizes_as")
         }
-        Call::Depressurize(breach) => (format!("(breachOf {} {} {})", breach.id, breach.limit, breach.arrows), "depressurizesAs"),
-        Call::PlanetWalk(walk) => (format!("{} {}", walk.limit, walk.id), "walksPlanetAs"),
+        Call::Depressurize(breach) => (format!("(breach_of {} {} {})", breach.id, breach.limit, breach.arrows), "depressurizes_as"),
+        Call::PlanetWalk(walk) => (format!("{} {}", walk.limit, walk.id), "walks_planet_as"),
     };
     let done = outcome.answer[0] == 0;
     let (room, written) = (case.room(), outcome.answer[outcome.answer.len() - 1] as usize);
@@ -84,15 +84,14 @@ pub fn rows(each: u64, seed: u64) -> String {
     let rows: Vec<String> = cases.iter().map(|case| row(case, &filled::play::outcome(case))).collect();
     format!(
         "-- {} small boards of every family from seed {seed} with the Rust's answers; written by `beside judged {each} {seed}` in oracle/.
-use mathlib.Core.List.{{List, [], _∷_}}
-use mathlib.Core.Bool.{{Bool}}
-use Rattle·basics.specs.Floats.{{ofWord}}
-use Rattle·rules_depressurize.specs.Depressurize.{{breachOf}}
-use Rattle·judged·specs.specs.Judge.{{equalizesAs, depressurizesAs, walksPlanetAs}}
+use Rattle.std.specs.Prelude.{{List, [], ◌∷◌, Bool}}
+use Rattle.basics.specs.Floats.{{of_word}}
+use Rattle.rules_depressurize.specs.Depressurize.{{breach_of}}
+use Rattle.judged.specs.Judge.{{equalizes_as, depressurizes_as, walks_planet_as}}
 
 -- each call answers and leaves what the Rust does
-unfoldable pub judgedRows : List Bool
-judgedRows =
+unfoldable pub judged_rows : List Bool
+judged_rows =
     {}
     ∷ []
 ",
