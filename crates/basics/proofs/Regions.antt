@@ -1,5 +1,5 @@
 -- Reads and stores in one array of a work area, once for any number of arrays. Assumes nothing.
-use Prim.Native.Nat.{ℕ, zero, suc, ◌+◌, ◌≤◌, ◌<◌, ◌-◌}
+use Prim.Native.Nat.{ℕ, zero, suc, ◌+◌, ◌≤◌, ◌<◌}
 use native.Mathlib.Omega.{arith}
 use native.Mathlib.Nat.{not-suc-le-zero, le_of_suc-le-suc}
 use mathlib.Core.Path.{◌≡◌, refl, ap, ◌∙◌, sym}
@@ -8,7 +8,6 @@ use lib.ListN.{length, get_or, take, drop, set, replicate, length-drop, length-r
 use lib.Seq.{take-set-lt, drop-set-lt, take-set-le, drop-set-add, get_or-take, get_or-drop, length-take-le, drop-drop, take_at, drop_at, take-add}
 use Rattle.basics.specs.Regions.{cut, region, base}
 use Rattle.basics.proofs.Parts.{drop-later}
-use Rattle.basics.specs.Worked as worked  -- checked before the laws
 
 module _ {A : Type 0} where
   -- a store at index i of array k: that array has it, and every other is as it was

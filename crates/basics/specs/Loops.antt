@@ -1,7 +1,7 @@
 -- Loops and searches. A loop of the definitions is one of two: `run f xs s`, a step for each element of a list, and `times f n s`, a step n times.
 -- A loop that ends early is the same loop with a step that changes nothing from there on.
 -- `if` computes both branches, so no branch of a definition holds a call of the definition itself.
-use Rattle.std.specs.Prelude.{List, [], ◌∷◌, ◌++◌, Bool, true, false, not, ◌&&◌, ◌||◌, ℕ, zero, suc, ◌+◌, eqb}
+use Rattle.std.specs.Prelude.{List, [], ◌∷◌, ◌++◌, Bool, true, false, ◌&&◌, ◌||◌, ℕ, zero, suc, eqb}
 use Rattle.basics.specs.declared.Spot.{Spot}
 use Rattle.basics.specs.declared.Spot.TheVariants.{At, Nowhere}
 

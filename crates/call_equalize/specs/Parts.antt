@@ -1,5 +1,5 @@
 -- What the parts of a call rely on and promise, on the way to its answer.
-use Rattle.std.specs.Prelude.{◌≡◌, List, ℕ, ◌≤◌, T, length, drop}
+use Rattle.std.specs.Prelude.{◌≡◌, ℕ, ◌≤◌, T, length, drop}
 use Rattle.rules_board.specs.Board.{Board, turf_count, link_count}
 use Rattle.rules_board.specs.Refuse.{links_fit}
 use Rattle.turfs.specs.Tables.{Accepted}

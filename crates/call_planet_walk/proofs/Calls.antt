@@ -24,8 +24,8 @@ use Rattle.lent.specs.declared.ExtraTests.{ExtraTests}
 use Rattle.lent.proofs.Numbers.{bare, given, no_links, scratch_of}
 use Rattle.lent.proofs.Passed.{passed}
 use Rattle.scratch.specs.Layout.{walk_sizes, walk_room}
-use Rattle.rules_walk.specs.Walk.{Walk, walk}
-use Rattle.walk_links.specs.Reached.{walk_at, walk_of, Walked}
+use Rattle.rules_walk.specs.Walk.{Walk}
+use Rattle.walk_links.specs.Reached.{walk_of, Walked}
 use Rattle.rules_walk.specs.declared.Kind.TheVariants.{Planet}
 use Rattle.walk_links.specs.declared.Reach.{Reach}
 use Rattle.walk_links.proofs.Does.{none-wrote}

@@ -9,7 +9,7 @@ ghost use Rattle.rules_fill.specs.Fill.{is_over};
 ghost use Rattle.scratch.specs.Layout.{Sizes, words_end};
 ghost use Rattle.rules_equalize.specs.Equalize.{hot_id, filled_all};
 ghost use Rattle.fill_ignored.specs.Asked.{Spans, PushedFits};
-ghost use Rattle.fill_all.specs.Held.{asked, Stored, Fills, Keeps, After, start, HotBegun, Cleared, FillsAll};
+ghost use Rattle.fill_all.specs.Held.{asked, Fills, Keeps, After, start, Cleared, FillsAll};
 ghost use Rattle.fill_all.specs.Asked.{KeepFits, HotFits, FillFits};
 
 use basics::Spot;

@@ -5,7 +5,7 @@ use mathlib.Core.Path.{◌≡◌, refl, ap, ◌∙◌, sym, subst}
 use mathlib.Core.List.{List, [], ◌∷◌, ◌++◌, append-nil, append_assoc}
 use mathlib.Core.Bool.{Bool, true, false, not, ◌&&◌, ◌||◌, cond}
 use lib.Dec.{eqb}
-use lib.ListN.{length, get_or, set, take, drop, length-drop}
+use lib.ListN.{length, get_or, set, drop, length-drop}
 use lib.Seq.{length-take-le}
 use borrow.Author.Tests.{eq-eqb, ne_eqb}
 use Rattle.basics.specs.Loops.{run, up_from, snoc}
@@ -13,7 +13,7 @@ use Rattle.basics.specs.Lists.{one}
 use Rattle.basics.proofs.Loops.{run-suc, run-up_end, run-same}
 use Rattle.scratch.specs.Layout.{found_at}
 use Rattle.scratch.specs.View.{queue_in, nodes_in}
-use Rattle.rules_board.specs.Board.{Board, turf_count, link_count, id_of, end, enabled, planetary, immutable, firelock, degree, links_of}
+use Rattle.rules_board.specs.Board.{Board, turf_count, link_count, id_of, end, enabled, planetary, immutable, firelock, links_of}
 use Rattle.turfs.specs.Tables.{Slices, board_of, Near}
 use Rattle.turfs.proofs.Near.{near-inside, near-end}
 use Rattle.rules_events.specs.declared.Event.{Event}

@@ -1,6 +1,6 @@
 -- What the functions of filling are asked.
 use Rattle.std.specs.Prelude.{ℕ, ◌+◌, ◌≤◌, ◌<◌, ◌≡◌, List, [], length, get_or}
-use Rattle.rules_board.specs.Board.{Board, turf_count, link_count, mixture_count, mix_of, end, board}
+use Rattle.rules_board.specs.Board.{Board, turf_count, link_count, mixture_count, mix_of, end}
 use Rattle.turfs.specs.Tables.{Parts}
 use Rattle.scratch.specs.Layout.{most_nodes}
 use Rattle.fill_links.specs.Held.{reach_view, ReachFits, Bounded}

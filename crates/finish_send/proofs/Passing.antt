@@ -1,8 +1,8 @@
 -- Edge by edge: links with nothing to send are passed over, and one that has something is sent, so what is left to send falls by one. Assumes nothing.
 use mathlib.Core.Path.{◌≡◌, refl, ap, ap₂, ◌∙◌, sym, subst}
-use mathlib.Core.List.{List, [], ◌∷◌}
-use mathlib.Core.Bool.{Bool, true, false, ◌&&◌, cond}
-use Prim.Native.Nat.{ℕ, zero, suc, ◌+◌, ◌-◌, ◌*◌, ◌≤◌, ◌<◌}
+use mathlib.Core.List.{List}
+use mathlib.Core.Bool.{Bool, true, false, ◌&&◌}
+use Prim.Native.Nat.{ℕ, zero, suc, ◌+◌, ◌-◌, ◌≤◌, ◌<◌}
 use native.Mathlib.Omega.{arith}
 use native.Mathlib.Nat.{le_trans, zero-add}
 use lib.Dec.{eqb}
@@ -23,7 +23,7 @@ use Rattle.rules_plan.specs.Edges.{owned}
 use Rattle.laws_plan.proofs.Sizes.{alter-size}
 use Rattle.plan_edges.specs.Steps.{back_link}
 use Rattle.plan_state.proofs.Links.{reverse-within}
-use Rattle.rules_finish.specs.Lifted.{above, pending, Held, send_held, givers_held}
+use Rattle.rules_finish.specs.Lifted.{above, pending, Held, send_held}
 use Rattle.laws_finish.proofs.Weights.{Below, alter-below, alter-less}
 use Rattle.laws_finish.proofs.Unfinished.{unfinished-below}
 use Rattle.scratch.specs.View.{owner_in, reverse_in}

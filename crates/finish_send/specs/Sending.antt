@@ -7,7 +7,6 @@ use Rattle.basics.specs.Floats.{0f}
 use Rattle.basics.specs.Lists.{count}
 use Rattle.rules_board.specs.Board.{Board, turf_count, link_count, mixture_count, mix_of, end}
 use Rattle.rules_mixture.specs.Mixture.{total, move_air}
-use Rattle.mixture.specs.Held.{HoldsGas}
 use Rattle.rules_events.specs.Events.{encode}
 use Rattle.events.specs.Area.{Wrote}
 use Rattle.rules_events.specs.declared.Event.TheVariants.{Pressure}

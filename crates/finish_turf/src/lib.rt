@@ -3,7 +3,7 @@
 // turf in the cycle takes little of the stack.
 #![tactic(auto)]
 
-ghost use Rattle.std.specs.Prelude.{◌≡◌, ◌<◌};
+ghost use Rattle.std.specs.Prelude.{◌<◌};
 ghost use Rattle.turfs.specs.Tables.{board_at};
 ghost use Rattle.finish_send.specs.Areas.{finish_areas};
 ghost use Rattle.finish_send.specs.Sending.{Going};

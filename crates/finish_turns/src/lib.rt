@@ -1,7 +1,6 @@
 // The turns: which node of which zone is finished next, by what the words hold of the zones.
 #![tactic(auto)]
 
-ghost use Rattle.std.specs.Prelude.{◌≡◌};
 ghost use Rattle.rules_board.specs.Board.{turf_count, link_count};
 ghost use Rattle.turfs.specs.Tables.{board_at};
 ghost use Rattle.finish_send.specs.Areas.{finish_areas};

@@ -1,6 +1,6 @@
 -- How the words of n turfs and e links hold the zones and their turns, and what a function promises of them.
-use Rattle.std.specs.Prelude.{◌≡◌, List, ◌++◌, map, ℕ, ◌+◌, ◌-◌, ◌≤◌, ◌<◌, ltb, length, get_or, set, take, drop, if◌then◌else◌}
-use Rattle.basics.specs.Loops.{keep, up_from}
+use Rattle.std.specs.Prelude.{◌≡◌, List, ◌++◌, map, ℕ, ◌+◌, ◌-◌, ◌≤◌, ◌<◌, length, get_or, take, drop}
+use Rattle.basics.specs.Loops.{up_from}
 use Rattle.basics.specs.Floats.{0f}
 use Rattle.basics.specs.Lists.{All}
 use Rattle.scratch.specs.Layout.{turns_at, live_at, starts_at, zone_nodes_at}

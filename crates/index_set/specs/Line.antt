@@ -1,6 +1,6 @@
 -- An `IndexSet` in a work area: the rows in order of insertion, and for each row a word that leads back to its place among them.
 -- A row is in the set if its word is below the count and the set has the row there, so that nothing is cleared before a search or after it.
-use Rattle.std.specs.Prelude.{ℕ, ◌+◌, ◌≤◌, ◌<◌, ◌≡◌, List, [], ◌∷◌, Bool, true, false, length, get_or, take, drop}
+use Rattle.std.specs.Prelude.{ℕ, ◌+◌, ◌≤◌, ◌<◌, ◌≡◌, List, [], ◌∷◌, false, length, get_or, take, drop}
 use Rattle.basics.specs.Loops.{member}
 
 -- every row of the list is below n

@@ -1,7 +1,7 @@
 // An `IndexSet` of rows in a work area: a row's place among them tells whether it is in the set.
 #![tactic(auto)]
 
-ghost use Rattle.std.specs.Prelude.{◌≡◌, ◌+◌, ◌≤◌, ◌<◌, length, take, set};
+ghost use Rattle.std.specs.Prelude.{◌≡◌, ◌+◌, ◌<◌, length, take, set};
 ghost use Rattle.basics.specs.Loops.{member};
 ghost use Rattle.index_set.specs.Line.{array, HoldsSet};
 

@@ -1,16 +1,16 @@
 -- Filling is steps over hot turfs: what every fill from a turf that isn't passed over keeps, filling keeps. Assumes nothing.
 use mathlib.Core.Path.{◌≡◌, refl, subst}
-use mathlib.Core.List.{List, []}
+use mathlib.Core.List.{List}
 use mathlib.Core.Bool.{Bool, true, false, not, ◌||◌, cond}
 use Prim.Native.Nat.{ℕ, ◌<◌}
 use lib.Dec.{T, eqb, eqb→eq}
-use lib.ListN.{get_or, replicate}
+use lib.ListN.{get_or}
 use lib.Ieee.{Float}
 use Rattle.basics.specs.declared.Spot.{Spot}
 use Rattle.basics.specs.declared.Spot.TheVariants.{At, Nowhere}
 use Rattle.basics.specs.Lists.{Found}
 use Rattle.basics.proofs.Loops.{All-any, run-keeps}
-use Rattle.rules_board.specs.Board.{Board, turf_count, link_count, enabled, row_of}
+use Rattle.rules_board.specs.Board.{Board, turf_count, enabled, row_of}
 use Rattle.turfs.proofs.Accepted.{row_below}
 use Rattle.rules_equalize.specs.Equalize.{Ask, Filled, start_filled, passed_over, fill_from, hot_row, hot_id, filled_all}
 use Rattle.rules_equalize.specs.Worked as worked  -- checked before the laws

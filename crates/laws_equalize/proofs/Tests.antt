@@ -1,10 +1,10 @@
 -- Clock tests: a run that isn't cancelled makes one for each turf popped and two more, all within the allowance; a cancelled one stops at the first that exceeds
 -- it. Assumes nothing.
 use mathlib.Core.Path.{◌≡◌, refl, sym, ap, ◌∙◌}
-use mathlib.Core.Logic.{◌⊎◌, inl, inr}
+use mathlib.Core.Logic.{inl, inr}
 use mathlib.Core.List.{List, [], ◌∷◌, ◌++◌}
 use mathlib.Core.Bool.{Bool, true, false, cond}
-use Prim.Native.Nat.{ℕ, ◌+◌, ◌≤◌}
+use Prim.Native.Nat.{ℕ, ◌+◌}
 use native.Mathlib.Nat.{suc-ne-zero}
 use native.Mathlib.Omega.{arith}
 use lib.Dec.{ltb}
@@ -16,7 +16,7 @@ use Rattle.basics.specs.declared.Spot.{Spot}
 use Rattle.basics.specs.declared.Spot.TheVariants.{At, Nowhere}
 use Rattle.rules_board.specs.Board.{Board, row_of}
 use Rattle.turfs.specs.Tables.{Accepted}
-use Rattle.rules_fill.specs.Fill.{Fill, fill}
+use Rattle.rules_fill.specs.Fill.{Fill}
 use Rattle.laws_fill.proofs.Rest.{fill-tests}
 use Rattle.rules_finish.specs.Turns.{node_count}
 use Rattle.rules_equalize.specs.Equalize.{Ask, Filled, start_filled, after_fill, passed_over, fill_from, hot_row, hot_id, filled_all, cancel, played, equalize}

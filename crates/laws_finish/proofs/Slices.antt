@@ -11,7 +11,7 @@ use lib.Dec.{T, eqb, eqb→eq, eqb_refl}
 use lib.ListN.{length, get_or, set, length-set, get_or-eq_default}
 use lib.Seq.{get_or-set_same, get_or-set_other, set_out}
 use lib.Ieee.{Float, nan, lt}
-use Rattle.basics.specs.Loops.{run, keep, every, member}
+use Rattle.basics.specs.Loops.{run, keep, member}
 use Rattle.basics.specs.Floats.{0f}
 use Rattle.basics.specs.Lists.{All}
 use Rattle.basics.proofs.Loops.{All-any, All-imp, All-map, run-keeps, run-both, run-keep, run-map, every-all, cond_both}
@@ -23,7 +23,7 @@ use Rattle.turfs.proofs.Accepted.{sources}
 use Rattle.rules_mixture.specs.Mixture.{total}
 use Rattle.rules_plan.specs.Edges.{owned, edges_of, edge}
 use Rattle.laws_plan.proofs.Sizes.{alter-size}
-use Rattle.rules_finish.specs.Finish.{Done, Pair, zero_lifted, positive, negative, pairs, finish_givers, send, finish_pair, finish}
+use Rattle.rules_finish.specs.Finish.{Done, Pair, positive, negative, pairs, finish_givers, send, finish_pair, finish}
 use Rattle.rules_finish.specs.Lifted.{Held, save, quiet, cleared, givers_held, send_held, pair_held, finish_held, above}
 use Rattle.laws_finish.proofs.Weights.{lift_size, Below, lift_below, alter-below, lift_zero}
 

@@ -1,5 +1,5 @@
 -- The turns as a list of jobs: which node of which zone, in order, until none is left. proofs/ByTurns says that `finish_all` does these jobs.
-use Rattle.std.specs.Prelude.{List, [], ◌∷◌, ◌++◌, map, Bool, cond, ℕ, suc, ◌+◌, ◌%◌, eqb, length, get_or, set, drop, replicate, if◌then◌else◌}
+use Rattle.std.specs.Prelude.{List, [], ◌∷◌, ◌++◌, map, ℕ, suc, ◌+◌, ◌%◌, eqb, length, get_or, set, drop, replicate, if◌then◌else◌}
 use Rattle.basics.specs.Loops.{up_from}
 use Rattle.rules_board.specs.Board.{Board, link_count}
 use Rattle.rules_finish.specs.Finish.{Done, finish}

@@ -16,7 +16,6 @@ use Rattle.basics.proofs.Lists.{All-snoc}
 use Rattle.rules_board.specs.Board.{Board, turf_count, link_count, planetary}
 use Rattle.turfs.specs.Tables.{Accepted}
 use Rattle.rules_mixture.specs.Mixture.{amount_fits}
-use Rattle.rules_mixture.specs.Mixture as mixture
 use Rattle.rules_fill.specs.Fill.{Fill, is_on, end_fill, expand, pop, pop_next, fill}
 use Rattle.rules_fill.specs.declared.Going.TheVariants.{Broken, Over}
 use Rattle.rules_plan.specs.Plan.{Plan, planned_zone}

@@ -1,5 +1,5 @@
 -- The zones as filling leaves them in the work areas, and what planning them all promises.
-use Rattle.std.specs.Prelude.{ℕ, ◌+◌, ◌≤◌, ◌<◌, ◌≡◌, List, [], map, false, length, get_or, take, drop, replicate, Float}
+use Rattle.std.specs.Prelude.{ℕ, ◌+◌, ◌≤◌, ◌<◌, ◌≡◌, List, [], map, false, length, get_or, drop, replicate, Float}
 use Rattle.basics.specs.Floats.{0f}
 use Rattle.basics.specs.Loops.{run, up_from}
 use Rattle.scratch.specs.Layout.{Sizes, found_at, marks_at, lifted_at, floats_end, most_nodes}

@@ -2,7 +2,7 @@
 use Prim.Native.Nat.{ℕ, zero, suc, ◌+◌, ◌-◌, ◌≤◌, ◌<◌}
 use native.Mathlib.Omega.{arith}
 use mathlib.Core.Path.{◌≡◌, ap, ◌∙◌, sym}
-use mathlib.Core.List.{List, [], ◌∷◌, reverse, reverse_aux}
+use mathlib.Core.List.{List, [], ◌∷◌, reverse}
 use mathlib.Core.Bool.{true, false}
 use lib.ListN.{length, get_or, set, take, drop, length-drop}
 use lib.Seq.{get_or-take, get_or-drop}
@@ -12,7 +12,7 @@ use Rattle.basics.specs.Floats.{0f, ◌+f◌}
 use Rattle.basics.specs.Loops.{run}
 use Rattle.basics.specs.declared.Spot.{Spot}
 use Rattle.basics.specs.declared.Spot.TheVariants.{At}
-use Rattle.basics.specs.Lists.{All, Found}
+use Rattle.basics.specs.Lists.{Found}
 use Rattle.basics.proofs.Loops.{run-back, run-back_end}
 use Rattle.scratch.specs.Layout.{plan_words, reverse_at, via_at, queue_at, amount_at}
 use Rattle.scratch.specs.View.{owner_in, reverse_in}

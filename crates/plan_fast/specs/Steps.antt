@@ -1,5 +1,5 @@
 -- The steps of the fast pass as the code takes them: by link, and only what changes is stored.
-use Rattle.std.specs.Prelude.{ℕ, ◌+◌, List, Bool, cond, eqb, get_or, set, Float, if◌then◌else◌}
+use Rattle.std.specs.Prelude.{ℕ, ◌+◌, List, eqb, get_or, set, Float, if◌then◌else◌}
 use Rattle.std.specs.Float.{nan}
 use Rattle.basics.specs.Floats.{◌+f◌, ◌-f◌}
 use Rattle.basics.specs.declared.Spot.{Spot}

@@ -1,7 +1,7 @@
 -- Links that are passed with nothing to trade, one after the other. Assumes nothing.
 use Prim.Native.Nat.{ℕ, ◌+◌, ◌-◌, ◌≤◌, ◌<◌}
 use native.Mathlib.Omega.{arith}
-use mathlib.Core.Path.{◌≡◌, refl, ap, ◌∙◌, sym, subst}
+use mathlib.Core.Path.{◌≡◌, ap, ◌∙◌, sym, subst}
 use mathlib.Core.List.{List}
 use Rattle.basics.specs.Loops.{run, up_from}
 use Rattle.basics.proofs.Loops.{run-suc, run-up_end}

@@ -1,5 +1,5 @@
 -- What the tests of planning come to, where the definition has no name for it.
-use Rattle.std.specs.Prelude.{ℕ, Bool, cond, ltb, Float, if◌then◌else◌}
+use Rattle.std.specs.Prelude.{ℕ, ltb, Float, if◌then◌else◌}
 use Rattle.std.specs.Float.Ieee.{neg}
 use Rattle.rules_plan.specs.declared.MonstermosInfo.{MonstermosInfo}
 use Rattle.rules_plan.specs.declared.Side.{Side}

@@ -1,10 +1,10 @@
 -- What holds in a search, and what a step of it promises.
-use Rattle.std.specs.Prelude.{ℕ, ◌+◌, ◌≤◌, ◌<◌, ◌≡◌, false, List, length, get_or, take}
+use Rattle.std.specs.Prelude.{ℕ, ◌+◌, ◌≤◌, ◌<◌, ◌≡◌, false, List, get_or, take}
 use Rattle.std.specs.Float.{nan}
 use Rattle.std.specs.Float.Ieee.{ne}
 use Rattle.basics.specs.Floats.{0f}
 use Rattle.scratch.specs.Layout.{delta_at}
-use Rattle.rules_plan.specs.Plan.{Plan, Seek, settled}
+use Rattle.rules_plan.specs.Plan.{Seek, settled}
 use Rattle.rules_plan.specs.declared.Side.{Side}
 use Rattle.index_set.specs.Line.{Line}
 use Rattle.reverse_links.specs.Reverse.{InRow}

@@ -1,5 +1,5 @@
 -- The steps of a search as the code takes them: by link, and only what changes is stored.
-use Rattle.std.specs.Prelude.{ℕ, ◌+◌, ◌-◌, List, Bool, not, ◌&&◌, cond, eqb, ltb, get_or, set, Float, if◌then◌else◌}
+use Rattle.std.specs.Prelude.{ℕ, ◌+◌, ◌-◌, List, not, ◌&&◌, eqb, ltb, get_or, set, if◌then◌else◌}
 use Rattle.std.specs.Float.{nan}
 use Rattle.std.specs.Float.Ieee.{ne}
 use Rattle.basics.specs.Floats.{0f, ◌+f◌, ◌-f◌}

@@ -1,5 +1,5 @@
 -- The way back of `explosively_depressurize`, from the last turf to the first.
-use Rattle.std.specs.Prelude.{List, [], ◌∷◌, ◌++◌, Bool, cond, ℕ, ◌-◌, eqb, get_or, set, Float, if◌then◌else◌}
+use Rattle.std.specs.Prelude.{List, [], ◌∷◌, ◌++◌, Bool, ℕ, ◌-◌, eqb, get_or, set, Float, if◌then◌else◌}
 use Rattle.std.specs.Float.{nan}
 use Rattle.basics.specs.Loops.{snoc}
 use Rattle.basics.specs.Floats.{◌+f◌}

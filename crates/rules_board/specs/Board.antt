@@ -1,5 +1,5 @@
 -- The tables lent to a call, and what is read off them. A turf is its row, a link its place in the link list.
-use Rattle.std.specs.Prelude.{List, [], ◌∷◌, Bool, not, ℕ, ◌+◌, ◌-◌, eqb, length, get_or, take, drop}
+use Rattle.std.specs.Prelude.{List, Bool, not, ℕ, ◌+◌, ◌-◌, eqb, length, get_or, take, drop}
 use Rattle.std.specs.Int.Bits.{bit_and}
 use Rattle.basics.specs.Loops.{up_from, first}
 use Rattle.basics.specs.declared.Spot.{Spot}

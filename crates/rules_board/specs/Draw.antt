@@ -1,6 +1,6 @@
 -- Boards drawn turf by turf, so that a worked board can be read.
 use Rattle.std.specs.Prelude.{List, [], ◌∷◌, ◌++◌, map, ℕ, ◌+◌, length, replicate}
-use Rattle.basics.specs.Loops.{run, up_from}
+use Rattle.basics.specs.Loops.{up_from}
 use Rattle.rules_board.specs.Board.{Board}
 
 -- a link as drawn: open, or across a firelock, to a row

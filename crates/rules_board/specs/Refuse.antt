@@ -1,5 +1,5 @@
 -- The tests of the refusals 1 to 4, over the tables alone.
-use Rattle.std.specs.Prelude.{List, [], ◌∷◌, Bool, true, false, not, ◌&&◌, ℕ, ◌+◌, ◌*◌, eqb, ltb, leb, length, get_or}
+use Rattle.std.specs.Prelude.{List, [], ◌∷◌, Bool, true, not, ◌&&◌, ℕ, ◌+◌, ◌*◌, eqb, ltb, leb, length, get_or}
 use Rattle.basics.specs.Loops.{every, all_of, up_from, member}
 use Rattle.rules_board.specs.Board.{Board, turf_count, link_count, mixture_count, neighbours_of}
 

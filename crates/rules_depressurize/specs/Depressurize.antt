@@ -1,5 +1,5 @@
 -- `explosively_depressurize`: the walk to space, out from space and back, as one operation, and the whole of a call.
-use Rattle.std.specs.Prelude.{List, [], ◌++◌, reverse, cond, ℕ, ◌*◌, eqb, length, replicate, Float, if◌then◌else◌}
+use Rattle.std.specs.Prelude.{List, [], ◌++◌, reverse, ℕ, ◌*◌, eqb, length, replicate, Float, if◌then◌else◌}
 use Rattle.basics.specs.Loops.{run}
 use Rattle.basics.specs.Floats.{0f}
 use Rattle.basics.specs.declared.Spot.{Spot}

@@ -1,5 +1,5 @@
 -- `equalize`: fill from the hot turfs, plan every zone, finish by turns.
-use Rattle.std.specs.Prelude.{List, [], ◌∷◌, map, Bool, true, false, not, ◌||◌, cond, ℕ, ◌+◌, eqb, ltb, length, get_or, replicate, Float, if◌then◌else◌}
+use Rattle.std.specs.Prelude.{List, [], map, Bool, true, false, not, ◌||◌, ℕ, ◌+◌, eqb, ltb, length, get_or, replicate, Float, if◌then◌else◌}
 use Rattle.std.specs.Float.Ieee.{lt, of_bits}
 use Rattle.std.specs.Float.{binary32}
 use Rattle.basics.specs.Loops.{run, keep, every, up_from, member, snoc}
@@ -8,7 +8,7 @@ use Rattle.basics.specs.declared.Spot.{Spot}
 use Rattle.basics.specs.declared.Spot.TheVariants.{At, Nowhere}
 use Rattle.rules_board.specs.Board.{Board, turf_count, link_count, mixture_count, mix_of, end, enabled, immutable_mix, links_of, row_of}
 use Rattle.rules_mixture.specs.Mixture.{total}
-use Rattle.rules_fill.specs.Fill.{Reach, Fill, is_over, fill}
+use Rattle.rules_fill.specs.Fill.{Fill, is_over, fill}
 use Rattle.rules_plan.specs.Plan.{Plan, planned_zone}
 use Rattle.rules_finish.specs.Finish.{Done}
 use Rattle.rules_finish.specs.Turns.{Zone, zone_at, nodes_at, node_count, finish_all}

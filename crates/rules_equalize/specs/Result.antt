@@ -1,8 +1,8 @@
 -- The whole of a call of equalize: its answer and every lent cell, for each input and refusal.
-use Rattle.std.specs.Prelude.{List, cond, ℕ, ◌+◌, ◌*◌, eqb, length, if◌then◌else◌}
+use Rattle.std.specs.Prelude.{List, ℕ, ◌+◌, ◌*◌, eqb, length, if◌then◌else◌}
 use Rattle.rules_board.specs.Board.{Board, turf_count, link_count}
 use Rattle.rules_events.specs.Events.{encode_all}
-use Rattle.rules_lent.specs.Lent.{Lent, Result, Extra, refusal, after}
+use Rattle.rules_lent.specs.Lent.{Lent, Result, refusal, after}
 use Rattle.rules_equalize.specs.Equalize.{Ask, Equalized, equalize}
 use Rattle.rules_equalize.specs.declared.EqualizeAnswer.{EqualizeAnswer}
 

@@ -6,7 +6,7 @@ use Rattle.basics.specs.Loops.{run, times, keep, every, all_of, up_from, member,
 use Rattle.basics.specs.Floats.{finite_sign_clear, bits, of_count, of_word, whole, exact}
 use Rattle.rules_board.specs.Board.{Board, enabled, planetary, immutable, firelock, links_of, row_of}
 use Rattle.rules_board.specs.Refuse.{pairwise, distinct, sizes_fit, tables_fit, row_fits, links_fit}
-use Rattle.rules_board.specs.Draw.{Turf, to, turf, planet, starts_from, all_ways, draw, twenty, board_a, twins, breached}
+use Rattle.rules_board.specs.Draw.{to, turf, planet, starts_from, all_ways, draw, twenty, board_a, twins, breached}
 use Rattle.rules_mixture.specs.Mixture.{sum, scale, plus, ratio, remove, amounts, change, total_mix, total, move_air, amount_fits}
 use Rattle.rules_events.specs.Events.{kind_of, fields_of, words_bytes, encode, encode_all}
 use Rattle.rules_events.specs.declared.Event.{Event}

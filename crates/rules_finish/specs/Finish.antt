@@ -1,5 +1,5 @@
 -- `finalize_eq` and `finalize_eq_neighbors`: a turf's plan is carried out.
-use Rattle.std.specs.Prelude.{List, [], ◌∷◌, map, Bool, cond, ℕ, zero, suc, eqb, get_or, set, Float, if◌then◌else◌}
+use Rattle.std.specs.Prelude.{List, [], map, ℕ, zero, suc, eqb, get_or, set, Float, if◌then◌else◌}
 use Rattle.std.specs.Float.{nan}
 use Rattle.std.specs.Float.Ieee.{lt}
 use Rattle.basics.specs.Loops.{run, keep, snoc}

@@ -1,5 +1,5 @@
 -- The turns, which stand for the Rust's parallel workers: in which order the nodes of the kept zones are finished.
-use Rattle.std.specs.Prelude.{List, [], Bool, cond, ℕ, suc, ◌+◌, ◌%◌, eqb, ltb, length, get_or, set, replicate, Float, if◌then◌else◌}
+use Rattle.std.specs.Prelude.{List, [], ℕ, suc, ◌+◌, ◌%◌, eqb, ltb, length, get_or, set, replicate, Float, if◌then◌else◌}
 use Rattle.basics.specs.Loops.{run, times, keep, up_from}
 use Rattle.basics.specs.Floats.{0f}
 use Rattle.rules_board.specs.Board.{Board, link_count}

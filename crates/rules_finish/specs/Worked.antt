@@ -11,8 +11,8 @@ use Rattle.rules_plan.specs.Worked.{up, down}
 use Rattle.rules_events.specs.Events.{kind_of, fields_of, words_bytes, encode, encode_all}
 use Rattle.rules_events.specs.declared.Event.{Event}
 use Rattle.rules_events.specs.declared.Event.TheVariants.{Pressure}
-use Rattle.rules_finish.specs.Finish.{Done, zero_lifted, pairs, finish_givers, send, finish_pair, finish}
-use Rattle.rules_finish.specs.Turns.{Zone, node_count, unfinished, turn, by_turns}
+use Rattle.rules_finish.specs.Finish.{zero_lifted, pairs, finish_givers, send, finish_pair, finish}
+use Rattle.rules_finish.specs.Turns.{node_count, unfinished, turn, by_turns}
 
 -- a turf of a zone that has all links is finished: weights, gas; then the gas, weights and events afterwards
 unfoldable pub finishes : Board → List Float → List ℕ → ℕ → List ℕ → List Float → List Event → Bool

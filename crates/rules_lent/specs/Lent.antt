@@ -1,5 +1,5 @@
 -- What every call is lent beside its tables: the refusals in order, and what every lent cell holds afterwards.
-use Rattle.std.specs.Prelude.{List, [], ◌∷◌, ◌++◌, Bool, cond, ℕ, ◌+◌, ◌*◌, eqb, leb, length, drop, replicate, Float, if◌then◌else◌}
+use Rattle.std.specs.Prelude.{List, [], ◌∷◌, ◌++◌, Bool, ℕ, ◌+◌, ◌*◌, leb, length, drop, replicate, Float, if◌then◌else◌}
 use Rattle.basics.specs.Loops.{every, all_of}
 use Rattle.basics.specs.Floats.{0f, finite_sign_clear}
 use Rattle.rules_board.specs.Board.{Board, turf_count, link_count, mixture_count}

@@ -1,5 +1,5 @@
 -- Mixtures: the amounts lie mixture by mixture in one list, G to a mixture. An amount that the list lacks reads as `nan`, as in the code.
-use Rattle.std.specs.Prelude.{List, [], ◌∷◌, ◌++◌, map, Bool, ◌&&◌, cond, ℕ, ◌+◌, ◌*◌, take, drop, Float, if◌then◌else◌}
+use Rattle.std.specs.Prelude.{List, [], ◌∷◌, ◌++◌, map, Bool, ◌&&◌, ℕ, ◌+◌, ◌*◌, take, drop, Float, if◌then◌else◌}
 use Rattle.std.specs.Float.Ieee.{le, of_bits}
 use Rattle.std.specs.Float.{binary32}
 use Rattle.basics.specs.Loops.{run}

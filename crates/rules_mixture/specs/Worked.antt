@@ -1,5 +1,5 @@
 -- Worked mixtures, which antt computes. Assumes nothing.
-use Rattle.std.specs.Prelude.{List, [], ◌∷◌, Bool, not, ◌&&◌, ℕ, T, eqb, Float}
+use Rattle.std.specs.Prelude.{List, [], ◌∷◌, Bool, not, ℕ, T, eqb}
 use Rattle.std.specs.Float.Ieee.{add, sub, sum as isum, mul, div, neg, round, size, span, climb, units, odd, of_int, of_bits, of_fields, to_bits, lt, le, eq, ne}
 use Rattle.basics.specs.Loops.{run, all_of, same, up_from}
 use Rattle.basics.specs.Floats.{finite_sign_clear, bits_of, bits, of_count, of_word, whole, exact}

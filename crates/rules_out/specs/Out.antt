@@ -1,5 +1,5 @@
 -- The second floodfill of `explosively_depressurize`: out from space.
-use Rattle.std.specs.Prelude.{List, [], ◌||◌, cond, ℕ, ◌+◌, ltb, leb, length, get_or, set, replicate, if◌then◌else◌}
+use Rattle.std.specs.Prelude.{List, [], ◌||◌, ℕ, ◌+◌, ltb, leb, length, get_or, set, replicate, if◌then◌else◌}
 use Rattle.basics.specs.Loops.{run, times, member, snoc}
 use Rattle.rules_board.specs.Board.{Board, turf_count, id_of, end, immutable, links_of}
 use Rattle.rules_events.specs.declared.Event.{Event}

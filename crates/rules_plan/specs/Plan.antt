@@ -1,5 +1,5 @@
 -- `process_zone`: the weights of one zone's edges.
-use Rattle.std.specs.Prelude.{List, [], ◌∷◌, ◌++◌, reverse, Bool, not, ◌&&◌, ◌||◌, cond, ℕ, ◌+◌, ◌-◌, eqb, ltb, length, get_or, set, Float, if◌then◌else◌}
+use Rattle.std.specs.Prelude.{List, [], ◌∷◌, reverse, Bool, not, ◌&&◌, ◌||◌, ℕ, ◌+◌, ◌-◌, eqb, ltb, length, get_or, set, Float, if◌then◌else◌}
 use Rattle.std.specs.Int.Count.{count_leading_zeros}
 use Rattle.std.specs.Float.{nan}
 use Rattle.std.specs.Float.Ieee.{lt, le, ne, neg}

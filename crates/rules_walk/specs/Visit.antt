@@ -1,5 +1,5 @@
 -- What a walk does at a turf: `planet_equalize` looks for a planet's sky, `explosively_depressurize` for space.
-use Rattle.std.specs.Prelude.{true, not, ◌||◌, cond, ℕ, if◌then◌else◌}
+use Rattle.std.specs.Prelude.{true, not, ◌||◌, ℕ, if◌then◌else◌}
 use Rattle.basics.specs.Loops.{snoc}
 use Rattle.rules_board.specs.Board.{Board, id_of, planetary, immutable}
 use Rattle.rules_events.specs.declared.Event.TheVariants.{Target}

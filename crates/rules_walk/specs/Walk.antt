@@ -1,5 +1,5 @@
 -- The walk from one turf that `explosively_depressurize` and `planet_equalize` share; they differ in what a visit does.
-use Rattle.std.specs.Prelude.{List, [], ◌∷◌, Bool, false, not, ◌&&◌, cond, ℕ, ◌+◌, ltb, leb, length, get_or, if◌then◌else◌}
+use Rattle.std.specs.Prelude.{List, [], ◌∷◌, Bool, false, not, ◌&&◌, ℕ, ◌+◌, ltb, leb, length, get_or, if◌then◌else◌}
 use Rattle.basics.specs.Loops.{run, times, member, snoc}
 use Rattle.rules_board.specs.Board.{Board, turf_count, id_of, end, enabled, firelock, links_of}
 use Rattle.rules_events.specs.declared.Event.{Event}

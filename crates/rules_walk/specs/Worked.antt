@@ -2,7 +2,7 @@
 use Rattle.std.specs.Prelude.{List, [], ◌∷◌, Bool, ℕ, T}
 use Rattle.basics.specs.Loops.{run, times, all_of, member, same, up_from}
 use Rattle.rules_board.specs.Board.{Board, enabled, planetary, immutable, firelock, links_of}
-use Rattle.rules_board.specs.Draw.{Turf, to, lock, turf, disabled, planet, space, starts_from, all_ways, draw, locked_chain, as_is}
+use Rattle.rules_board.specs.Draw.{to, lock, turf, disabled, planet, space, starts_from, all_ways, draw, locked_chain, as_is}
 use Rattle.rules_events.specs.Events.{kind_of, fields_of, words_bytes, encode, encode_all}
 use Rattle.rules_events.specs.declared.Event.{Event}
 use Rattle.rules_events.specs.declared.Event.TheVariants.{Firelock}

@@ -9,14 +9,13 @@ use native.Mathlib.Omega.{arith}
 use lib.Dec.{T, eqb, ltb, leb, leb→le, ltb→lt, eqb→eq}
 use lib.ListN.{length, get_or, drop, get_or-eq_default}
 use borrow.Author.Tests.{le-leb, lt-leb}
-use Rattle.basics.specs.Loops.{every, up_from, first}
+use Rattle.basics.specs.Loops.{every, up_from}
 use Rattle.basics.specs.Lists.{All, Found, one, count}
 use Rattle.basics.proofs.Loops.{All-imp, All-get_or, every-all, and_left, and_right, all-of, first_found}
 use Rattle.basics.proofs.Lists.{up_from-above, up_from-below, up_from-apart, Apart, All-both}
-use Rattle.rules_board.specs.Board.{Board, turf_count, link_count, mixture_count, id_of, mix_of, end, links_of, row_of}
-use Rattle.rules_board.specs.Refuse.{within, pairwise, ascending, rising, row_fits, sizes_fit, tables_fit, ids_fit, links_fit}
+use Rattle.rules_board.specs.Board.{Board, turf_count, link_count, mixture_count, id_of, links_of, row_of}
+use Rattle.rules_board.specs.Refuse.{within, pairwise, rising, sizes_fit, tables_fit, ids_fit, links_fit}
 use Rattle.turfs.specs.Tables.{Accepted, source}
-use Rattle.rules_board.specs.Worked as worked  -- checked before the laws
 
 in_range : (lo hi n : ℕ) → T (within lo hi n) → (lo ≤ n) × (n ≤ hi)
 in_range lo hi n h = (leb→le lo n (and_left (leb lo n) (leb n hi) h), leb→le n hi (and_right (leb lo n) (leb n hi) h))

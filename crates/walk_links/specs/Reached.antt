@@ -1,5 +1,5 @@
 -- How the scratch holds a walk: the queue, each row's place in it and the space list, as many words each as there are turfs.
-use Rattle.std.specs.Prelude.{◌≡◌, List, [], ◌∷◌, ℕ, ◌+◌, ◌*◌, ◌≤◌, ◌<◌, length, get_or, take}
+use Rattle.std.specs.Prelude.{◌≡◌, List, [], ℕ, ◌+◌, ◌*◌, ◌≤◌, ◌<◌, length, get_or, take}
 use Rattle.basics.specs.Regions.{cut, region}
 use Rattle.rules_board.specs.Board.{Board, turf_count, link_count, mixture_count, mix_of, end}
 use Rattle.turfs.specs.Tables.{Parts, Small}

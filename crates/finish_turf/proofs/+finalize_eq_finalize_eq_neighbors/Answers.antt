@@ -1,14 +1,8 @@
-use mathlib.Core.Path.{◌≡◌, refl, sym, ◌∙◌}
+use mathlib.Core.Path.{refl, sym, ◌∙◌}
 use native.Mathlib.Omega.{arith}
-use borrow.Author.Rules.{rules}
-use Rattle.turfs.specs.Tables.{Slices, board_of}
-use Rattle.finish_send.specs.declared.Turf.{Turf}
-use Rattle.finish_send.specs.Areas.{finish_areas, unfinished_on}
 use Rattle.finish_turf.proofs.Turf.{links-room}
-use Rattle.finish_turf.proofs.Givers.{Giving, loop-start, giver_begun, link-below, edge-room, loop-next, givers_finished}
-use Prim.Native.Nat.{ℕ, ◌+◌, ◌-◌, ◌<◌}
-use mathlib.Core.List.{List}
-use lib.Ieee.{Float}
+use Rattle.finish_turf.proofs.Givers.{loop-start, giver_begun, link-below, edge-room, loop-next, givers_finished}
+use Prim.Native.Nat.{◌-◌}
 use Rattle.finish_turf.proofs.+finalize_eq_finalize_eq_neighbors.Goals as goal
 
 pub finalize_eq-send_first-sent-requires : goal.finalize_eq-send_first-sent-requires

@@ -1,13 +1,9 @@
 -- The measures: twice the unfinished nodes of the zone, and one more for the givers, which come after an unfinished node was lifted. Assumes nothing.
-use mathlib.Core.Path.{◌≡◌, refl, sym, ◌∙◌}
-use native.Mathlib.Omega.{arith}
-use borrow.Author.Rules.{rules}
 use Rattle.turfs.specs.Tables.{Slices, board_of}
 use Rattle.finish_send.specs.declared.Turf.{Turf}
 use Rattle.finish_send.specs.Areas.{finish_areas, unfinished_on}
-use Rattle.finish_turf.proofs.Turf.{links-room}
-use Rattle.finish_turf.proofs.Givers.{Giving, loop-start, giver_begun, link-below, edge-room, loop-next, givers_finished}
-use Prim.Native.Nat.{ℕ, ◌+◌, ◌-◌, ◌<◌}
+use Rattle.finish_turf.proofs.Givers.{Giving}
+use Prim.Native.Nat.{ℕ, ◌+◌, ◌-◌}
 use mathlib.Core.List.{List}
 use lib.Ieee.{Float}
 use Rattle.finish_turf.proofs.+finalize_eq_finalize_eq_neighbors.Given as goal

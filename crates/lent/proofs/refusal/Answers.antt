@@ -1,8 +1,7 @@
 -- The tests stand in the definition's order, so the first that fails gives its number. Assumes nothing.
 use Prim.Native.Nat.{ℕ}
 use mathlib.Core.Path.{◌≡◌, ◌∙◌}
-use mathlib.Core.List.{List}
-use mathlib.Core.Bool.{Bool, true, false, not}
+use mathlib.Core.Bool.{true, false}
 use lib.ListN.{length}
 use native.Mathlib.Omega.{arith}
 use borrow.Author.Tests.{not-true, not-false}
@@ -10,7 +9,7 @@ use Rattle.basics.specs.Loops.{every}
 use Rattle.basics.proofs.Tests.{one-fails, all_hold, all_none, yes, no}
 use Rattle.rules_board.specs.Board.{Board}
 use Rattle.rules_board.specs.Refuse.{sizes_fit, tables_fit, ids_fit, links_fit, row_fits}
-use Rattle.turfs.specs.Tables.{board_of, BoardSizes}
+use Rattle.turfs.specs.Tables.{board_of}
 use Rattle.turfs.proofs.Tables.{sizes-of, starts-of}
 use Rattle.rules_mixture.specs.Mixture.{amount_fits}
 use Rattle.rules_lent.specs.Lent.{Lent, Extra, words_room, floats_room, first_failed, refusal}

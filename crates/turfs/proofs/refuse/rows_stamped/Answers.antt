@@ -1,4 +1,3 @@
-use Prim.Native.Nat.{◌-◌}
 use mathlib.Core.Path.{◌∙◌, sym}
 use mathlib.Core.List.{[]}
 use native.Mathlib.Nat.{sub-zero}
@@ -6,7 +5,6 @@ use native.Mathlib.Omega.{arith}
 use borrow.Author.Rules.{rules}
 use borrow.Author.Tests.{not-true, not-false}
 use Rattle.basics.proofs.Tests.{every-up_next, every-up_fails, every-up_end}
-use Rattle.rules_board.specs.Refuse.{row_fits}
 use Rattle.turfs.specs.Tables.{board_of}
 use Rattle.turfs.proofs.Near.{part-near, part-order, part_end}
 use Rattle.turfs.proofs.Refused.{near-test, near-stamps}
