@@ -7,21 +7,19 @@ use Rattle.apart.proofs.apart.Goals as goal
 
 pub zones_apart-requires : goal.zones_apart-requires
 zones_apart-requires c =
-    let entry = c in
     let starts-at = c.starts_at-first in
     let nodes-at = c.nodes_at-nodes in
     let marks-at = c.marks_at-at in
     let clear-part = c.clear_part in
-    let cleared = but_cleared _ (length (table entry.args.marks.now 3)) entry.args.words.now (marks-room entry.requires _ _ _ starts-at.ensures nodes-at.ensures marks-at.ensures) clear-part.ensures in
-    let asked = pass-asks entry.requires _ _ _ starts-at.ensures nodes-at.ensures marks-at.ensures cleared.0 in record { pass_fits = asked.0; zones_laid = asked.1; by_index = cleared.1 }
+    let cleared = but_cleared _ (length (table c.args.marks.now 3)) c.args.words.now (marks-room c.requires _ _ _ starts-at.ensures nodes-at.ensures marks-at.ensures) clear-part.ensures in
+    let asked = pass-asks c.requires _ _ _ starts-at.ensures nodes-at.ensures marks-at.ensures cleared.0 in record { pass_fits = asked.0; zones_laid = asked.1; by_index = cleared.1 }
 
 pub returns : goal.returns
 returns c = λ gases.
-    let entry = c in
     let starts-at = c.starts_at-first in
     let nodes-at = c.nodes_at-nodes in
     let marks-at = c.marks_at-at in
     let clear-part = c.clear_part in
     let zones-apart = c.zones_apart in
-    let cleared = but_cleared _ (length (table entry.args.marks.now 3)) entry.args.words.now (marks-room entry.requires _ _ _ starts-at.ensures nodes-at.ensures marks-at.ensures) clear-part.ensures in
-    tells_gases entry.args.rows.now entry.args.marks.now gases (pass-tells entry.requires _ _ _ starts-at.ensures nodes-at.ensures marks-at.ensures cleared.0 zones-apart.ensures)
+    let cleared = but_cleared _ (length (table c.args.marks.now 3)) c.args.words.now (marks-room c.requires _ _ _ starts-at.ensures nodes-at.ensures marks-at.ensures) clear-part.ensures in
+    tells_gases c.args.rows.now c.args.marks.now gases (pass-tells c.requires _ _ _ starts-at.ensures nodes-at.ensures marks-at.ensures cleared.0 zones-apart.ensures)

@@ -10,8 +10,7 @@ loop-i-init c = (((omega arith, λ h. h), but_none), λ zs. going_start _ zs _ _
 
 pub offset_bounds-words-i : goal.offset_bounds-words-i
 offset_bounds-words-i c =
-    let entry = c in
-    omega (arith, entry.requires.before, entry.requires.pass.room, c.loop-i-test.true, c.loop-i.invariant.0.1.len, entry.well_formed)
+    omega (arith, c.requires.before, c.requires.pass.room, c.loop-i-test.true, c.loop-i.invariant.0.1.len, c.well_formed)
 
 pub bounds-words-i : goal.bounds-words-i
 bounds-words-i c = omega (arith, c.requires.before, c.requires.pass.room, c.loop-i-test.true, c.loop-i.invariant.0.1.len)
@@ -21,18 +20,25 @@ overflow_cast-words c = omega (arith, c.slice_known-in-loop-i-1.given c.loop-i.i
 
 pub node_apart-requires : goal.node_apart-requires
 node_apart-requires c =
-    let entry = c in
     let head = c.loop-i in
-    let row = row_now head.invariant.0.1 entry.requires.before entry.requires.rows head.invariant.0.0.0 c.loop-i-test.true in
-    let fits = entry.requires.pass in record { pass_fits = record { turfs = fits.turfs; few = fits.few; room = omega (arith, fits.room, head.invariant.0.1.len); mixtures = fits.mixtures; mixed = fits.mixed }; row_bound = row; zone_bound = entry.requires.number }
+    let row = row_now head.invariant.0.1 c.requires.before c.requires.rows head.invariant.0.0.0 c.loop-i-test.true in
+    let fits = c.requires.pass in
+    record {
+      pass_fits = record { turfs = fits.turfs; few = fits.few; room = omega (arith, fits.room, head.invariant.0.1.len); mixtures = fits.mixtures; mixed = fits.mixed };
+      row_bound = row;
+      zone_bound = c.requires.number;
+    }
 
 pub returns-then-not-node_apart : goal.returns-then-not-node_apart
 returns-then-not-node_apart c =
-    let entry = c in
     let head = c.loop-i in
-    let row = row_now head.invariant.0.1 entry.requires.before entry.requires.rows head.invariant.0.0.0 c.loop-i-test.true in
-    let fits = entry.requires.pass.mixed _ row in
-    let done = c.node_apart.ensures in record { but = marked-but (omega arith) (omega (arith, fits)) head.invariant.0.1 done; passed = λ zs. going-fails _ zs _ _ _ _ _ head.invariant.0.0.0 _ _ _ (head.invariant.1 zs) head.invariant.0.1 entry.requires.before entry.requires.pass.room fits _ done c.loop-i-test.true (not-true _ c.if-not-node_apart.true-raw) }
+    let row = row_now head.invariant.0.1 c.requires.before c.requires.rows head.invariant.0.0.0 c.loop-i-test.true in
+    let fits = c.requires.pass.mixed _ row in
+    let done = c.node_apart.ensures in
+    record {
+      but = marked-but (omega arith) (omega (arith, fits)) head.invariant.0.1 done;
+      passed = λ zs. going-fails _ zs _ _ _ _ _ head.invariant.0.0.0 _ _ _ (head.invariant.1 zs) head.invariant.0.1 c.requires.before c.requires.pass.room fits _ done c.loop-i-test.true (not-true _ c.if-not-node_apart.true-raw);
+    }
 
 pub overflow_add-i : goal.overflow_add-i
 overflow_add-i c = omega (arith, c.loop-i-test.true, c.ranges.to)
@@ -42,14 +48,13 @@ loop-i-smaller c = omega (arith, c.loop-i-test.true)
 
 pub loop-i-preserved : goal.loop-i-preserved
 loop-i-preserved c =
-    let entry = c in
     let head = c.loop-i in
     let by-loop-test = c.loop-i-test in
-    let row = row_now head.invariant.0.1 entry.requires.before entry.requires.rows head.invariant.0.0.0 by-loop-test.true in
-    let fits = entry.requires.pass.mixed _ row in
+    let row = row_now head.invariant.0.1 c.requires.before c.requires.rows head.invariant.0.0.0 by-loop-test.true in
+    let fits = c.requires.pass.mixed _ row in
     let done = c.node_apart.ensures in (
       ((omega (arith, head.invariant.0.0.0), λ h. omega (arith, by-loop-test.true)), marked-but (omega arith) (omega (arith, fits)) head.invariant.0.1 done),
-      λ zs. going_next _ zs _ _ _ _ _ head.invariant.0.0.0 _ _ _ (head.invariant.1 zs) head.invariant.0.1 entry.requires.before entry.requires.pass.room fits _ done by-loop-test.true (not-false _ c.if-not-node_apart.false-raw),
+      λ zs. going_next _ zs _ _ _ _ _ head.invariant.0.0.0 _ _ _ (head.invariant.1 zs) head.invariant.0.1 c.requires.before c.requires.pass.room fits _ done by-loop-test.true (not-false _ c.if-not-node_apart.false-raw),
     )
 
 pub returns : goal.returns

@@ -47,28 +47,28 @@ overflow_cast-z c = omega (arith, c.requires.zones_laid.few, c.loop-z-test.true)
 
 pub zone_apart-requires : goal.zone_apart-requires
 zone_apart-requires c =
-    let entry = c in
     let head = c.loop-z in
     let by-loop-test = c.loop-z-test in
-    let fits = entry.requires.pass_fits in
+    let fits = c.requires.pass_fits in
     record {
       pass = record { turfs = fits.turfs; few = fits.few; room = omega (arith, fits.room, head.invariant.0.1.len); mixtures = fits.mixtures; mixed = fits.mixed };
-      before = end_before entry.requires.zones_laid head.invariant.0.1 _ by-loop-test.true;
-      number = omega (arith, entry.requires.zones_laid.few, by-loop-test.true);
-      rows = rows-now entry.requires.zones_laid head.invariant.0.1 _ by-loop-test.true;
+      before = end_before c.requires.zones_laid head.invariant.0.1 _ by-loop-test.true;
+      number = omega (arith, c.requires.zones_laid.few, by-loop-test.true);
+      rows = rows-now c.requires.zones_laid head.invariant.0.1 _ by-loop-test.true;
     }
 
 pub returns-then-not-zone_apart : goal.returns-then-not-zone_apart
 returns-then-not-zone_apart c =
-    let before = c in
     let loop = c.loop-z in
     let loop-test = c.loop-z-test in
     let zone-apart = c.zone_apart in
-    let entry = before in
     let head = loop in
     let by-loop-test = loop-test in
     let by-zone-apart = zone-apart in
-    record { words = but_then (omega arith) (omega arith) head.invariant.0.1 by-zone-apart.ensures.but; answer = λ zs e s. sym (apart-false _ zs _ (omega (arith, e, by-loop-test.true)) ((zone-next entry.requires.zones_laid head.invariant.0.1 _ by-loop-test.true _ zs s e (head.invariant.1 zs e s) (by-zone-apart.ensures.passed zs)).1 (not-true _ c.if-not-zone_apart.true-raw))) }
+    record {
+      words = but_then (omega arith) (omega arith) head.invariant.0.1 by-zone-apart.ensures.but;
+      answer = λ zs e s. sym (apart-false _ zs _ (omega (arith, e, by-loop-test.true)) ((zone-next c.requires.zones_laid head.invariant.0.1 _ by-loop-test.true _ zs s e (head.invariant.1 zs e s) (by-zone-apart.ensures.passed zs)).1 (not-true _ c.if-not-zone_apart.true-raw)));
+    }
 
 pub overflow_add-z : goal.overflow_add-z
 overflow_add-z c = omega (arith, c.loop-z-test.true, c.requires.zones_laid.few)
@@ -78,15 +78,13 @@ loop-z-smaller c = omega (arith, c.loop-z-test.true)
 
 pub loop-z-preserved : goal.loop-z-preserved
 loop-z-preserved c =
-    let before = c in
     let loop = c.loop-z in
     let loop-test = c.loop-z-test in
     let zone-apart = c.zone_apart in
-    let entry = before in
     let head = loop in
     let by-loop-test = loop-test in
     let by-zone-apart = zone-apart in
-    ((omega (arith, by-loop-test.true), but_then (omega arith) (omega arith) head.invariant.0.1 by-zone-apart.ensures.but), λ zs e s. (zone-next entry.requires.zones_laid head.invariant.0.1 _ by-loop-test.true _ zs s e (head.invariant.1 zs e s) (by-zone-apart.ensures.passed zs)).0 (not-false _ c.if-not-zone_apart.false-raw))
+    ((omega (arith, by-loop-test.true), but_then (omega arith) (omega arith) head.invariant.0.1 by-zone-apart.ensures.but), λ zs e s. (zone-next c.requires.zones_laid head.invariant.0.1 _ by-loop-test.true _ zs s e (head.invariant.1 zs e s) (by-zone-apart.ensures.passed zs)).0 (not-false _ c.if-not-zone_apart.false-raw))
 
 pub returns : goal.returns
 returns c = record { words = c.loop-z.invariant.0.1; answer = λ zs e s. sym (apart-true _ zs _ _ _ (omega (arith, e, c.loop-z-test.false)) (c.loop-z.invariant.1 zs e s)) }

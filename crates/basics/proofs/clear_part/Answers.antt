@@ -6,6 +6,5 @@ use Rattle.basics.proofs.clear_part.Goals as goal
 
 pub returns : goal.returns
 returns c =
-    let entry = c in
     let clear = c.clear in
-    part-cleared entry.args.at entry.args.n (entry.args.at + entry.args.n - entry.args.at) entry.args.words.now clear.new.words entry.requires (omega arith) clear.ensures
+    part-cleared c.args.at c.args.n (c.args.at + c.args.n - c.args.at) c.args.words.now clear.new.words c.requires (omega arith) clear.ensures

@@ -11,18 +11,16 @@ apart-apart-requires c = apart_fits c.requires _ _ c.plan_all.ensures
 
 pub finish_all-used-requires : goal.finish_all-used-requires
 finish_all-used-requires c =
-    let entry = c in
     let plan-all = c.plan_all in
     let apart = c.apart-apart in
-    finish-fits entry.requires _ _ plan-all.ensures _ _ (apart.ensures entry.args.gases)
+    finish-fits c.requires _ _ plan-all.ensures _ _ (apart.ensures c.args.gases)
 
 pub overflow_add-result : goal.overflow_add-result
 overflow_add-result c = omega (arith, tests-small c.requires)
 
 pub returns : goal.returns
 returns c =
-    let entry = c in
     let plan-all = c.plan_all in
     let apart = c.apart-apart in
     let finish-all = c.finish_all-used in
-    λ q l d. played-comes entry.requires _ _ plan-all.ensures _ _ (apart.ensures entry.args.gases) _ _ _ _ _ _ finish-all.ensures _ c.bit.ensures q l d
+    λ q l d. played-comes c.requires _ _ plan-all.ensures _ _ (apart.ensures c.args.gases) _ _ _ _ _ _ finish-all.ensures _ c.bit.ensures q l d

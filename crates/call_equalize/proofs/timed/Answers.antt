@@ -21,9 +21,8 @@ returns-then-tests-allowance-2 c = λ q l a d. over_last c.requires _ _ q l a d 
 
 pub returns : goal.returns
 returns c =
-    let entry = c in
     let if1 = c.if-s in
     let if2 = c.if-tests-allowance in
     let if3 = c.if-tests-allowance-2 in
     let play = c.play in
-    λ q l a d. not_over entry.requires _ _ q l a d if1.false if2.false if3.false (play.ensures q l d)
+    λ q l a d. not_over c.requires _ _ q l a d if1.false if2.false if3.false (play.ensures q l d)

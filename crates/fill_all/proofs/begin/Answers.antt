@@ -22,15 +22,17 @@ offset_bounds-words-starts_at c = omega (arith, c.requires.sizes.turfs, c.requir
 
 pub shape_of-words : goal.shape_of-words
 shape_of-words c =
-    let entry = c in
     let by-clear = c.clear in
     let by-found-at = c.found_at-found in
     let by-clear2 = c.clear-2 in
-    cleared-length _ _ _ _ _ _ _ (by-found-at.result + entry.args.n - by-found-at.result) entry.requires.e_in_bounds by-found-at.ensures (omega arith) by-clear.ensures by-clear2.ensures
+    cleared-length _ _ _ _ _ _ _ (by-found-at.result + c.args.n - by-found-at.result) c.requires.e_in_bounds by-found-at.ensures (omega arith) by-clear.ensures by-clear2.ensures
 
 pub returns : goal.returns
 returns c =
-    let entry = c in
     let by-clear = c.clear in
     let by-found-at = c.found_at-found in
-    let by-clear2 = c.clear-2 in record { value = refl; cleared = cleared _ _ _ _ _ _ _ (by-found-at.result + entry.args.n - by-found-at.result) entry.requires.e_in_bounds by-found-at.ensures c.starts_at.ensures (omega arith) by-clear.ensures by-clear2.ensures }
+    let by-clear2 = c.clear-2 in
+    record {
+      value = refl;
+      cleared = cleared _ _ _ _ _ _ _ (by-found-at.result + c.args.n - by-found-at.result) c.requires.e_in_bounds by-found-at.ensures c.starts_at.ensures (omega arith) by-clear.ensures by-clear2.ensures;
+    }

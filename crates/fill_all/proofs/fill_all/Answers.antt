@@ -44,7 +44,12 @@ hot_id-s-requires c =
     let stored = begun-stored p.accepted entry.words.now _ entry.floats.now entry.events.now p.fill_fits by.auto.words by.ensures.cleared _ by.ensures.value in
     let none = begun p.accepted entry.words.now _ entry.floats.now entry.events.now p.fill_fits by.auto.words by.ensures.cleared _ by.ensures.value in
     let head = c.loop-i in
-    let going = c.if-s.false in record { accepted = p.accepted; threshold_value = p.threshold_value; hot_fits = record { stored = head.invariant.0.stored; room = loop-open p.accepted _ _ _ _ _ stored none head.i head.invariant.0 going; going = going } }
+    let going = c.if-s.false in
+    record {
+      accepted = p.accepted;
+      threshold_value = p.threshold_value;
+      hot_fits = record { stored = head.invariant.0.stored; room = loop-open p.accepted _ _ _ _ _ stored none head.i head.invariant.0 going; going = going };
+    }
 
 pub overflow_add-i : goal.overflow_add-i
 overflow_add-i c = omega (arith, c.loop-i-test.true, c.well_formed)

@@ -30,7 +30,12 @@ passed_over-requires c =
     let b = board_at args.rows args.marks args.gases in
     let found = sym (c.find.ensures b refl) in
     let is_at = c.in-At.is in
-    let row = row-in p.accepted _ _ found _ is_at in record { accepted = p.accepted; threshold_value = p.threshold_value; fact = record { sizes = p.hot_fits.stored.sizes; words = p.hot_fits.stored.words; row = row } }
+    let row = row-in p.accepted _ _ found _ is_at in
+    record {
+      accepted = p.accepted;
+      threshold_value = p.threshold_value;
+      fact = record { sizes = p.hot_fits.stored.sizes; words = p.hot_fits.stored.words; row = row };
+    }
 
 pub returns-then-passed_over : goal.returns-then-passed_over
 returns-then-passed_over c = λ hot.
@@ -66,7 +71,12 @@ flood_fill-t-requires c =
     let row = row-in p.accepted _ _ found _ is_at in
     let pass = c.passed_over.ensures q refl in
     let left = c.if-passed_over.false in
-    let new = is_new b args.gas.now q _ (found_in (turf_count b) (link_count b) args.words.now) pass left in record { accepted = p.accepted; zone_fits = fill-ready p.accepted args.gas.now q _ p.hot_fits.stored p.hot_fits.room row new; tests_le_allowance = p.hot_fits.room.tests }
+    let new = is_new b args.gas.now q _ (found_in (turf_count b) (link_count b) args.words.now) pass left in
+    record {
+      accepted = p.accepted;
+      zone_fits = fill-ready p.accepted args.gas.now q _ p.hot_fits.stored p.hot_fits.room row new;
+      tests_le_allowance = p.hot_fits.room.tests;
+    }
 
 pub after_fill-requires : goal.after_fill-requires
 after_fill-requires c =
@@ -79,7 +89,13 @@ after_fill-requires c =
     let row = row-in p.accepted _ _ found _ is_at in
     let pass = c.passed_over.ensures q refl in
     let left = c.if-passed_over.false in
-    let new = is_new b args.gas.now q _ (found_in (turf_count b) (link_count b) args.words.now) pass left in let whole = after-asks p.accepted args.gas.now q _ p.hot_fits.stored p.hot_fits.room row new c.flood_fill-t.ensures in record { keep_fits = whole.0; pushed_fits = whole.1.0; spans = whole.1.1 }
+    let new = is_new b args.gas.now q _ (found_in (turf_count b) (link_count b) args.words.now) pass left in
+    let whole = after-asks p.accepted args.gas.now q _ p.hot_fits.stored p.hot_fits.room row new c.flood_fill-t.ensures in
+    record {
+      keep_fits = whole.0;
+      pushed_fits = whole.1.0;
+      spans = whole.1.1;
+    }
 
 pub shape_of-words : goal.shape_of-words
 shape_of-words c = c.after_fill.auto.words ∙ c.flood_fill-t.auto.words

@@ -4,5 +4,4 @@ use Rattle.fill_ignored.proofs.give_back.Goals as goal
 
 pub returns : goal.returns
 returns c =
-    let entry = c in
-    row_back entry.args.starts.now _ _ entry.args.row _ _ c.links_of-links.ensures.0 c.links_of-links.ensures.1 entry.requires.row_bound entry.requires.row_in_bounds_2 c.clear.ensures
+    row_back c.args.starts.now _ _ c.args.row _ _ c.links_of-links.ensures.0 c.links_of-links.ensures.1 c.requires.row_bound c.requires.row_in_bounds_2 c.clear.ensures

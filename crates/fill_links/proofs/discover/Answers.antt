@@ -7,8 +7,7 @@ returns-then-t c = found-ignored _ _ c.push-t.ensures _ c.requires.used_in_bound
 
 pub returns : goal.returns
 returns c =
-    let entry = c in
     let by-push = c.push-t in
     let by-if1 = c.if-t in
     let by-ask-space = c.ask_space-u in
-    found-asks _ _ by-push.ensures _ entry.requires.used_in_bounds by-if1.false by-ask-space.ensures c.ask_planet.ensures
+    found-asks _ _ by-push.ensures _ c.requires.used_in_bounds by-if1.false by-ask-space.ensures c.ask_planet.ensures

@@ -10,33 +10,35 @@ returns-then-not-m c = edge_none _ _ _ _ _ _ _ _ c.requires.fit c.requires.link 
 
 pub contains-requires : goal.contains-requires
 contains-requires c =
-    let entry = c in
-    (edge-holds entry.args.m _ _ _ _ _ _ _ entry.requires.fit entry.requires.link (not-false _ c.if-not-m.false) _ _ c.nodes_at.ensures c.places_at-places.ensures, entry.requires.row)
+    (edge-holds c.args.m _ _ _ _ _ _ _ c.requires.fit c.requires.link (not-false _ c.if-not-m.false) _ _ c.nodes_at.ensures c.places_at-places.ensures, c.requires.row)
 
 pub returns-then-contains : goal.returns-then-contains
 returns-then-contains c =
-    let entry = c in
     let by-if1 = c.if-not-m in
     let by-places-at = c.places_at-places in
     let by-nodes-at = c.nodes_at in
-    edge-old _ _ _ _ _ _ _ _ entry.requires.fit entry.requires.link (not-false _ by-if1.false) _ _ by-nodes-at.ensures by-places-at.ensures (sym c.if-contains.true ∙ c.contains.ensures)
+    edge-old _ _ _ _ _ _ _ _ c.requires.fit c.requires.link (not-false _ by-if1.false) _ _ by-nodes-at.ensures by-places-at.ensures (sym c.if-contains.true ∙ c.contains.ensures)
 
 pub insert-requires : goal.insert-requires
 insert-requires c =
-    let entry = c in
     let by-if1 = c.if-not-m in
     let by-places-at = c.places_at-places in
-    let by-nodes-at = c.nodes_at in let whole = edge-room entry.args.m _ _ _ _ _ _ _ entry.requires.fit entry.requires.link (not-false _ by-if1.false) _ _ by-nodes-at.ensures by-places-at.ensures entry.requires.row entry.requires.room (sym c.if-contains.false ∙ c.contains.ensures) in record { count_in_bounds = whole.0; a_in_bounds = whole.1.0; count_bound = whole.1.1 }
+    let by-nodes-at = c.nodes_at in
+    let whole = edge-room c.args.m _ _ _ _ _ _ _ c.requires.fit c.requires.link (not-false _ by-if1.false) _ _ by-nodes-at.ensures by-places-at.ensures c.requires.row c.requires.room (sym c.if-contains.false ∙ c.contains.ensures) in
+    record {
+      count_in_bounds = whole.0;
+      a_in_bounds = whole.1.0;
+      count_bound = whole.1.1;
+    }
 
 pub shape_of-words : goal.shape_of-words
 shape_of-words c = c.insert.auto.words ∙ simp length-set
 
 pub returns : goal.returns
 returns c =
-    let entry = c in
     let by-if1 = c.if-not-m in
     let by-places-at = c.places_at-places in
     let by-nodes-at = c.nodes_at in
     let by-contains = c.contains in
     let by-if2 = c.if-contains in
-    edge_more _ _ _ _ _ _ _ _ entry.requires.fit entry.requires.link (not-false _ by-if1.false) _ _ by-nodes-at.ensures by-places-at.ensures entry.requires.row entry.requires.room (sym by-if2.false ∙ by-contains.ensures) _ c.insert.ensures
+    edge_more _ _ _ _ _ _ _ _ c.requires.fit c.requires.link (not-false _ by-if1.false) _ _ by-nodes-at.ensures by-places-at.ensures c.requires.row c.requires.room (sym by-if2.false ∙ by-contains.ensures) _ c.insert.ensures

@@ -7,26 +7,27 @@ use Rattle.fill_links.proofs.reach.Goals as goal
 
 pub edge_to-t-requires : goal.edge_to-t-requires
 edge_to-t-requires c =
-    let entry = c in
-    edge-asks entry.args.m entry.args.k entry.args.id entry.requires.walking entry.requires.link_fits
+    edge-asks c.args.m c.args.k c.args.id c.requires.walking c.requires.link_fits
 
 pub returns-then-found-ne0 : goal.returns-then-found-ne0
 returns-then-found-ne0 c =
-    let entry = c in
-    reach-old entry.args.m entry.args.k entry.args.id entry.requires.walking entry.requires.link_fits c.edge_to-t.ensures _ (ap (λ (x : ℕ). x + entry.args.m.row) c.found_at.ensures) c.if-found-ne0.true
+    reach-old c.args.m c.args.k c.args.id c.requires.walking c.requires.link_fits c.edge_to-t.ensures _ (ap (λ (x : ℕ). x + c.args.m.row) c.found_at.ensures) c.if-found-ne0.true
 
 pub discover-requires : goal.discover-requires
 discover-requires c =
-    let entry = c in let whole = discover-asks entry.args.m entry.args.k entry.args.id entry.requires.walking entry.requires.link_fits c.edge_to-t.ensures _ (ap (λ (x : ℕ). x + entry.args.m.row) c.found_at.ensures) c.if-found-ne0.false in record { push_fits = whole.0; used_in_bounds = whole.1 }
+    let whole = discover-asks c.args.m c.args.k c.args.id c.requires.walking c.requires.link_fits c.edge_to-t.ensures _ (ap (λ (x : ℕ). x + c.args.m.row) c.found_at.ensures) c.if-found-ne0.false in
+    record {
+      push_fits = whole.0;
+      used_in_bounds = whole.1;
+    }
 
 pub shape_of-words : goal.shape_of-words
 shape_of-words c = c.discover.auto.words ∙ simp length-set c.edge_to-t.auto.words
 
 pub returns : goal.returns
 returns c =
-    let entry = c in
     let by-edge-to = c.edge_to-t in
     let by-found-at = c.found_at in
     let by-if1 = c.if-found-ne0 in
     let by-discover = c.discover in
-    reach-new entry.args.m entry.args.k entry.args.id entry.requires.walking entry.requires.link_fits by-edge-to.ensures _ (ap (λ (x : ℕ). x + entry.args.m.row) by-found-at.ensures) by-if1.false by-discover.ensures
+    reach-new c.args.m c.args.k c.args.id c.requires.walking c.requires.link_fits by-edge-to.ensures _ (ap (λ (x : ℕ). x + c.args.m.row) by-found-at.ensures) by-if1.false by-discover.ensures

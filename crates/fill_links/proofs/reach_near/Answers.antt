@@ -24,7 +24,12 @@ overflow_add-k c =
 
 pub meet-m-requires : goal.meet-m-requires
 meet-m-requires c =
-    let p = c.requires in record { tables_fit = p.tables_fit; row_bound = near-row p.tables_fit p.turf_fits.row p.near _ c.loop-i-test.true; k_bound = omega (arith, near-inside p.tables_fit.parts p.turf_fits.row p.near, c.loop-i-test.true) }
+    let p = c.requires in
+    record {
+      tables_fit = p.tables_fit;
+      row_bound = near-row p.tables_fit p.turf_fits.row p.near _ c.loop-i-test.true;
+      k_bound = omega (arith, near-inside p.tables_fit.parts p.turf_fits.row p.near, c.loop-i-test.true);
+    }
 
 pub reach-s-requires : goal.reach-s-requires
 reach-s-requires c =
@@ -47,11 +52,10 @@ loop-i-smaller c = omega (arith, c.loop-i-test.true)
 
 pub loop-i-preserved : goal.loop-i-preserved
 loop-i-preserved c =
-    let entry = c in
-    let p = entry.requires in
+    let p = c.requires in
     let taken = c.loop-i-test.true in
     let inside = near-inside p.tables_fit.parts p.turf_fits.row p.near in
-    let step = met-step (board_of entry.args.rows.now entry.args.marks.now 0) _ _ _ _ (near-met p.tables_fit p.turf_fits.row p.near _ taken _ c.meet-m.ensures) in (
+    let step = met-step (board_of c.args.rows.now c.args.marks.now 0) _ _ _ _ (near-met p.tables_fit p.turf_fits.row p.near _ taken _ c.meet-m.ensures) in (
       walked_next _ c.loop-i.invariant.0 (omega (arith, taken)) inside _ _ step c.reach-s.ensures _ (omega arith),
       c.reach-s.auto.words ∙ c.loop-i.invariant.1,
     )
@@ -64,6 +68,5 @@ shape_of-events c = wrote-length c.loop-i.invariant.0.done.does.wrote
 
 pub returns : goal.returns
 returns c = λ gases.
-    let entry = c in
-    let p = entry.requires in
-    links-walked entry.args.rows.now entry.args.marks.now entry.args.row c.loop-i.invariant.0 p.near.start (near-to p.tables_fit.parts p.turf_fits.row p.near) (omega (arith, c.loop-i-test.false)) gases
+    let p = c.requires in
+    links-walked c.args.rows.now c.args.marks.now c.args.row c.loop-i.invariant.0 p.near.start (near-to p.tables_fit.parts p.turf_fits.row p.near) (omega (arith, c.loop-i-test.false)) gases

@@ -22,17 +22,15 @@ overflow_cast-neighbours c = omega (arith, c.shared_slice_known-in-loop-k-1.give
 
 pub total-other-requires : goal.total-other-requires
 total-other-requires c =
-    let entry = c in
-    (rw entry.requires.accepted.mixes (entry.requires.accepted.ends c.loop-k.k), gas-holds entry.requires.accepted entry.args.gas.now refl _)
+    (rw c.requires.accepted.mixes (c.requires.accepted.ends c.loop-k.k), gas-holds c.requires.accepted c.args.gas.now refl _)
 
 pub nearer-requires : goal.nearer-requires
 nearer-requires c = c.requires.threshold_value
 
 pub returns-then-not-nearer : goal.returns-then-not-nearer
 returns-then-not-nearer c =
-    let entry = c in
-    let b = board_at entry.args.rows entry.args.marks entry.args.gases in
-    let near = near-told b entry.args.gas.now entry.args.mine entry.args.threshold c.loop-k.k _ (c.total-other.ensures b refl refl) c.nearer.ensures in
+    let b = board_at c.args.rows c.args.marks c.args.gases in
+    let near = near-told b c.args.gas.now c.args.mine c.args.threshold c.loop-k.k _ (c.total-other.ensures b refl refl) c.nearer.ensures in
     sym (sym c.loop-k.invariant ∙ every-up_fails _ _ _ c.loop-k-test.true (near ∙ not-true _ c.if-not-nearer.true-raw))
 
 pub overflow_add-k : goal.overflow_add-k
@@ -43,9 +41,8 @@ loop-k-smaller c = omega (arith, c.loop-k-test.true)
 
 pub loop-k-preserved : goal.loop-k-preserved
 loop-k-preserved c =
-    let entry = c in
-    let b = board_at entry.args.rows entry.args.marks entry.args.gases in
-    let near = near-told b entry.args.gas.now entry.args.mine entry.args.threshold c.loop-k.k _ (c.total-other.ensures b refl refl) c.nearer.ensures in
+    let b = board_at c.args.rows c.args.marks c.args.gases in
+    let near = near-told b c.args.gas.now c.args.mine c.args.threshold c.loop-k.k _ (c.total-other.ensures b refl refl) c.nearer.ensures in
     sym (every-up_next _ _ _ c.loop-k-test.true (near ∙ not-false _ c.if-not-nearer.false-raw)) ∙ c.loop-k.invariant
 
 pub returns : goal.returns

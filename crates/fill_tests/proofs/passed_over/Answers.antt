@@ -26,20 +26,18 @@ bounds-words-found_at c =
 
 pub returns-then-words-found_at-ne0 : goal.returns-then-words-found_at-ne0
 returns-then-words-found_at-ne0 c = λ q et.
-    let entry = c in
-    let mark = mark-is entry.requires.fact _ c.found_at.ensures in
-    is_found (board_at entry.args.rows entry.args.marks entry.args.gases) _ q _ _ (λ i. c.if-words-found_at-ne0.true (mark ∙ i))
+    let mark = mark-is c.requires.fact _ c.found_at.ensures in
+    is_found (board_at c.args.rows c.args.marks c.args.gases) _ q _ _ (λ i. c.if-words-found_at-ne0.true (mark ∙ i))
 
 pub bounds-flags-row : goal.bounds-flags-row
 bounds-flags-row c = rw c.requires.accepted.flags c.requires.fact.row
 
 pub returns-then-not-enabled : goal.returns-then-not-enabled
 returns-then-not-enabled c = λ q et.
-    let entry = c in
     let by-found-at = c.found_at in
     let by-if1 = c.if-words-found_at-ne0 in
-    let mark = mark-is entry.requires.fact _ by-found-at.ensures in
-    is_off (board_at entry.args.rows entry.args.marks entry.args.gases) _ q _ _ (sym mark ∙ by-if1.false) (sym c.enabled.ensures ∙ not-true _ c.if-not-enabled.true-raw)
+    let mark = mark-is c.requires.fact _ by-found-at.ensures in
+    is_off (board_at c.args.rows c.args.marks c.args.gases) _ q _ _ (sym mark ∙ by-if1.false) (sym c.enabled.ensures ∙ not-true _ c.if-not-enabled.true-raw)
 
 pub unshareable-requires : goal.unshareable-requires
 unshareable-requires c =
@@ -47,8 +45,7 @@ unshareable-requires c =
 
 pub returns : goal.returns
 returns c = λ q et.
-    let entry = c in
     let by-found-at = c.found_at in
     let by-if1 = c.if-words-found_at-ne0 in
-    let mark = mark-is entry.requires.fact _ by-found-at.ensures in
-    is_rest (board_at entry.args.rows entry.args.marks entry.args.gases) _ q _ _ (sym mark ∙ by-if1.false) (sym c.enabled.ensures ∙ not-false _ c.if-not-enabled.false-raw) _ (c.unshareable.ensures q et)
+    let mark = mark-is c.requires.fact _ by-found-at.ensures in
+    is_rest (board_at c.args.rows c.args.marks c.args.gases) _ q _ _ (sym mark ∙ by-if1.false) (sym c.enabled.ensures ∙ not-false _ c.if-not-enabled.false-raw) _ (c.unshareable.ensures q et)

@@ -8,30 +8,30 @@ use Rattle.fill_tests.proofs.unshareable.Goals as goal
 
 pub returns-then-links : goal.returns-then-links
 returns-then-links c = λ q et.
-    let entry = c in
-    none-linked (board_at entry.args.rows entry.args.marks entry.args.gases) _ q _ _ _ c.links_of-links.ensures.0 c.links_of-links.ensures.1 c.if-links.true
+    none-linked (board_at c.args.rows c.args.marks c.args.gases) _ q _ _ _ c.links_of-links.ensures.0 c.links_of-links.ensures.1 c.if-links.true
 
 pub total-mine-requires : goal.total-mine-requires
 total-mine-requires c =
-    let entry = c in
-    (rw entry.requires.accepted.mixes entry.requires.row_bound, gas-holds entry.requires.accepted entry.args.gas.now refl entry.args.row)
+    (rw c.requires.accepted.mixes c.requires.row_bound, gas-holds c.requires.accepted c.args.gas.now refl c.args.row)
 
 pub returns-then-mine : goal.returns-then-mine
 returns-then-mine c = λ q et.
-    let entry = c in
-    let b = board_at entry.args.rows entry.args.marks entry.args.gases in
+    let b = board_at c.args.rows c.args.marks c.args.gases in
     let ends = c.links_of-links.ensures in
-    let rise = (parts entry.requires.accepted).rise _ entry.requires.row_bound in
+    let rise = (parts c.requires.accepted).rise _ c.requires.row_bound in
     few-moles b _ q _ _ _ ends.0 ends.1 c.if-links.false (omega arith) _ (c.total-mine.ensures b refl refl) c.if-mine.true
 
 pub all_near-requires : goal.all_near-requires
 all_near-requires c =
-    let entry = c in record { accepted = entry.requires.accepted; threshold_value = entry.requires.threshold_value; to_bound = omega (arith, (parts entry.requires.accepted).end _ entry.requires.row_bound, c.links_of-links.ensures.1) }
+    record {
+      accepted = c.requires.accepted;
+      threshold_value = c.requires.threshold_value;
+      to_bound = omega (arith, (parts c.requires.accepted).end _ c.requires.row_bound, c.links_of-links.ensures.1);
+    }
 
 pub returns : goal.returns
 returns c = λ q et.
-    let entry = c in
-    let b = board_at entry.args.rows entry.args.marks entry.args.gases in
+    let b = board_at c.args.rows c.args.marks c.args.gases in
     let ends = c.links_of-links.ensures in
-    let rise = (parts entry.requires.accepted).rise _ entry.requires.row_bound in
+    let rise = (parts c.requires.accepted).rise _ c.requires.row_bound in
     all_tested b _ q _ _ _ ends.0 ends.1 c.if-links.false (omega arith) _ (c.total-mine.ensures b refl refl) c.if-mine.false _ et _ c.all_near.ensures

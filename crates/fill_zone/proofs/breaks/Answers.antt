@@ -7,10 +7,8 @@ use Rattle.fill_zone.proofs.breaks.Goals as goal
 
 pub returns-then-not-planet : goal.returns-then-not-planet
 returns-then-not-planet c =
-    let entry = c in
-    sym (ap (λ (x : Bool). x && ltb entry.args.limit entry.args.nodes) (not-true entry.args.planet c.if-not-planet.true-raw))
+    sym (ap (λ (x : Bool). x && ltb c.args.limit c.args.nodes) (not-true c.args.planet c.if-not-planet.true-raw))
 
 pub returns : goal.returns
 returns c =
-    let entry = c in
-    sym (ap (λ (x : Bool). x && ltb entry.args.limit entry.args.nodes) (not-false entry.args.planet c.if-not-planet.false-raw))
+    sym (ap (λ (x : Bool). x && ltb c.args.limit c.args.nodes) (not-false c.args.planet c.if-not-planet.false-raw))

@@ -8,18 +8,20 @@ use Rattle.fill_zone.proofs.expand.Goals as goal
 
 pub total-total-requires : goal.total-total-requires
 total-total-requires c =
-    let entry = c in
-    (rw entry.requires.accepted.mixes entry.requires.expand_fits.turf.row, gas-holds entry.requires.accepted entry.args.gas.now refl entry.args.row)
+    (rw c.requires.accepted.mixes c.requires.expand_fits.turf.row, gas-holds c.requires.accepted c.args.gas.now refl c.args.row)
 
 pub reach_links-reach-requires : goal.reach_links-reach-requires
 reach_links-reach-requires c =
-    let entry = c in record { tables_fit = linked_of entry.args.rows.now entry.args.marks.now entry.args.gases entry.requires.accepted; turf_fits = record { row = entry.requires.expand_fits.turf.row; free = entry.requires.expand_fits.turf.free }; fact = entry.requires.expand_fits.walking }
+    record {
+      tables_fit = linked_of c.args.rows.now c.args.marks.now c.args.gases c.requires.accepted;
+      turf_fits = record { row = c.requires.expand_fits.turf.row; free = c.requires.expand_fits.turf.free };
+      fact = c.requires.expand_fits.walking;
+    }
 
 pub overflow_add-result-2 : goal.overflow_add-result-2
 overflow_add-result-2 c = omega (arith, c.requires.expand_fits.tests)
 
 pub returns : goal.returns
 returns c = λ limit allowance.
-    let entry = c in
-    let b = board_at entry.args.rows entry.args.marks entry.args.gases in
+    let b = board_at c.args.rows c.args.marks c.args.gases in
     floods_expand b _ limit allowance _ _ _ _ _ _ _ (c.total-total.ensures b refl refl) _ (c.reach_links-reach.ensures _) refl

@@ -7,26 +7,23 @@ use Rattle.fill_zone.proofs.flood_fill.Goals as goal
 
 pub start-t-requires : goal.start-t-requires
 start-t-requires c =
-    let entry = c in
-    let seed = entry.args.seed in
-    start-asks entry.requires.accepted entry.args.gas.now entry.args.settings.limit entry.args.settings.allowance seed.z seed.kept seed.used seed.tests seed.row entry.requires.zone_fits
+    let seed = c.args.seed in
+    start-asks c.requires.accepted c.args.gas.now c.args.settings.limit c.args.settings.allowance seed.z seed.kept seed.used seed.tests seed.row c.requires.zone_fits
 
 pub loop-settings-init : goal.loop-settings-init
 loop-settings-init c =
-    let entry = c in
-    (popping_start entry.requires.accepted _ _ _ _ _ _ _ _ entry.requires.zone_fits c.start-t.ensures.zone_starts c.start-t.ensures.at_start entry.requires.tests_le_allowance, refl)
+    (popping_start c.requires.accepted _ _ _ _ _ _ _ _ c.requires.zone_fits c.start-t.ensures.zone_starts c.start-t.ensures.at_start c.requires.tests_le_allowance, refl)
 
 pub pop-t-requires : goal.pop-t-requires
 pop-t-requires c =
-    let entry = c in
     let head = c.loop-settings in
     let t = head.t in
-    let on = going_on t.state t.popped t.reach.queued (sym c.goes_on.ensures ∙ c.loop-settings-test.true) in record { accepted = entry.requires.accepted; pop_fits = record {
+    let on = going_on t.state t.popped t.reach.queued (sym c.goes_on.ensures ∙ c.loop-settings-test.true) in record { accepted = c.requires.accepted; pop_fits = record {
         walking = record { fit = head.invariant.0.done.fit; bounds = head.invariant.0.done.bounds };
         on = on.0;
         left = on.1;
         clock = head.invariant.0.clock on.0;
-        free = popping_free entry.requires.accepted _ _ _ _ _ _ _ _ entry.requires.zone_fits c.start-t.ensures.zone_starts c.start-t.ensures.at_start head.invariant.0 on.1;
+        free = popping_free c.requires.accepted _ _ _ _ _ _ _ _ c.requires.zone_fits c.start-t.ensures.zone_starts c.start-t.ensures.at_start head.invariant.0 on.1;
       } }
 
 pub loop-settings-smaller : goal.loop-settings-smaller
@@ -37,7 +34,6 @@ loop-settings-smaller c =
 
 pub loop-settings-preserved : goal.loop-settings-preserved
 loop-settings-preserved c =
-    let entry = c in
     let by-start = c.start-t in
     let head = c.loop-settings in
     let by-goes-on = c.goes_on in
@@ -45,7 +41,7 @@ loop-settings-preserved c =
     let by-pop = c.pop-t in
     let t = head.t in
     let on = going_on t.state t.popped t.reach.queued (sym by-goes-on.ensures ∙ by-if1.true) in (
-      popping_next entry.requires.accepted _ _ _ _ _ _ _ _ entry.requires.zone_fits by-start.ensures.zone_starts by-start.ensures.at_start head.invariant.0 on.1 by-pop.ensures.fact by-pop.ensures.moved,
+      popping_next c.requires.accepted _ _ _ _ _ _ _ _ c.requires.zone_fits by-start.ensures.zone_starts by-start.ensures.at_start head.invariant.0 on.1 by-pop.ensures.fact by-pop.ensures.moved,
       by-pop.auto.words ∙ head.invariant.1,
     )
 
@@ -57,6 +53,5 @@ shape_of-events c = wrote-length c.loop-settings.invariant.0.done.does.wrote
 
 pub returns : goal.returns
 returns c =
-    let entry = c in
     let by-start = c.start-t in
-    popping_end entry.requires.accepted _ _ _ _ _ _ _ _ entry.requires.zone_fits by-start.ensures.zone_starts by-start.ensures.at_start c.loop-settings.invariant.0 (sym c.goes_on.ensures ∙ c.loop-settings-test.false)
+    popping_end c.requires.accepted _ _ _ _ _ _ _ _ c.requires.zone_fits by-start.ensures.zone_starts by-start.ensures.at_start c.loop-settings.invariant.0 (sym c.goes_on.ensures ∙ c.loop-settings-test.false)

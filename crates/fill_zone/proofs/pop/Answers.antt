@@ -10,43 +10,53 @@ use Rattle.fill_zone.proofs.pop.Goals as goal
 
 pub returns-then-settings-t : goal.returns-then-settings-t
 returns-then-settings-t c =
-    let entry = c in let whole = pop-over _ _ _ _ _ _ entry.args.t entry.requires.pop_fits.walking.fit entry.requires.pop_fits.walking.bounds entry.requires.pop_fits.on entry.requires.pop_fits.left c.if-settings-t.true _ c.ended.ensures in record { fact = whole.0; moved = whole.1 }
+    let whole = pop-over _ _ _ _ _ _ c.args.t c.requires.pop_fits.walking.fit c.requires.pop_fits.walking.bounds c.requires.pop_fits.on c.requires.pop_fits.left c.if-settings-t.true _ c.ended.ensures in
+    record {
+      fact = whole.0;
+      moved = whole.1;
+    }
 
 pub overflow_cast-row : goal.overflow_cast-row
 overflow_cast-row c =
-    let entry = c in
-    omega (arith, row_below entry.requires.pop_fits.walking.fit entry.requires.pop_fits.walking.bounds _ entry.requires.pop_fits.left _ c.queue_at.ensures, entry.requires.accepted.turfs)
+    omega (arith, row_below c.requires.pop_fits.walking.fit c.requires.pop_fits.walking.bounds _ c.requires.pop_fits.left _ c.queue_at.ensures, c.requires.accepted.turfs)
 
 pub bounds-planetary-row : goal.bounds-planetary-row
 bounds-planetary-row c =
-    let entry = c in
-    rw entry.requires.accepted.planets (row_below entry.requires.pop_fits.walking.fit entry.requires.pop_fits.walking.bounds _ entry.requires.pop_fits.left _ c.queue_at.ensures)
+    rw c.requires.accepted.planets (row_below c.requires.pop_fits.walking.fit c.requires.pop_fits.walking.bounds _ c.requires.pop_fits.left _ c.queue_at.ensures)
 
 pub returns-then-breaks : goal.returns-then-breaks
 returns-then-breaks c =
-    let entry = c in
     let by-queue-at = c.queue_at in
     let by-if1 = c.if-settings-t in
-    let by-is-planet = c.is_planet-planet in let whole = pop-broken _ _ _ _ _ _ entry.args.t entry.requires.pop_fits.walking.fit entry.requires.pop_fits.walking.bounds entry.requires.pop_fits.on entry.requires.pop_fits.left _ by-queue-at.ensures by-if1.false _ by-is-planet.ensures (sym c.if-breaks.true ∙ c.breaks.ensures) _ c.ended-then-breaks.ensures in record { fact = whole.0; moved = whole.1 }
+    let by-is-planet = c.is_planet-planet in
+    let whole = pop-broken _ _ _ _ _ _ c.args.t c.requires.pop_fits.walking.fit c.requires.pop_fits.walking.bounds c.requires.pop_fits.on c.requires.pop_fits.left _ by-queue-at.ensures by-if1.false _ by-is-planet.ensures (sym c.if-breaks.true ∙ c.breaks.ensures) _ c.ended-then-breaks.ensures in
+    record {
+      fact = whole.0;
+      moved = whole.1;
+    }
 
 pub expand-requires : goal.expand-requires
 expand-requires c =
-    let entry = c in record { accepted = entry.requires.accepted; expand_fits = record {
-        walking = entry.requires.pop_fits.walking;
+    record { accepted = c.requires.accepted; expand_fits = record {
+        walking = c.requires.pop_fits.walking;
         turf = record {
-          row = row_below entry.requires.pop_fits.walking.fit entry.requires.pop_fits.walking.bounds _ entry.requires.pop_fits.left _ c.queue_at.ensures;
-          free = subst (λ (x : ℕ). Free (table entry.args.rows.now 2) (get_or entry.args.words.now (x + entry.args.t.popped) 0) entry.args.words.now) (sym c.queue_at.ensures) entry.requires.pop_fits.free;
+          row = row_below c.requires.pop_fits.walking.fit c.requires.pop_fits.walking.bounds _ c.requires.pop_fits.left _ c.queue_at.ensures;
+          free = subst (λ (x : ℕ). Free (table c.args.rows.now 2) (get_or c.args.words.now (x + c.args.t.popped) 0) c.args.words.now) (sym c.queue_at.ensures) c.requires.pop_fits.free;
         };
-        popped = omega (arith, entry.requires.pop_fits.left, entry.requires.pop_fits.walking.fit.queue, entry.requires.accepted.turfs);
-        tests = omega (arith, entry.requires.pop_fits.clock, entry.well_formed);
+        popped = omega (arith, c.requires.pop_fits.left, c.requires.pop_fits.walking.fit.queue, c.requires.accepted.turfs);
+        tests = omega (arith, c.requires.pop_fits.clock, c.well_formed);
       } }
 
 pub returns : goal.returns
 returns c =
-    let entry = c in
     let by-queue-at = c.queue_at in
     let by-if1 = c.if-settings-t in
     let by-is-planet = c.is_planet-planet in
     let by-breaks = c.breaks in
     let by-if2 = c.if-breaks in
-    let by-expand = c.expand in let whole = pop-on _ _ _ _ _ _ entry.args.t entry.requires.pop_fits.walking.fit entry.requires.pop_fits.walking.bounds entry.requires.pop_fits.on entry.requires.pop_fits.left _ by-queue-at.ensures by-if1.false _ by-is-planet.ensures (sym by-if2.false ∙ by-breaks.ensures) (by-expand.ensures _ _) in record { fact = whole.0; moved = whole.1 }
+    let by-expand = c.expand in
+    let whole = pop-on _ _ _ _ _ _ c.args.t c.requires.pop_fits.walking.fit c.requires.pop_fits.walking.bounds c.requires.pop_fits.on c.requires.pop_fits.left _ by-queue-at.ensures by-if1.false _ by-is-planet.ensures (sym by-if2.false ∙ by-breaks.ensures) (by-expand.ensures _ _) in
+    record {
+      fact = whole.0;
+      moved = whole.1;
+    }

@@ -10,18 +10,26 @@ bounds-words-queue_at c = simp length-set (omega arith)
 
 pub insert-requires : goal.insert-requires
 insert-requires c =
-    let entry = c in
     let by-found-at = c.found_at in
     let by-queue-at = c.queue_at in
-    let by-nodes-at = c.nodes_at in let whole = (start-room entry.args.seed.row entry.args.seed.used entry.args.seed.tests entry.args.seed.kept entry.args.n entry.args.e entry.args.words.now entry.requires.sizes entry.requires.row entry.requires.room entry.requires.words _ _ _ _ by-found-at.ensures by-queue-at.ensures by-nodes-at.ensures c.places_at-places.ensures).1 in record { count_in_bounds = whole.0; a_in_bounds = whole.1.0; count_bound = whole.1.1 }
+    let by-nodes-at = c.nodes_at in
+    let whole = (start-room c.args.seed.row c.args.seed.used c.args.seed.tests c.args.seed.kept c.args.n c.args.e c.args.words.now c.requires.sizes c.requires.row c.requires.room c.requires.words _ _ _ _ by-found-at.ensures by-queue-at.ensures by-nodes-at.ensures c.places_at-places.ensures).1 in
+    record {
+      count_in_bounds = whole.0;
+      a_in_bounds = whole.1.0;
+      count_bound = whole.1.1;
+    }
 
 pub shape_of-words : goal.shape_of-words
 shape_of-words c = c.insert.auto.words ∙ simp length-set
 
 pub returns : goal.returns
 returns c =
-    let entry = c in
     let by-found-at = c.found_at in
     let by-queue-at = c.queue_at in
     let by-nodes-at = c.nodes_at in
-    let by-places-at = c.places_at-places in record { zone_starts = started entry.args.seed.row entry.args.seed.used entry.args.seed.tests entry.args.seed.kept entry.args.n entry.args.e entry.args.words.now entry.requires.sizes entry.requires.row entry.requires.room entry.requires.words _ _ _ _ by-found-at.ensures by-queue-at.ensures by-nodes-at.ensures by-places-at.ensures _ c.insert.ensures; at_start = record { none = refl; clock = refl; on = refl; bytes = refl } }
+    let by-places-at = c.places_at-places in
+    record {
+      zone_starts = started c.args.seed.row c.args.seed.used c.args.seed.tests c.args.seed.kept c.args.n c.args.e c.args.words.now c.requires.sizes c.requires.row c.requires.room c.requires.words _ _ _ _ by-found-at.ensures by-queue-at.ensures by-nodes-at.ensures by-places-at.ensures _ c.insert.ensures;
+      at_start = record { none = refl; clock = refl; on = refl; bytes = refl };
+    }

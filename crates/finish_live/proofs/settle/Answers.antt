@@ -7,10 +7,9 @@ returns-then-turns_of-size_of c = settles_none _ _ _ _ _ _ c.requires.laid c.req
 
 pub returns : goal.returns
 returns c =
-    let entry = c in
     let turns-of = c.turns_of in
     let size-of = c.size_of in
     let if1 = c.if-turns_of-size_of in
     let live_in-at = c.live_at in
     let take_out = c.take_out in
-    settles_out _ _ _ _ _ _ entry.requires.laid entry.requires.p_lt_count _ _ turns-of.ensures size-of.ensures _ _ live_in-at.ensures if1.false take_out.ensures
+    settles_out _ _ _ _ _ _ c.requires.laid c.requires.p_lt_count _ _ turns-of.ensures size-of.ensures _ _ live_in-at.ensures if1.false take_out.ensures

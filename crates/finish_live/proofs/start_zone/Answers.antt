@@ -13,9 +13,8 @@ returns-then-size_of-eq0 c = starts_none _ _ _ _ _ c.requires.laid _ (omega (ari
 
 pub bounds-words-live_at : goal.bounds-words-live_at
 bounds-words-live_at c =
-    let entry = c in
     let turns_at = c.turns_at in
-    omega (arith, length-set entry.args.words.now (turns_at.result + entry.args.zone) 0, c.live_at.ensures, entry.requires.laid.within, entry.requires.laid.below, entry.requires.count_le_zone)
+    omega (arith, length-set c.args.words.now (turns_at.result + c.args.zone) 0, c.live_at.ensures, c.requires.laid.within, c.requires.laid.below, c.requires.count_le_zone)
 
 pub returns : goal.returns
 returns c = starts-some _ _ _ _ _ c.requires.laid _ (omega (arith, c.turns_at.ensures)) _ _ c.size_of.ensures c.if-size_of-eq0.false (omega (arith, c.live_at.ensures))

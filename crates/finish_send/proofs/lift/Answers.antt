@@ -10,9 +10,8 @@ loop-k-init c = (omega arith, (omega arith, ran_start _ _ _))
 
 pub loop-k-preserved : goal.loop-k-preserved
 loop-k-preserved c =
-    let entry = c in
     let loop = c.loop-k in
-    (omega arith, (omega arith, ran_next _ (lift_length entry.args.words.now entry.args.zone entry.args.up) loop.invariant.0 loop.invariant.1.1 c.lift_at.ensures))
+    (omega arith, (omega arith, ran_next _ (lift_length c.args.words.now c.args.zone c.args.up) loop.invariant.0 loop.invariant.1.1 c.lift_at.ensures))
 
 pub shape_of-floats : goal.shape_of-floats
 shape_of-floats c = c.loop-k.invariant.1.1.size

@@ -14,15 +14,18 @@ overflow_cast-taker c = omega (arith, c.shared_slice_known-2-1.given c.args.to)
 
 pub returns-then-giver-taker : goal.returns-then-giver-taker
 returns-then-giver-taker c =
-    let entry = c in
-    share_same (board_at entry.args.rows entry.args.marks entry.args.turf.gases) entry.args.turf.row entry.args.to _ _ c.if-giver-taker.true
+    share_same (board_at c.args.rows c.args.marks c.args.turf.gases) c.args.turf.row c.args.to _ _ c.if-giver-taker.true
 
 pub move_air-requires : goal.move_air-requires
 move_air-requires c =
-    let entry = c in
-    let pre = entry.requires.move_fits in record { giver_in_bounds = pre.mixes; holds_gas = (holds_of entry.args.gas.now _ _ _ pre.amounts pre.mixes.0, holds_of entry.args.gas.now _ _ _ pre.amounts pre.mixes.1); fact = c.if-giver-taker.false; total_value = λ other e. has_total (board_at entry.args.rows entry.args.marks entry.args.turf.gases) other entry.args.turf.row _ _ e entry.requires.has_value }
+    let pre = c.requires.move_fits in
+    record {
+      giver_in_bounds = pre.mixes;
+      holds_gas = (holds_of c.args.gas.now _ _ _ pre.amounts pre.mixes.0, holds_of c.args.gas.now _ _ _ pre.amounts pre.mixes.1);
+      fact = c.if-giver-taker.false;
+      total_value = λ other e. has_total (board_at c.args.rows c.args.marks c.args.turf.gases) other c.args.turf.row _ _ e c.requires.has_value;
+    }
 
 pub returns : goal.returns
 returns c =
-    let entry = c in
-    share_moved (board_at entry.args.rows entry.args.marks entry.args.turf.gases) entry.args.turf.row entry.args.to _ _ _ c.if-giver-taker.false (c.move_air.ensures (board_at entry.args.rows entry.args.marks entry.args.turf.gases) refl refl)
+    share_moved (board_at c.args.rows c.args.marks c.args.turf.gases) c.args.turf.row c.args.to _ _ _ c.if-giver-taker.false (c.move_air.ensures (board_at c.args.rows c.args.marks c.args.turf.gases) refl refl)

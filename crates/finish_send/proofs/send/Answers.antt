@@ -9,9 +9,8 @@ use Rattle.finish_send.proofs.send.Goals as goal
 
 pub clear_at-requires : goal.clear_at-requires
 clear_at-requires c =
-    let entry = c in
-    let pre = entry.requires.fact in
-    back_fits _ _ _ _ entry.args.floats.now _ c.back_link-back.ensures pre.link pre.back pre.weights
+    let pre = c.requires.fact in
+    back_fits _ _ _ _ c.args.floats.now _ c.back_link-back.ensures pre.link pre.back pre.weights
 
 pub append-requires : goal.append-requires
 append-requires c =
@@ -20,10 +19,8 @@ append-requires c =
 
 pub returns : goal.returns
 returns c =
-    let entry = c in
-    let cleared = c in
     record {
-      weights = cleared.clear_at.ensures ∙ ap (λ (s : Spot). alter s (λ y. 0f) entry.args.floats.now) cleared.back_link-back.ensures;
+      weights = c.clear_at.ensures ∙ ap (λ (s : Spot). alter s (λ y. 0f) c.args.floats.now) c.back_link-back.ensures;
       air = c.move_between.ensures;
       event = one-added _ c.append.ensures;
     }

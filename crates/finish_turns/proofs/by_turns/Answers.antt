@@ -25,10 +25,9 @@ shape_of-events-then-live-eq0 c = c.loop-i.invariant.to.did.kept.events
 
 pub returns-then-live-eq0 : goal.returns-then-live-eq0
 returns-then-live-eq0 c =
-    let entry = c in
     let start = c.start-live in
     let loop = c.loop-i in
-    from_start _ _ _ start.ensures (taking_none _ _ _ _ _ (started_fit entry.requires.turns_fit start.ensures) (started_laid entry.requires.fact start.ensures) _ _ _ _ loop.invariant c.if-live-eq0.true)
+    from_start _ _ _ start.ensures (taking_none _ _ _ _ _ (started_fit c.requires.turns_fit start.ensures) (started_laid c.requires.fact start.ensures) _ _ _ _ loop.invariant c.if-live-eq0.true)
 
 pub offset_bounds-turns-i : goal.offset_bounds-turns-i
 offset_bounds-turns-i c = omega (arith, c.well_formed, c.loop-i-test.true)
@@ -38,29 +37,30 @@ bounds-turns-i c = c.loop-i-test.true
 
 pub turn-t-requires : goal.turn-t-requires
 turn-t-requires c =
-    let entry = c in
     let start = c.start-live in
     let loop = c.loop-i in
-    let if1 = c.if-live-eq0 in record { turns_fit = taking_fit _ _ _ _ _ (started_fit entry.requires.turns_fit start.ensures) (started_laid entry.requires.fact start.ensures) _ _ _ _ loop.invariant; fact = taking_live _ _ _ _ _ (started_fit entry.requires.turns_fit start.ensures) (started_laid entry.requires.fact start.ensures) _ _ _ _ loop.invariant if1.false }
+    let if1 = c.if-live-eq0 in
+    record {
+      turns_fit = taking_fit _ _ _ _ _ (started_fit c.requires.turns_fit start.ensures) (started_laid c.requires.fact start.ensures) _ _ _ _ loop.invariant;
+      fact = taking_live _ _ _ _ _ (started_fit c.requires.turns_fit start.ensures) (started_laid c.requires.fact start.ensures) _ _ _ _ loop.invariant if1.false;
+    }
 
 pub overflow_add-i : goal.overflow_add-i
 overflow_add-i c =
-    let entry = c in
     let loop-test = c.loop-i-test in
-    omega (arith, entry.well_formed, loop-test.true)
+    omega (arith, c.well_formed, loop-test.true)
 
 pub loop-i-smaller : goal.loop-i-smaller
 loop-i-smaller c = omega (arith, c.loop-i-test.true)
 
 pub loop-i-preserved : goal.loop-i-preserved
 loop-i-preserved c =
-    let entry = c in
     let start = c.start-live in
     let loop = c.loop-i in
     let loop-test = c.loop-i-test in
     let if1 = c.if-live-eq0 in
     let turn = c.turn-t in
-    taking_next _ _ _ _ _ (started_fit entry.requires.turns_fit start.ensures) (started_laid entry.requires.fact start.ensures) _ _ _ _ loop.invariant if1.false loop-test.true _ _ _ turn.ensures
+    taking_next _ _ _ _ _ (started_fit c.requires.turns_fit start.ensures) (started_laid c.requires.fact start.ensures) _ _ _ _ loop.invariant if1.false loop-test.true _ _ _ turn.ensures
 
 pub shape_of-gas : goal.shape_of-gas
 shape_of-gas c = c.loop-i.invariant.to.did.kept.gas
@@ -76,7 +76,6 @@ shape_of-events c = c.loop-i.invariant.to.did.kept.events
 
 pub returns : goal.returns
 returns c =
-    let entry = c in
     let start = c.start-live in
     let loop = c.loop-i in
-    from_start _ _ _ start.ensures (taking_all _ _ _ _ _ (started_fit entry.requires.turns_fit start.ensures) (started_laid entry.requires.fact start.ensures) _ _ _ _ loop.invariant c.loop-i-test.false)
+    from_start _ _ _ start.ensures (taking_all _ _ _ _ _ (started_fit c.requires.turns_fit start.ensures) (started_laid c.requires.fact start.ensures) _ _ _ _ loop.invariant c.loop-i-test.false)

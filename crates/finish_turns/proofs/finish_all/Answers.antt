@@ -6,43 +6,43 @@ use Rattle.finish_turns.proofs.finish_all.Goals as goal
 
 pub by_turns-now-requires : goal.by_turns-now-requires
 by_turns-now-requires c =
-    let entry = c in record { turns_fit = planned-fit _ _ entry.args.turns.now _ _ entry.requires; fact = entry.requires.laid }
+    record { turns_fit = planned-fit _ _ c.args.turns.now _ _ c.requires; fact = c.requires.laid }
 
 pub loop-z-init : goal.loop-z-init
 loop-z-init c =
-    let entry = c in
     let by-turns = c.by_turns-now in
-    let fit = turned_fit _ _ entry.args.turns.now _ _ entry.requires _ _ by-turns.ensures in
-    let laid = turned_laid _ _ entry.args.turns.now _ _ entry.requires _ _ by-turns.ensures in
+    let fit = turned_fit _ _ c.args.turns.now _ _ c.requires _ _ by-turns.ensures in
+    let laid = turned_laid _ _ c.args.turns.now _ _ c.requires _ _ by-turns.ensures in
     ending_start _ _ _ _ fit laid
 
 pub finish_zone-now-requires : goal.finish_zone-now-requires
 finish_zone-now-requires c =
-    let entry = c in
     let by-turns = c.by_turns-now in
     let loop = c.loop-z in
     let loop-test = c.loop-z-test in
-    let fit = turned_fit _ _ entry.args.turns.now _ _ entry.requires _ _ by-turns.ensures in
-    let laid = turned_laid _ _ entry.args.turns.now _ _ entry.requires _ _ by-turns.ensures in record { turns_fit = ending_fit _ _ _ _ fit laid _ _ _ loop.invariant; fact = ending_laid _ _ _ _ fit laid _ _ _ loop.invariant loop-test.true }
+    let fit = turned_fit _ _ c.args.turns.now _ _ c.requires _ _ by-turns.ensures in
+    let laid = turned_laid _ _ c.args.turns.now _ _ c.requires _ _ by-turns.ensures in
+    record {
+      turns_fit = ending_fit _ _ _ _ fit laid _ _ _ loop.invariant;
+      fact = ending_laid _ _ _ _ fit laid _ _ _ loop.invariant loop-test.true;
+    }
 
 pub overflow_add-z : goal.overflow_add-z
 overflow_add-z c =
-    let entry = c in
     let loop-test = c.loop-z-test in
-    omega (arith, loop-test.true, entry.ranges.zones)
+    omega (arith, loop-test.true, c.ranges.zones)
 
 pub loop-z-smaller : goal.loop-z-smaller
 loop-z-smaller c = omega (arith, c.loop-z-test.true)
 
 pub loop-z-preserved : goal.loop-z-preserved
 loop-z-preserved c =
-    let entry = c in
     let by-turns = c.by_turns-now in
     let loop = c.loop-z in
     let loop-test = c.loop-z-test in
     let finish-zone = c.finish_zone-now in
-    let fit = turned_fit _ _ entry.args.turns.now _ _ entry.requires _ _ by-turns.ensures in
-    let laid = turned_laid _ _ entry.args.turns.now _ _ entry.requires _ _ by-turns.ensures in
+    let fit = turned_fit _ _ c.args.turns.now _ _ c.requires _ _ by-turns.ensures in
+    let laid = turned_laid _ _ c.args.turns.now _ _ c.requires _ _ by-turns.ensures in
     ending_next _ _ _ _ fit laid _ _ _ loop.invariant loop-test.true _ _ finish-zone.ensures
 
 pub shape_of-gas : goal.shape_of-gas
@@ -59,7 +59,6 @@ shape_of-events c = c.loop-z.invariant.did.kept.events ∙ c.by_turns-now.ensure
 
 pub returns : goal.returns
 returns c =
-    let entry = c in
     let by-turns = c.by_turns-now in
     let loop = c.loop-z in
-    finishes-all _ _ entry.args.turns.now _ _ entry.requires _ _ by-turns.ensures _ _ _ c.loop-z-test.false loop.invariant
+    finishes-all _ _ c.args.turns.now _ _ c.requires _ _ by-turns.ensures _ _ _ c.loop-z-test.false loop.invariant

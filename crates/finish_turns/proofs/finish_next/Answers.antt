@@ -14,18 +14,17 @@ finalize_eq-now-requires c = node-begun _ _ _ _ c.requires.turns_fit c.requires.
 
 pub count_turn-requires : goal.count_turn-requires
 count_turn-requires c =
-    let entry = c in record { sizes = sizes-fit entry.requires.turns_fit; zone_open = entry.requires.fact }
+    record { sizes = sizes-fit c.requires.turns_fit; zone_open = c.requires.fact }
 
 pub shape_of-gas : goal.shape_of-gas
 shape_of-gas c = c.finalize_eq-now.ensures.kept.gas
 
 pub shape_of-words : goal.shape_of-words
 shape_of-words c =
-    let entry = c in
     let next_row = c.next_row in
     let finalize-eq = c.finalize_eq-now in
     let count_turn = c.count_turn in
-    (node_done _ _ _ _ entry.requires.turns_fit entry.requires.fact _ next_row.ensures _ _ finalize-eq.ensures count_turn.ensures).did.words.size
+    (node_done _ _ _ _ c.requires.turns_fit c.requires.fact _ next_row.ensures _ _ finalize-eq.ensures count_turn.ensures).did.words.size
 
 pub shape_of-floats : goal.shape_of-floats
 shape_of-floats c = c.finalize_eq-now.ensures.kept.floats
@@ -35,8 +34,7 @@ shape_of-events c = c.finalize_eq-now.ensures.kept.events
 
 pub returns : goal.returns
 returns c =
-    let entry = c in
     let next_row = c.next_row in
     let finalize-eq = c.finalize_eq-now in
     let count_turn = c.count_turn in
-    node_done _ _ _ _ entry.requires.turns_fit entry.requires.fact _ next_row.ensures _ _ finalize-eq.ensures count_turn.ensures
+    node_done _ _ _ _ c.requires.turns_fit c.requires.fact _ next_row.ensures _ _ finalize-eq.ensures count_turn.ensures

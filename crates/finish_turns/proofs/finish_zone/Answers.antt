@@ -15,29 +15,30 @@ loop-i-init c = zoning_start _ _ _ _ c.requires.turns_fit c.requires.fact _ c.tu
 
 pub finish_next-now-requires : goal.finish_next-now-requires
 finish_next-now-requires c =
-    let entry = c in
     let size-of = c.size_of-size in
     let loop = c.loop-i in
-    let loop-test = c.loop-i-test in record { turns_fit = zoning_fit _ _ _ _ entry.requires.turns_fit entry.requires.fact _ _ _ loop.invariant; fact = zoning_open _ _ _ _ entry.requires.turns_fit entry.requires.fact _ _ _ loop.invariant _ size-of.ensures loop-test.true }
+    let loop-test = c.loop-i-test in
+    record {
+      turns_fit = zoning_fit _ _ _ _ c.requires.turns_fit c.requires.fact _ _ _ loop.invariant;
+      fact = zoning_open _ _ _ _ c.requires.turns_fit c.requires.fact _ _ _ loop.invariant _ size-of.ensures loop-test.true;
+    }
 
 pub overflow_add-i : goal.overflow_add-i
 overflow_add-i c =
-    let entry = c in
     let size-of = c.size_of-size in
     let loop-test = c.loop-i-test in
-    omega (arith, entry.well_formed, loop-test.true, size-of.ensures, entry.requires.fact.within)
+    omega (arith, c.well_formed, loop-test.true, size-of.ensures, c.requires.fact.within)
 
 pub loop-i-smaller : goal.loop-i-smaller
 loop-i-smaller c = omega (arith, c.loop-i-test.true)
 
 pub loop-i-preserved : goal.loop-i-preserved
 loop-i-preserved c =
-    let entry = c in
     let size-of = c.size_of-size in
     let loop = c.loop-i in
     let loop-test = c.loop-i-test in
     let finish-next = c.finish_next-now in
-    zoning_next _ _ _ _ entry.requires.turns_fit entry.requires.fact _ _ _ loop.invariant _ size-of.ensures loop-test.true _ _ finish-next.ensures
+    zoning_next _ _ _ _ c.requires.turns_fit c.requires.fact _ _ _ loop.invariant _ size-of.ensures loop-test.true _ _ finish-next.ensures
 
 pub shape_of-gas : goal.shape_of-gas
 shape_of-gas c = c.loop-i.invariant.did.kept.gas
@@ -53,7 +54,6 @@ shape_of-events c = c.loop-i.invariant.did.kept.events
 
 pub returns : goal.returns
 returns c =
-    let entry = c in
     let size-of = c.size_of-size in
     let loop = c.loop-i in
-    zoning_end _ _ _ _ entry.requires.turns_fit entry.requires.fact _ _ _ loop.invariant _ size-of.ensures c.loop-i-test.false
+    zoning_end _ _ _ _ c.requires.turns_fit c.requires.fact _ _ _ loop.invariant _ size-of.ensures c.loop-i-test.false

@@ -6,18 +6,21 @@ use Rattle.finish_turns.proofs.turn.Goals as goal
 
 pub zone_at-zone-requires : goal.zone_at-zone-requires
 zone_at-zone-requires c =
-    let entry = c in record { sizes = sizes-fit entry.requires.turns_fit; live = entry.requires.fact; p_lt_count = picked_place _ entry.args.c _ _ _ entry.requires.turns_fit entry.requires.fact }
+    record { sizes = sizes-fit c.requires.turns_fit; live = c.requires.fact; p_lt_count = picked_place _ c.args.c _ _ _ c.requires.turns_fit c.requires.fact }
 
 pub finish_next-used-requires : goal.finish_next-used-requires
 finish_next-used-requires c =
-    let entry = c in
-    let zone-at = c.zone_at-zone in record { turns_fit = entry.requires.turns_fit; fact = picked_zone _ entry.args.c _ _ _ entry.requires.turns_fit entry.requires.fact _ zone-at.ensures }
+    let zone-at = c.zone_at-zone in record { turns_fit = c.requires.turns_fit; fact = picked_zone _ c.args.c _ _ _ c.requires.turns_fit c.requires.fact _ zone-at.ensures }
 
 pub settle-live-requires : goal.settle-live-requires
 settle-live-requires c =
-    let entry = c in
     let zone-at = c.zone_at-zone in
-    let finish-next = c.finish_next-used in record { sizes = sizes-fit entry.requires.turns_fit; laid = laid-now _ entry.args.c _ _ _ entry.requires.turns_fit entry.requires.fact _ zone-at.ensures _ _ finish-next.ensures; p_lt_count = (picked_place _ entry.args.c _ _ _ entry.requires.turns_fit entry.requires.fact, entry.requires.fact.few) }
+    let finish-next = c.finish_next-used in
+    record {
+      sizes = sizes-fit c.requires.turns_fit;
+      laid = laid-now _ c.args.c _ _ _ c.requires.turns_fit c.requires.fact _ zone-at.ensures _ _ finish-next.ensures;
+      p_lt_count = (picked_place _ c.args.c _ _ _ c.requires.turns_fit c.requires.fact, c.requires.fact.few);
+    }
 
 pub shape_of-gas : goal.shape_of-gas
 shape_of-gas c = c.finish_next-used.ensures.did.kept.gas
@@ -33,8 +36,7 @@ shape_of-events c = c.finish_next-used.ensures.did.kept.events
 
 pub returns : goal.returns
 returns c =
-    let entry = c in
     let zone-at = c.zone_at-zone in
     let finish-next = c.finish_next-used in
     let settle = c.settle-live in
-    turn-done _ entry.args.c _ _ _ entry.requires.turns_fit entry.requires.fact _ zone-at.ensures _ _ finish-next.ensures _ _ settle.ensures
+    turn-done _ c.args.c _ _ _ c.requires.turns_fit c.requires.fact _ zone-at.ensures _ _ finish-next.ensures _ _ settle.ensures

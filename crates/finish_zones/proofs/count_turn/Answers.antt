@@ -8,11 +8,10 @@ use Rattle.finish_zones.proofs.count_turn.Goals as goal
 
 pub overflow_add-words : goal.overflow_add-words
 overflow_add-words c =
-    let entry = c in
     let slice-known = c.slice_known-1 in
     let turns_at = c.turns_at in
-    let q = ap (λ (i : ℕ). get_or entry.args.words.now (i + entry.args.zone) 0) turns_at.ensures in
-    omega (arith, q, entry.requires.zone_open.some, slice-known.given (starts_at entry.args.n entry.args.e + (entry.args.zone + 1)))
+    let q = ap (λ (i : ℕ). get_or c.args.words.now (i + c.args.zone) 0) turns_at.ensures in
+    omega (arith, q, c.requires.zone_open.some, slice-known.given (starts_at c.args.n c.args.e + (c.args.zone + 1)))
 
 pub returns : goal.returns
 returns c = ap (λ (i : ℕ). set c.args.words.now (i + c.args.zone) (get_or c.args.words.now (i + c.args.zone) 0 + 1)) c.turns_at.ensures

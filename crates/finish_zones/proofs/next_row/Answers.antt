@@ -12,49 +12,43 @@ overflow_cast-had c = omega (arith, c.shared_slice_known-1.given (c.turns_at.res
 
 pub overflow_add-result : goal.overflow_add-result
 overflow_add-result c =
-    let entry = c in
     let starts-at = c.starts_at in
     let turns_at = c.turns_at in
-    let h = row_within _ _ entry.requires.zone_open (starts-at.result + entry.args.zone) (turns_at.result + entry.args.zone) c.nodes_at.result (omega (arith, starts-at.ensures)) (omega (arith, turns_at.ensures)) c.nodes_at.ensures in
+    let h = row_within _ _ c.requires.zone_open (starts-at.result + c.args.zone) (turns_at.result + c.args.zone) c.nodes_at.result (omega (arith, starts-at.ensures)) (omega (arith, turns_at.ensures)) c.nodes_at.ensures in
     omega (arith, h)
 
 pub overflow_add-result-2 : goal.overflow_add-result-2
 overflow_add-result-2 c =
-    let entry = c in
     let starts-at = c.starts_at in
     let turns_at = c.turns_at in
-    let h = row_within _ _ entry.requires.zone_open (starts-at.result + entry.args.zone) (turns_at.result + entry.args.zone) c.nodes_at.result (omega (arith, starts-at.ensures)) (omega (arith, turns_at.ensures)) c.nodes_at.ensures in
+    let h = row_within _ _ c.requires.zone_open (starts-at.result + c.args.zone) (turns_at.result + c.args.zone) c.nodes_at.result (omega (arith, starts-at.ensures)) (omega (arith, turns_at.ensures)) c.nodes_at.ensures in
     omega (arith, h)
 
 pub offset_bounds-words-nodes_at : goal.offset_bounds-words-nodes_at
 offset_bounds-words-nodes_at c =
-    let entry = c in
     let starts-at = c.starts_at in
     let turns_at = c.turns_at in
-    let h = row_within _ _ entry.requires.zone_open (starts-at.result + entry.args.zone) (turns_at.result + entry.args.zone) c.nodes_at.result (omega (arith, starts-at.ensures)) (omega (arith, turns_at.ensures)) c.nodes_at.ensures in
+    let h = row_within _ _ c.requires.zone_open (starts-at.result + c.args.zone) (turns_at.result + c.args.zone) c.nodes_at.result (omega (arith, starts-at.ensures)) (omega (arith, turns_at.ensures)) c.nodes_at.ensures in
     omega (arith, h)
 
 pub bounds-words-nodes_at : goal.bounds-words-nodes_at
 bounds-words-nodes_at c =
-    let entry = c in
     let starts-at = c.starts_at in
     let turns_at = c.turns_at in
     let nodes-at = c.nodes_at in
-    row_within _ _ entry.requires.zone_open (starts-at.result + entry.args.zone) (turns_at.result + entry.args.zone) nodes-at.result (omega (arith, starts-at.ensures)) (omega (arith, turns_at.ensures)) nodes-at.ensures
+    row_within _ _ c.requires.zone_open (starts-at.result + c.args.zone) (turns_at.result + c.args.zone) nodes-at.result (omega (arith, starts-at.ensures)) (omega (arith, turns_at.ensures)) nodes-at.ensures
 
 pub overflow_cast-result : goal.overflow_cast-result
 overflow_cast-result c =
-    let entry = c in
     let starts-at = c.starts_at in
     let turns_at = c.turns_at in
     let nodes-at = c.nodes_at in
-    let h = row_small _ _ entry.requires.zone_open (starts-at.result + entry.args.zone) (turns_at.result + entry.args.zone) nodes-at.result (omega (arith, starts-at.ensures)) (omega (arith, turns_at.ensures)) nodes-at.ensures in
-    omega (arith, h, entry.requires.sizes.turfs)
+    let h = row_small _ _ c.requires.zone_open (starts-at.result + c.args.zone) (turns_at.result + c.args.zone) nodes-at.result (omega (arith, starts-at.ensures)) (omega (arith, turns_at.ensures)) nodes-at.ensures in
+    omega (arith, h, c.requires.sizes.turfs)
 
 pub returns : goal.returns
 returns c =
-    let entry = c in
     let starts-at = c.starts_at in
     let turns_at = c.turns_at in
     let nodes-at = c.nodes_at in
-    row_is _ _ entry.requires.zone_open (starts-at.result + entry.args.zone) (turns_at.result + entry.args.zone) nodes-at.result (omega (arith, starts-at.ensures)) (omega (arith, turns_at.ensures)) nodes-at.ensures
+    row_is _ _ c.requires.zone_open (starts-at.result + c.args.zone) (turns_at.result + c.args.zone) nodes-at.result (omega (arith, starts-at.ensures)) (omega (arith, turns_at.ensures)) nodes-at.ensures

@@ -13,14 +13,12 @@ overflow_cast-to c = omega (arith, c.shared_slice_known-1.given (c.starts_at.res
 
 pub overflow_sub-result : goal.overflow_sub-result
 overflow_sub-result c =
-    let entry = c in
     let starts-at = c.starts_at in
-    let q = starts-read entry.args.n entry.args.e entry.args.words.now entry.args.zone (starts-at.result + entry.args.zone) (omega (arith, starts-at.ensures)) in
-    omega (arith, q.0, q.1, entry.requires.laid.rise)
+    let q = starts-read c.args.n c.args.e c.args.words.now c.args.zone (starts-at.result + c.args.zone) (omega (arith, starts-at.ensures)) in
+    omega (arith, q.0, q.1, c.requires.laid.rise)
 
 pub returns : goal.returns
 returns c =
-    let entry = c in
     let starts-at = c.starts_at in
-    let q = starts-read entry.args.n entry.args.e entry.args.words.now entry.args.zone (starts-at.result + entry.args.zone) (omega (arith, starts-at.ensures)) in
+    let q = starts-read c.args.n c.args.e c.args.words.now c.args.zone (starts-at.result + c.args.zone) (omega (arith, starts-at.ensures)) in
     ap₂ (λ (x y : ℕ). x - y) q.1 q.0

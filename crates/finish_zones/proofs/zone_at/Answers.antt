@@ -1,5 +1,4 @@
 -- An unfinished zone is a word. Assumes nothing.
--- a word, whichever is read
 use mathlib.Core.Path.{ap}
 use mathlib.Core.List.{List}
 use Prim.Native.Nat.{ℕ, ◌+◌, ◌^◌, ◌<◌}
@@ -7,6 +6,7 @@ use lib.ListN.{get_or}
 use native.Mathlib.Omega.{arith}
 use Rattle.finish_zones.proofs.zone_at.Goals as goal
 
+-- a word, whichever is read
 word_fits : (l : List ℕ) (known : (i : ℕ) → get_or l i 0 < 2 ^ 32) (i : ℕ) → get_or l i 0 < 2 ^ 64
 word_fits l known i = omega (arith, known i)
 

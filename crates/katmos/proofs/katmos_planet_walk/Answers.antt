@@ -6,7 +6,6 @@ use Rattle.katmos.proofs.katmos_planet_walk.Goals as goal
 
 pub returns : goal.returns
 returns c =
-    let known = c in
-    let a = known.args in
+    let a = c.args in
     let b = board a.ids.now a.flags.now a.planetary.now a.mixtures.now a.starts.now a.neighbours.now a.link_flags.now a.immutable.now a.gases in
-    answers planet_numbers b _ _ _ (words_of a.ids.now known.shared_slice_known-1.given) c.planet_walk-a.ensures c.planet_numbers.ensures
+    answers planet_numbers b _ _ _ (words_of a.ids.now c.shared_slice_known-1.given) c.planet_walk-a.ensures c.planet_numbers.ensures

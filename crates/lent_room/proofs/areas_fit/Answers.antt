@@ -1,5 +1,4 @@
 -- The first area that is too short decides. Assumes nothing.
--- so many bytes for each of at most n: a product that fits
 use Prim.Native.Nat.{ℕ, ◌*◌, ◌≤◌, ◌<◌}
 use mathlib.Core.Path.{◌∙◌, sym, ap}
 use mathlib.Core.List.{[], ◌∷◌}
@@ -11,6 +10,7 @@ use Rattle.basics.proofs.Tests.{one-fails, last-is, all_hold, all_none}
 use Rattle.rules_lent.specs.Lent.{floats_room}
 use Rattle.lent_room.proofs.areas_fit.Goals as goal
 
+-- so many bytes for each of at most n: a product that fits
 few : (x k n : ℕ) → x < 256 → k ≤ n → x * k ≤ 255 * n
 few x k n h l = mul-le-mul {n₂ = 255} (omega arith) l
 
@@ -22,8 +22,7 @@ overflow_mul-needed-2 c = omega (arith, few c.args.room.per_turf _ 4096 (omega a
 
 pub overflow_add-needed : goal.overflow_add-needed
 overflow_add-needed c =
-    let s = c in
-    omega (arith, few s.args.room.per_link _ 24576 (omega arith) s.requires.links, few s.args.room.per_turf _ 4096 (omega arith) s.requires.turfs)
+    omega (arith, few c.args.room.per_link _ 24576 (omega arith) c.requires.links, few c.args.room.per_turf _ 4096 (omega arith) c.requires.turfs)
 
 pub returns-then-events-needed : goal.returns-then-events-needed
 returns-then-events-needed c = sym (one-fails _ 0 (lt-leb _ _ c.if-events-needed.true))

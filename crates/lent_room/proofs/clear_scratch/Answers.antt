@@ -14,5 +14,7 @@ clear_floats-requires c = search rules
 pub returns : goal.returns
 unfolding floats_room
 returns c =
-    let cleared-words = c in
-    let entry = cleared-words in record { words_after = cleared-words.clear.ensures ∙ ap (λ (n : ℕ). cleared_first 0 n entry.args.words.now) cleared-words.words_room.ensures; floats_after = c.clear_floats.ensures ∙ ap (λ (n : ℕ). cleared_first 0f n entry.args.floats.now) c.floats_room.ensures }
+    record {
+      words_after = c.clear.ensures ∙ ap (λ (n : ℕ). cleared_first 0 n c.args.words.now) c.words_room.ensures;
+      floats_after = c.clear_floats.ensures ∙ ap (λ (n : ℕ). cleared_first 0f n c.args.floats.now) c.floats_room.ensures;
+    }

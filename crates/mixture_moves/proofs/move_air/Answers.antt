@@ -8,9 +8,8 @@ pub returns : goal.returns
 returns c =
     λ b i e.
     let share = c.ratio-goes in
-    let entry = c in
-    let a = entry.args in
-    let p = entry.requires in
+    let a = c.args in
+    let p = c.requires in
     moved b a.giver a.taker p.fact a.gas.now a.gases e p.holds_gas.0 p.holds_gas.1 a.amount share.result
     (share.ensures ∙ ap (ratio a.amount) (p.total_value b e))
     _ _ (c.merge.ensures b i e) (c.remove.ensures b i e)

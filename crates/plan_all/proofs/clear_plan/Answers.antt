@@ -9,12 +9,11 @@ direction_at-pairs-requires c = record { row_bound = omega arith; e_bound = c.re
 
 pub fast_at-fast-requires : goal.fast_at-fast-requires
 fast_at-fast-requires c =
-    let entry = c in record { row_bound = omega arith; sizes = record { turfs = entry.requires.turfs; links = entry.requires.links } }
+    record { row_bound = omega arith; sizes = record { turfs = c.requires.turfs; links = c.requires.links } }
 
 pub queue_at-queue-requires : goal.queue_at-queue-requires
 queue_at-queue-requires c =
-    let entry = c in
-    record { turfs = entry.requires.turfs; links = entry.requires.links }
+    record { turfs = c.requires.turfs; links = c.requires.links }
 
 pub overflow_sub-fast : goal.overflow_sub-fast
 overflow_sub-fast c = omega (arith, c.direction_at-pairs.ensures, c.fast_at-fast.ensures)
@@ -30,8 +29,7 @@ clear_part-requires-2 c = omega (arith, c.fast_at-fast.ensures, c.queue_at-queue
 
 pub lifted_at-requires : goal.lifted_at-requires
 lifted_at-requires c =
-    let entry = c in
-    record { turfs = entry.requires.turfs; links = entry.requires.links }
+    record { turfs = c.requires.turfs; links = c.requires.links }
 
 pub clear_floats-requires : goal.clear_floats-requires
 clear_floats-requires c = omega (arith, c.lifted_at.ensures, c.requires.floats)

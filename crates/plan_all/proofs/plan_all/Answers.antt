@@ -7,17 +7,16 @@ use Rattle.plan_all.proofs.plan_all.Goals as goal
 
 pub plan_zones-requires : goal.plan_zones-requires
 plan_zones-requires c =
-    let entry = c in
     let find-reverses = c.find_reverses in
-    let clear-plan = c.clear_plan in record { plannable = entry.requires.plannable; fact = cleared-zoned entry.requires.fact find-reverses.ensures.but clear-plan.ensures clear-plan.auto.words clear-plan.auto.floats; fact_2 = cleared-reverses entry.requires.fact find-reverses.ensures.but clear-plan.ensures (reverses-of (board_of entry.args.rows.now entry.args.marks.now entry.args.gases)
+    let clear-plan = c.clear_plan in
+    record { plannable = c.requires.plannable; fact = cleared-zoned c.requires.fact find-reverses.ensures.but clear-plan.ensures clear-plan.auto.words clear-plan.auto.floats; fact_2 = cleared-reverses c.requires.fact find-reverses.ensures.but clear-plan.ensures (reverses-of (board_of c.args.rows.now c.args.marks.now c.args.gases)
             _ find-reverses.ensures.backs) }
 
 pub returns : goal.returns
 returns c =
-    let entry = c in
     let find-reverses = c.find_reverses in
     let clear-plan = c.clear_plan in
     let plan-zones = c.plan_zones in
-    planned-all entry.requires.fact find-reverses.ensures.but clear-plan.ensures plan-zones.ensures (plan-zones.auto.words ∙ clear-plan.auto.words)
-    (plan-zones.auto.floats ∙ clear-plan.auto.floats) refl refl (reverses-of (board_of entry.args.rows.now entry.args.marks.now entry.args.gases)
+    planned-all c.requires.fact find-reverses.ensures.but clear-plan.ensures plan-zones.ensures (plan-zones.auto.words ∙ clear-plan.auto.words)
+    (plan-zones.auto.floats ∙ clear-plan.auto.floats) refl refl (reverses-of (board_of c.args.rows.now c.args.marks.now c.args.gases)
     _ find-reverses.ensures.backs)

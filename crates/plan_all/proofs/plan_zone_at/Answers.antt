@@ -11,52 +11,46 @@ starts_at-requires c = c.requires.room.sizes
 
 pub overflow_add-at : goal.overflow_add-at
 overflow_add-at c =
-    let entry = c in
-    omega (arith, c.starts_at.ensures, entry.requires.room.sizes, entry.requires.zone)
+    omega (arith, c.starts_at.ensures, c.requires.room.sizes, c.requires.zone)
 
 pub overflow_cast-from : goal.overflow_cast-from
 overflow_cast-from c =
-    let entry = c in
-    let range = from-to c.starts_at.ensures entry.requires.zone entry.requires.ready in
-    omega (arith, range, entry.requires.room.sizes.turfs, entry.requires.room.sizes.links)
+    let range = from-to c.starts_at.ensures c.requires.zone c.requires.ready in
+    omega (arith, range, c.requires.room.sizes.turfs, c.requires.room.sizes.links)
 
 pub overflow_cast-to : goal.overflow_cast-to
 overflow_cast-to c =
-    let entry = c in
-    let range = from-to c.starts_at.ensures entry.requires.zone entry.requires.ready in
-    omega (arith, range, entry.requires.room.sizes.turfs, entry.requires.room.sizes.links)
+    let range = from-to c.starts_at.ensures c.requires.zone c.requires.ready in
+    omega (arith, range, c.requires.room.sizes.turfs, c.requires.room.sizes.links)
 
 pub moles_at-requires : goal.moles_at-requires
 moles_at-requires c = c.requires.room.sizes
 
 pub overflow_add-total : goal.overflow_add-total
 overflow_add-total c =
-    let entry = c in
-    omega (arith, c.moles_at.ensures, entry.requires.room.sizes, entry.requires.zone)
+    omega (arith, c.moles_at.ensures, c.requires.room.sizes, c.requires.zone)
 
 pub nodes_at-requires : goal.nodes_at-requires
 nodes_at-requires c = c.requires.room.sizes
 
 pub overflow_add-zone : goal.overflow_add-zone
 overflow_add-zone c =
-    let entry = c in
-    let range = from-to c.starts_at.ensures entry.requires.zone entry.requires.ready in
-    omega (arith, c.nodes_at.ensures, range, entry.requires.room.sizes.turfs, entry.requires.room.sizes.links)
+    let range = from-to c.starts_at.ensures c.requires.zone c.requires.ready in
+    omega (arith, c.nodes_at.ensures, range, c.requires.room.sizes.turfs, c.requires.room.sizes.links)
 
 pub overflow_sub-zone : goal.overflow_sub-zone
 overflow_sub-zone c = omega (arith, (from-to c.starts_at.ensures c.requires.zone c.requires.ready).0)
 
 pub process_zone-requires : goal.process_zone-requires
 process_zone-requires c =
-    let entry = c in record { fact = entry.requires.tables.gassed; planning = record {
-          sized = record { turfs = refl; links = refl; linked = entry.requires.tables.linked };
-          fit = room-fit entry.requires.room;
-          zone = omega (arith, entry.requires.zone, entry.requires.room.sizes.turfs);
-          reverses = entry.requires.reverses;
-        }; nodes = handed c.starts_at.ensures entry.requires.zone entry.requires.ready c.nodes_at.ensures entry.requires.room }
+    record { fact = c.requires.tables.gassed; planning = record {
+          sized = record { turfs = refl; links = refl; linked = c.requires.tables.linked };
+          fit = room-fit c.requires.room;
+          zone = omega (arith, c.requires.zone, c.requires.room.sizes.turfs);
+          reverses = c.requires.reverses;
+        }; nodes = handed c.starts_at.ensures c.requires.zone c.requires.ready c.nodes_at.ensures c.requires.room }
 
 pub returns : goal.returns
-returns c = let entry = c in
-    zone-planned (board_of entry.args.rows.now entry.args.marks.now entry.args.gases) _ c.starts_at.ensures
-    entry.requires.zone entry.requires.ready c.nodes_at.ensures (omega (arith, c.moles_at.ensures))
+returns c =     zone-planned (board_of c.args.rows.now c.args.marks.now c.args.gases) _ c.starts_at.ensures
+    c.requires.zone c.requires.ready c.nodes_at.ensures (omega (arith, c.moles_at.ensures))
     c.process_zone.ensures

@@ -11,13 +11,12 @@ loop-z-init c = ((omega arith, (refl, refl)), going_start _ _ (room-fit c.requir
 
 pub plan_zone_at-requires : goal.plan_zone_at-requires
 plan_zone_at-requires c =
-    let entry = c in
-    let t = zoned_alike (frame-alike c.loop-z.invariant.1.frame) c.loop-z.invariant.0.1.0 c.loop-z.invariant.0.1.1 entry.requires.fact in
+    let t = zoned_alike (frame-alike c.loop-z.invariant.1.frame) c.loop-z.invariant.0.1.0 c.loop-z.invariant.0.1.1 c.requires.fact in
     record {
-      tables = entry.requires.plannable;
+      tables = c.requires.plannable;
       room = t.room;
       zone = omega (arith, t.few, c.loop-z-test.true);
-      reverses = reverses-kept entry.requires.fact_2 c.loop-z.invariant.1.frame;
+      reverses = reverses-kept c.requires.fact_2 c.loop-z.invariant.1.frame;
       ready = t.each _ c.loop-z-test.true;
     }
 

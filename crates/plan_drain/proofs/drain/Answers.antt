@@ -27,19 +27,17 @@ bounds-words-queue c = omega (arith, c.queue_at-queue.ensures, c.requires.fit.wo
 
 pub drain_turf-requires : goal.drain_turf-requires
 drain_turf-requires c =
-    let entry = c in
     let loop = c.loop-i in
     let loop-test = c.loop-i-test in
-    let met = row_within _ _ 0 (loop.i - 1) _ _ _ c.queue_at-queue.ensures (omega (arith, loop.invariant.0, loop-test.true, entry.requires.few)) _
-    (entry.requires.within (loop.i - 1) (omega (arith, loop.invariant.0, loop-test.true))) in
-    record { fit = loop.invariant.1.fit; zone = entry.requires.zone; row = met.0; within = met.1 }
+    let met = row_within _ _ 0 (loop.i - 1) _ _ _ c.queue_at-queue.ensures (omega (arith, loop.invariant.0, loop-test.true, c.requires.few)) _
+    (c.requires.within (loop.i - 1) (omega (arith, loop.invariant.0, loop-test.true))) in
+    record { fit = loop.invariant.1.fit; zone = c.requires.zone; row = met.0; within = met.1 }
 
 pub loop-i-smaller : goal.loop-i-smaller
 loop-i-smaller c = omega arith
 
 pub loop-i-preserved : goal.loop-i-preserved
 loop-i-preserved c =
-    let entry = c in
     let loop = c.loop-i in
     let loop-test = c.loop-i-test in
     let drain-turf = c.drain_turf in (
@@ -49,8 +47,8 @@ loop-i-preserved c =
             arith,
             loop.invariant.0,
             loop-test.true,
-            entry.requires.few,
-          )) _ loop.i (omega (arith, loop-test.true)) (omega (arith, loop-test.true)) (queue-length _ _ _ entry.requires.fit) _),
+            c.requires.few,
+          )) _ loop.i (omega (arith, loop-test.true)) (omega (arith, loop-test.true)) (queue-length _ _ _ c.requires.fit) _),
     )
 
 pub returns : goal.returns

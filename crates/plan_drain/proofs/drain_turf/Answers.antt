@@ -20,34 +20,31 @@ overflow_cast-k c = omega (arith, c.shared_slice_known-then-direction-ne0-1.give
 
 pub back_link-there-requires : goal.back_link-there-requires
 back_link-there-requires c =
-    let entry = c in
     let load = c.load-i in
     let via = c.via_at in
     record {
-      room = omega (arith, entry.requires.fit.words);
-      link = back-k _ _ entry.args.z _ _ _ _ load.ensures entry.requires.fit entry.requires.row entry.requires.within c.if-direction-ne0.true _ via.ensures;
-      back = back_p _ _ entry.args.z _ _ _ _ load.ensures entry.requires.fit entry.requires.row entry.requires.within c.if-direction-ne0.true _ via.ensures;
-      zone = entry.requires.zone;
-      links = entry.requires.fit.links;
+      room = omega (arith, c.requires.fit.words);
+      link = back-k _ _ c.args.z _ _ _ _ load.ensures c.requires.fit c.requires.row c.requires.within c.if-direction-ne0.true _ via.ensures;
+      back = back_p _ _ c.args.z _ _ _ _ load.ensures c.requires.fit c.requires.row c.requires.within c.if-direction-ne0.true _ via.ensures;
+      zone = c.requires.zone;
+      links = c.requires.fit.links;
     }
 
 pub hand_on-requires : goal.hand_on-requires
 hand_on-requires c =
-    let entry = c in
     let met = c.load-i.ensures in
     let via = c.via_at.ensures in
     let pointed = c.if-direction-ne0.true in
     record {
-      fit = entry.requires.fit;
-      row = entry.requires.row;
-      to = back-row _ _ entry.args.z _ _ _ _ met entry.requires.fit entry.requires.row entry.requires.within pointed _ via;
-      there = back-there _ _ _ _ _ _ _ met entry.requires.fit entry.requires.row entry.requires.within pointed _ via _ c.back_link-there.ensures;
-      back = back-k _ _ entry.args.z _ _ _ _ met entry.requires.fit entry.requires.row entry.requires.within pointed _ via;
+      fit = c.requires.fit;
+      row = c.requires.row;
+      to = back-row _ _ c.args.z _ _ _ _ met c.requires.fit c.requires.row c.requires.within pointed _ via;
+      there = back-there _ _ _ _ _ _ _ met c.requires.fit c.requires.row c.requires.within pointed _ via _ c.back_link-there.ensures;
+      back = back-k _ _ c.args.z _ _ _ _ met c.requires.fit c.requires.row c.requires.within pointed _ via;
     }
 
 pub returns-then-direction-ne0 : goal.returns-then-direction-ne0
-returns-then-direction-ne0 c = let entry = c in
-    drained _ _ _ _ _ _ _ c.load-i.ensures entry.requires.fit entry.requires.row entry.requires.within c.if-direction-ne0.true _ c.via_at.ensures _
+returns-then-direction-ne0 c =     drained _ _ _ _ _ _ _ c.load-i.ensures c.requires.fit c.requires.row c.requires.within c.if-direction-ne0.true _ c.via_at.ensures _
     c.back_link-there.ensures c.if-amount.true c.hand_on.ensures
 
 pub returns-else-direction-ne0 : goal.returns-else-direction-ne0

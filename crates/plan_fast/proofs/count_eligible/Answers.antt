@@ -18,14 +18,13 @@ bounds-neighbours-k c = omega (arith, c.loop-k-test.true, c.requires.within, c.r
 
 pub tally-c-requires : goal.tally-c-requires
 tally-c-requires c =
-    let entry = c in
     record {
-      room = entry.requires.room;
-      link = omega (arith, entry.requires.within, c.loop-k-test.true);
-      end = entry.requires.ends _ (omega (arith, entry.requires.within, c.loop-k-test.true));
-      zone = entry.requires.zone;
-      count = omega (arith, c.loop-k.invariant.0, c.loop-k-test.true, entry.requires.within, entry.requires.sizes);
-      sizes = entry.requires.sizes;
+      room = c.requires.room;
+      link = omega (arith, c.requires.within, c.loop-k-test.true);
+      end = c.requires.ends _ (omega (arith, c.requires.within, c.loop-k-test.true));
+      zone = c.requires.zone;
+      count = omega (arith, c.loop-k.invariant.0, c.loop-k-test.true, c.requires.within, c.requires.sizes);
+      sizes = c.requires.sizes;
     }
 
 pub overflow_add-k : goal.overflow_add-k
@@ -36,7 +35,6 @@ loop-k-smaller c = omega (arith, c.loop-k-test.true)
 
 pub loop-k-preserved : goal.loop-k-preserved
 loop-k-preserved c =
-    let entry = c in
     let loop = c.loop-k in
     let loop-test = c.loop-k-test in (
       (
@@ -47,8 +45,8 @@ loop-k-preserved c =
             arith,
             loop.invariant.0,
             c.tally-c.ensures,
-            tally_le entry.args.n entry.args.e entry.args.words.now entry.args.z loop.k (get_or entry.args.neighbours.now loop.k 0) loop.c (omega
-                (arith, entry.requires.within, loop-test.true)) (entry.requires.ends _ (omega (arith, entry.requires.within, loop-test.true))),
+            tally_le c.args.n c.args.e c.args.words.now c.args.z loop.k (get_or c.args.neighbours.now loop.k 0) loop.c (omega
+                (arith, c.requires.within, loop-test.true)) (c.requires.ends _ (omega (arith, c.requires.within, loop-test.true))),
           ),
         ),
       ),

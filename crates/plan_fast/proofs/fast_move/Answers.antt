@@ -7,7 +7,10 @@ use Rattle.plan_fast.proofs.fast_move.Goals as goal
 
 pub adjust_eq_movement-requires : goal.adjust_eq_movement-requires
 adjust_eq_movement-requires c =
-    let entry = c in record { found = found-more _ _ entry.args.there (omega (arith, entry.requires.fit.floats)) entry.requires.there; found_2 = found-more _ _ entry.args.back (omega (arith, entry.requires.fit.floats)) entry.requires.back }
+    record {
+      found = found-more _ _ c.args.there (omega (arith, c.requires.fit.floats)) c.requires.there;
+      found_2 = found-more _ _ c.args.back (omega (arith, c.requires.fit.floats)) c.requires.back;
+    }
 
 pub delta_at-from-requires : goal.delta_at-from-requires
 delta_at-from-requires c =
@@ -42,5 +45,4 @@ pub bounds-floats-to-2 : goal.bounds-floats-to-2
 bounds-floats-to-2 c = simp length-set (omega (arith, c.delta_at-to.ensures, c.requires.fit, c.requires.to, c.adjust_eq_movement.auto))
 
 pub returns : goal.returns
-returns c = let entry = c in
-    moved _ _ _ _ _ _ _ _ _ _ entry.requires.fit entry.requires.row entry.requires.to entry.requires.there entry.requires.back c.adjust_eq_movement.ensures _ _ c.delta_at-from.ensures c.delta_at-to.ensures
+returns c =     moved _ _ _ _ _ _ _ _ _ _ c.requires.fit c.requires.row c.requires.to c.requires.there c.requires.back c.adjust_eq_movement.ensures _ _ c.delta_at-from.ensures c.delta_at-to.ensures

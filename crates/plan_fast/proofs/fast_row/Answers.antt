@@ -11,12 +11,11 @@ loop-k-init c = ((omega arith, (c.requires.rise, refl)), onto_start _ c.requires
 
 pub fast_link-requires : goal.fast_link-requires
 fast_link-requires c =
-    let entry = c in
     record {
       fit = c.loop-k.invariant.1.fit;
-      zone = entry.requires.zone;
-      ends = record { row = entry.requires.ends.row; all = entry.requires.ends.all; within = omega (arith, entry.requires.ends.within, c.loop-k-test.true); ends = entry.requires.ends.ends };
-      back = rw (reverse-same _ _ _ _ entry.args.floats.now) (entry.requires.back _ c.loop-k.invariant.0.0 c.loop-k-test.true);
+      zone = c.requires.zone;
+      ends = record { row = c.requires.ends.row; all = c.requires.ends.all; within = omega (arith, c.requires.ends.within, c.loop-k-test.true); ends = c.requires.ends.ends };
+      back = rw (reverse-same _ _ _ _ c.args.floats.now) (c.requires.back _ c.loop-k.invariant.0.0 c.loop-k-test.true);
     }
 
 pub overflow_add-k : goal.overflow_add-k

@@ -9,7 +9,10 @@ loop-k-init c = ((omega arith, (omega (arith, c.requires.at_le_to), (refl, refl)
 
 pub pass_link-p-requires : goal.pass_link-p-requires
 pass_link-p-requires c =
-    let entry = c in record { searching = record { seeking = c.loop-k.invariant.1.seeking; zone = entry.requires.searching.zone; row = entry.requires.searching.row }; ends = record { row = entry.requires.ends.row; all = entry.requires.ends.all; within = omega (arith, entry.requires.ends.within, c.loop-k-test.true); ends = entry.requires.ends.ends } }
+    record {
+      searching = record { seeking = c.loop-k.invariant.1.seeking; zone = c.requires.searching.zone; row = c.requires.searching.row };
+      ends = record { row = c.requires.ends.row; all = c.requires.ends.all; within = omega (arith, c.requires.ends.within, c.loop-k-test.true); ends = c.requires.ends.ends };
+    }
 
 pub shape_of-words-then-p : goal.shape_of-words-then-p
 shape_of-words-then-p c = c.pass_link-p.auto.words ∙ c.loop-k.invariant.0.1.1.0

@@ -6,29 +6,31 @@ use Rattle.plan_search.proofs.seek_row.Goals as goal
 
 pub loop-k-init : goal.loop-k-init
 loop-k-init c =
-    let entry = c in
-    ((omega arith, (entry.requires.rise, (refl, refl))), row-start entry.requires.searching.seeking entry.requires.unsettled)
+    ((omega arith, (c.requires.rise, (refl, refl))), row-start c.requires.searching.seeking c.requires.unsettled)
 
 pub pass_links-pass-requires : goal.pass_links-pass-requires
 pass_links-pass-requires c =
-    let entry = c in record { searching = record { seeking = c.loop-k.invariant.1.on.seeking; zone = entry.requires.searching.zone; row = entry.requires.searching.row }; ends = entry.requires.ends; at_le_to = c.loop-k.invariant.0.1.0 }
+    record {
+      searching = record { seeking = c.loop-k.invariant.1.on.seeking; zone = c.requires.searching.zone; row = c.requires.searching.row };
+      ends = c.requires.ends;
+      at_le_to = c.loop-k.invariant.0.1.0;
+    }
 
 pub seek_link-step-requires : goal.seek_link-step-requires
 seek_link-step-requires c =
-    let entry = c in
     let loop = c.loop-k in
     let pass-links = c.pass_links-pass in
-    let t = row-passes loop.invariant.1 entry.requires.searching.row loop.invariant.0.0 pass-links.ensures.at_le_at pass-links.ensures.at_le_to_2 pass-links.ensures.fact in record { searching = record { seeking = t.on.seeking; zone = entry.requires.searching.zone; row = entry.requires.searching.row }; unsettled = t.unsettled; ends = record {
-          row = entry.requires.ends.row;
-          all = entry.requires.ends.all;
-          within = omega (arith, entry.requires.ends.within, c.if-k-to.true);
-          ends = entry.requires.ends.ends;
+    let t = row-passes loop.invariant.1 c.requires.searching.row loop.invariant.0.0 pass-links.ensures.at_le_at pass-links.ensures.at_le_to_2 pass-links.ensures.fact in
+    record { searching = record { seeking = t.on.seeking; zone = c.requires.searching.zone; row = c.requires.searching.row }; unsettled = t.unsettled; ends = record {
+          row = c.requires.ends.row;
+          all = c.requires.ends.all;
+          within = omega (arith, c.requires.ends.within, c.if-k-to.true);
+          ends = c.requires.ends.ends;
         } }
 
 pub overflow_add-k : goal.overflow_add-k
 overflow_add-k c =
-    let entry = c in
-    omega (arith, c.if-k-to.true, entry.requires.ends.within, entry.requires.searching.seeking.fit.links)
+    omega (arith, c.if-k-to.true, c.requires.ends.within, c.requires.searching.seeking.fit.links)
 
 pub shape_of-words-then-step : goal.shape_of-words-then-step
 shape_of-words-then-step c =
@@ -42,13 +44,12 @@ shape_of-floats-then-step c =
 
 pub returns-then-step : goal.returns-then-step
 returns-then-step c =
-    let entry = c in
     let loop = c.loop-k in
     let pass-links = c.pass_links-pass in
     let seek-link = c.seek_link-step in
-    let t = row-passes loop.invariant.1 entry.requires.searching.row loop.invariant.0.0 pass-links.ensures.at_le_at pass-links.ensures.at_le_to_2 pass-links.ensures.fact in
+    let t = row-passes loop.invariant.1 c.requires.searching.row loop.invariant.0.0 pass-links.ensures.at_le_at pass-links.ensures.at_le_to_2 pass-links.ensures.fact in
     row_settled _ _ t (omega (arith, loop.invariant.0.0, pass-links.ensures.at_le_at)) c.if-k-to.true seek-link.ensures.fact
-    entry.requires.searching.row (sym seek-link.ensures.done_value ∙ c.if-step.true)
+    c.requires.searching.row (sym seek-link.ensures.done_value ∙ c.if-step.true)
 
 pub loop-k-smaller-else-step : goal.loop-k-smaller-else-step
 loop-k-smaller-else-step c = omega (arith, c.loop-k-test.true, c.pass_links-pass.ensures.at_le_at, c.if-k-to.true)

@@ -4,25 +4,22 @@ use Rattle.plan_search.proofs.seek_turf.Goals as goal
 
 pub overflow_cast-from : goal.overflow_cast-from
 overflow_cast-from c =
-    let entry = c in
-    omega (arith, entry.requires.linked.rise _ entry.requires.row, entry.requires.linked.within _ entry.requires.row, entry.requires.all, entry.requires.searching.seeking.fit.links)
+    omega (arith, c.requires.linked.rise _ c.requires.row, c.requires.linked.within _ c.requires.row, c.requires.all, c.requires.searching.seeking.fit.links)
 
 pub overflow_cast-to : goal.overflow_cast-to
 overflow_cast-to c =
-    let entry = c in
-    omega (arith, entry.requires.linked.within _ entry.requires.row, entry.requires.all, entry.requires.searching.seeking.fit.links)
+    omega (arith, c.requires.linked.within _ c.requires.row, c.requires.all, c.requires.searching.seeking.fit.links)
 
 pub seek_row-requires : goal.seek_row-requires
 seek_row-requires c =
-    let entry = c in
     record {
-      searching = entry.requires.searching;
-      unsettled = entry.requires.unsettled;
+      searching = c.requires.searching;
+      unsettled = c.requires.unsettled;
       ends = record {
-        row = entry.requires.row;
-        all = entry.requires.all;
-        within = omega (arith, entry.requires.linked.within _ entry.requires.row, entry.requires.all);
-        ends = λ k l. entry.requires.linked.rows k (omega (arith, l, entry.requires.all));
+        row = c.requires.row;
+        all = c.requires.all;
+        within = omega (arith, c.requires.linked.within _ c.requires.row, c.requires.all);
+        ends = λ k l. c.requires.linked.rows k (omega (arith, l, c.requires.all));
       };
-      rise = entry.requires.linked.rise _ entry.requires.row;
+      rise = c.requires.linked.rise _ c.requires.row;
     }

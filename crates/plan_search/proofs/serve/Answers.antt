@@ -8,86 +8,84 @@ use Rattle.plan_search.proofs.serve.Goals as goal
 
 pub load-i-requires : goal.load-i-requires
 load-i-requires c =
-    let entry = c in record { plan_fits = entry.requires.planning.fit; row_lt_n = entry.requires.g_lt_n }
+    record { plan_fits = c.requires.planning.fit; row_lt_n = c.requires.g_lt_n }
 
 pub store-requires : goal.store-requires
 store-requires c =
-    let entry = c in record { plan_fits = entry.requires.planning.fit; row_lt_n = entry.requires.g_lt_n }
+    record { plan_fits = c.requires.planning.fit; row_lt_n = c.requires.g_lt_n }
 
 pub queue_at-queue-requires : goal.queue_at-queue-requires
 queue_at-queue-requires c =
-    let entry = c in
-    record { turfs = entry.requires.planning.fit.turfs; links = entry.requires.planning.fit.links }
+    record { turfs = c.requires.planning.fit.turfs; links = c.requires.planning.fit.links }
 
 pub places_at-places-requires : goal.places_at-places-requires
 places_at-places-requires c =
-    let entry = c in
-    record { turfs = entry.requires.planning.fit.turfs; links = entry.requires.planning.fit.links }
+    record { turfs = c.requires.planning.fit.turfs; links = c.requires.planning.fit.links }
 
 pub overflow_cast-g : goal.overflow_cast-g
 overflow_cast-g c =
-    let entry = c in
-    omega (arith, entry.requires.g_lt_n, entry.requires.planning.fit.turfs)
+    omega (arith, c.requires.g_lt_n, c.requires.planning.fit.turfs)
 
 pub insert-requires : goal.insert-requires
 insert-requires c =
-    let entry = c in record { count_in_bounds = omega (arith, c.queue_at-queue.ensures, c.store.ensures.fit.words, entry.requires.g_lt_n); a_in_bounds = omega (arith, c.places_at-places.ensures, c.store.ensures.fit.words, entry.requires.g_lt_n); count_bound = omega arith }
+    record {
+      count_in_bounds = omega (arith, c.queue_at-queue.ensures, c.store.ensures.fit.words, c.requires.g_lt_n);
+      a_in_bounds = omega (arith, c.places_at-places.ensures, c.store.ensures.fit.words, c.requires.g_lt_n);
+      count_bound = omega arith;
+    }
 
 pub seek-sweep-requires : goal.seek-sweep-requires
 seek-sweep-requires c =
-    let entry = c in
     let store = c.store in
     let queue-at = c.queue_at-queue in
     let places-at = c.places_at-places in
     let insert = c.insert in
     record {
       searching = record {
-        seeking = begun _ _ _ _ _ _ store.ensures.fit entry.requires.g_lt_n _ _ queue-at.ensures places-at.ensures insert.ensures;
-        zone = entry.requires.planning.zone;
-        row = entry.requires.g_lt_n;
+        seeking = begun _ _ _ _ _ _ store.ensures.fit c.requires.g_lt_n _ _ queue-at.ensures places-at.ensures insert.ensures;
+        zone = c.requires.planning.zone;
+        row = c.requires.g_lt_n;
       };
-      sized = entry.requires.planning.sized;
-      met = begun-met _ _ _ _ _ _ store.ensures.fit entry.requires.g_lt_n _ _ queue-at.ensures places-at.ensures insert.ensures _ _ _ (points_nowhere _ _ _ _ _ _ entry.requires.planning.fit
-          entry.requires.g_lt_n store.ensures);
-      idle = begun-idle _ _ _ _ _ _ store.ensures.fit entry.requires.g_lt_n _ _ queue-at.ensures places-at.ensures insert.ensures _ (moves-nothing _ _ _ _ _ entry.requires.planning.fit
-          entry.requires.g_lt_n store.ensures);
+      sized = c.requires.planning.sized;
+      met = begun-met _ _ _ _ _ _ store.ensures.fit c.requires.g_lt_n _ _ queue-at.ensures places-at.ensures insert.ensures _ _ _ (points_nowhere _ _ _ _ _ _ c.requires.planning.fit
+          c.requires.g_lt_n store.ensures);
+      idle = begun-idle _ _ _ _ _ _ store.ensures.fit c.requires.g_lt_n _ _ queue-at.ensures places-at.ensures insert.ensures _ (moves-nothing _ _ _ _ _ c.requires.planning.fit
+          c.requires.g_lt_n store.ensures);
     }
 
 pub drain-requires : goal.drain-requires
 drain-requires c =
-    let entry = c in
     let store = c.store in
     let seek = c.seek-sweep in
-    let back = reverses-after _ _ _ _ _ _ store.ensures.fit entry.requires.g_lt_n _ _ c.queue_at-queue.ensures
+    let back = reverses-after _ _ _ _ _ _ store.ensures.fit c.requires.g_lt_n _ _ c.queue_at-queue.ensures
     c.places_at-places.ensures c.insert.ensures
-    entry.requires.planning.reverses store.ensures seek.ensures.fact in
+    c.requires.planning.reverses store.ensures seek.ensures.fact in
     record {
       fit = seek.ensures.fact.seeking.fit;
-      zone = entry.requires.planning.zone;
+      zone = c.requires.planning.zone;
       few = seek.ensures.fact.seeking.line.few;
-      within = rows-within _ _ _ _ (board_of entry.args.rows.now entry.args.marks.now
-          entry.args.gases) entry.requires.planning.sized.linked entry.requires.planning.sized.links seek.ensures.fact.seeking seek.ensures.fact_2 back;
+      within = rows-within _ _ _ _ (board_of c.args.rows.now c.args.marks.now
+          c.args.gases) c.requires.planning.sized.linked c.requires.planning.sized.links seek.ensures.fact.seeking seek.ensures.fact_2 back;
     }
 
 pub drain-requires-2 : goal.drain-requires-2
 drain-requires-2 c =
-    let entry = c in
     let store = c.store in
     let queue-at = c.queue_at-queue in
     let places-at = c.places_at-places in
     let insert = c.insert in
     let seek = c.seek-sweep in
-    let back = reverses-after _ _ _ _ _ _ store.ensures.fit entry.requires.g_lt_n _ _ queue-at.ensures places-at.ensures insert.ensures entry.requires.planning.reverses
+    let back = reverses-after _ _ _ _ _ _ store.ensures.fit c.requires.g_lt_n _ _ queue-at.ensures places-at.ensures insert.ensures c.requires.planning.reverses
     store.ensures seek.ensures.fact in
-    let near = searched_near _ _ _ _ _ _ store.ensures.fit entry.requires.g_lt_n _ _ queue-at.ensures places-at.ensures insert.ensures (board_of entry.args.rows.now
-    entry.args.marks.now entry.args.gases) _ _ _ _ (points_nowhere _ _ _ _ _ _ entry.requires.planning.fit entry.requires.g_lt_n store.ensures) seek.ensures.fact in
+    let near = searched_near _ _ _ _ _ _ store.ensures.fit c.requires.g_lt_n _ _ queue-at.ensures places-at.ensures insert.ensures (board_of c.args.rows.now
+    c.args.marks.now c.args.gases) _ _ _ _ (points_nowhere _ _ _ _ _ _ c.requires.planning.fit c.requires.g_lt_n store.ensures) seek.ensures.fact in
     let few = low-few _ _ 0 _ _ _ _ _ _ _ seek.ensures.fact.seeking c.least-first.ensures c.least.ensures
     near seek.ensures.idle in
     record {
       fit = c.drain.ensures.fit;
-      zone = entry.requires.planning.zone;
+      zone = c.requires.planning.zone;
       few = omega (arith, few, seek.ensures.fact.seeking.line.few);
-      within = rows-later _ _ _ _ _ _ (rows-within _ _ _ _ (board_of entry.args.rows.now entry.args.marks.now entry.args.gases) entry.requires.planning.sized.linked entry.requires.planning.sized.links
+      within = rows-later _ _ _ _ _ _ (rows-within _ _ _ _ (board_of c.args.rows.now c.args.marks.now c.args.gases) c.requires.planning.sized.linked c.requires.planning.sized.links
           seek.ensures.fact.seeking seek.ensures.fact_2 back) _ few;
     }
 
@@ -103,20 +101,19 @@ shape_of-floats c =
 
 pub returns : goal.returns
 returns c =
-    let entry = c in
     let store = c.store in
     let queue-at = c.queue_at-queue in
     let places-at = c.places_at-places in
     let insert = c.insert in
     let seek = c.seek-sweep in
-    let back = reverses-after _ _ _ _ _ _ store.ensures.fit entry.requires.g_lt_n _ _ queue-at.ensures places-at.ensures insert.ensures entry.requires.planning.reverses
+    let back = reverses-after _ _ _ _ _ _ store.ensures.fit c.requires.g_lt_n _ _ queue-at.ensures places-at.ensures insert.ensures c.requires.planning.reverses
     store.ensures seek.ensures.fact in
-    let near = searched_near _ _ _ _ _ _ store.ensures.fit entry.requires.g_lt_n _ _ queue-at.ensures places-at.ensures insert.ensures (board_of entry.args.rows.now
-    entry.args.marks.now entry.args.gases) _ _ _ _ (points_nowhere _ _ _ _ _ _ entry.requires.planning.fit entry.requires.g_lt_n store.ensures) seek.ensures.fact in
-    served _ _ _ _ _ _ store.ensures.fit entry.requires.g_lt_n _ _ queue-at.ensures places-at.ensures insert.ensures (board_of entry.args.rows.now entry.args.marks.now
-    entry.args.gases) entry.requires.planning.sized.turfs _ _ _ _ _ c.load-i.ensures
+    let near = searched_near _ _ _ _ _ _ store.ensures.fit c.requires.g_lt_n _ _ queue-at.ensures places-at.ensures insert.ensures (board_of c.args.rows.now
+    c.args.marks.now c.args.gases) _ _ _ _ (points_nowhere _ _ _ _ _ _ c.requires.planning.fit c.requires.g_lt_n store.ensures) seek.ensures.fact in
+    served _ _ _ _ _ _ store.ensures.fit c.requires.g_lt_n _ _ queue-at.ensures places-at.ensures insert.ensures (board_of c.args.rows.now c.args.marks.now
+    c.args.gases) c.requires.planning.sized.turfs _ _ _ _ _ c.load-i.ensures
     store.ensures seek.ensures.fact
-    (drained_by_edges _ _ _ _ (board_of entry.args.rows.now entry.args.marks.now entry.args.gases) entry.requires.planning.sized.linked entry.requires.planning.sized.links
+    (drained_by_edges _ _ _ _ (board_of c.args.rows.now c.args.marks.now c.args.gases) c.requires.planning.sized.linked c.requires.planning.sized.links
     seek.ensures.fact.seeking seek.ensures.fact_2 back
     (skipped _ _ _ _ _ _ _ _ _ _ seek.ensures.fact.seeking c.least-first.ensures
     c.least.ensures near seek.ensures.idle _ c.drain.ensures

@@ -29,8 +29,7 @@ overflow_cast-row c = omega (arith, now_below c.requires.nodes (onto_frame c.loo
 
 pub total-moles-requires : goal.total-moles-requires
 total-moles-requires c =
-    let entry = c in
-    (rw entry.requires.fact.mixtures_n (now_below entry.requires.nodes (onto_frame c.loop-i.invariant.1) c.loop-i.invariant.0.1.0 _ c.loop-i-test.true), entry.requires.fact.within _ (now_below entry.requires.nodes (onto_frame c.loop-i.invariant.1) c.loop-i.invariant.0.1.0 _ c.loop-i-test.true))
+    (rw c.requires.fact.mixtures_n (now_below c.requires.nodes (onto_frame c.loop-i.invariant.1) c.loop-i.invariant.0.1.0 _ c.loop-i-test.true), c.requires.fact.within _ (now_below c.requires.nodes (onto_frame c.loop-i.invariant.1) c.loop-i.invariant.0.1.0 _ c.loop-i-test.true))
 
 pub first_delta-requires : goal.first_delta-requires
 first_delta-requires c =
@@ -39,23 +38,21 @@ first_delta-requires c =
 
 pub overflow_add-i : goal.overflow_add-i
 overflow_add-i c =
-    let entry = c in
-    omega (arith, c.loop-i-test.true, entry.requires.nodes.few, entry.requires.plan_fits.turfs)
+    omega (arith, c.loop-i-test.true, c.requires.nodes.few, c.requires.plan_fits.turfs)
 
 pub loop-i-smaller : goal.loop-i-smaller
 loop-i-smaller c = omega (arith, c.loop-i-test.true)
 
 pub loop-i-preserved : goal.loop-i-preserved
 loop-i-preserved c =
-    let entry = c in
     let loop = c.loop-i in
     let loop-test = c.loop-i-test in
     let first-delta = c.first_delta in (
       (omega (arith, loop-test.true), (first-delta.auto.words ∙ loop.invariant.0.1.0, first-delta.auto.floats ∙ loop.invariant.0.1.1)),
-      onto_next _ _ loop.invariant.1 (delta-set _ _ _ (c.total-moles.ensures (board_of entry.args.rows.now entry.args.marks.now
-          entry.args.gases) refl refl) first-delta.ensures)
-          (λ o p. walk-next entry.requires.nodes (onto_frame loop.invariant.1) loop.invariant.0.1.0 _ loop-test.true (step (board_of entry.args.rows.now entry.args.marks.now
-          entry.args.gases) _ _) p),
+      onto_next _ _ loop.invariant.1 (delta-set _ _ _ (c.total-moles.ensures (board_of c.args.rows.now c.args.marks.now
+          c.args.gases) refl refl) first-delta.ensures)
+          (λ o p. walk-next c.requires.nodes (onto_frame loop.invariant.1) loop.invariant.0.1.0 _ loop-test.true (step (board_of c.args.rows.now c.args.marks.now
+          c.args.gases) _ _) p),
     )
 
 pub shape_of-words : goal.shape_of-words

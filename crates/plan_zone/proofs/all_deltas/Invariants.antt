@@ -1,5 +1,4 @@
 -- The loop's invariant: the nodes left, from here on, come to all nodes from the start. Assumes nothing.
--- the state of one turf at first
 use Prim.Native.Nat.{ℕ, ◌≤◌, ◌-◌}
 use mathlib.Core.Path.{◌≡◌}
 use mathlib.Core.List.{List}
@@ -15,6 +14,7 @@ use Rattle.plan_state.specs.Held.{area, plan_view, nodes_of}
 use Rattle.plan_state.proofs.Nodes.{Onto}
 use Rattle.plan_zone.proofs.all_deltas.Given as goal
 
+-- the state of one turf at first
 abbrev pub step : Board → List Float → Float → ℕ → Plan → Plan
 step b gas average r t = store t r (record { delta = total b gas r -f average; amount = 0f; direction = 0; fast = 0 })
 

@@ -23,12 +23,11 @@ bounds-words-first c = omega (arith, c.requires.nodes.room, c.loop-i.invariant.0
 
 pub count_one-c-requires : goal.count_one-c-requires
 count_one-c-requires c =
-    let entry = c in
     record {
-      room = omega (arith, entry.requires.plan_fits.floats, node-below entry.requires.nodes _ c.loop-i-test.true);
-      count = omega (arith, c.loop-i.invariant.0, c.loop-i-test.true, entry.requires.nodes.few, entry.requires.plan_fits.turfs);
-      row = node-below entry.requires.nodes _ c.loop-i-test.true;
-      sizes = record { turfs = entry.requires.plan_fits.turfs; links = entry.requires.plan_fits.links };
+      room = omega (arith, c.requires.plan_fits.floats, node-below c.requires.nodes _ c.loop-i-test.true);
+      count = omega (arith, c.loop-i.invariant.0, c.loop-i-test.true, c.requires.nodes.few, c.requires.plan_fits.turfs);
+      row = node-below c.requires.nodes _ c.loop-i-test.true;
+      sizes = record { turfs = c.requires.plan_fits.turfs; links = c.requires.plan_fits.links };
     }
 
 pub overflow_add-i : goal.overflow_add-i
@@ -39,17 +38,17 @@ loop-i-smaller c = omega (arith, c.loop-i-test.true)
 
 pub loop-i-preserved : goal.loop-i-preserved
 loop-i-preserved c =
-    let entry = c in (
+    (
       (
         omega (arith, c.loop-i-test.true),
         omega (
           arith,
           c.loop-i.invariant.0,
           c.count_one-c.ensures,
-          cond-le (picks Giving (get_or entry.args.floats.now (entry.args.zone.e + get_or entry.args.words.now (entry.args.zone.first + c.loop-i.i) 0 + get_or entry.args.words.now (entry.args.zone.first + c.loop-i.i) 0) nan)) c.loop-i.c,
+          cond-le (picks Giving (get_or c.args.floats.now (c.args.zone.e + get_or c.args.words.now (c.args.zone.first + c.loop-i.i) 0 + get_or c.args.words.now (c.args.zone.first + c.loop-i.i) 0) nan)) c.loop-i.c,
         ),
       ),
-      sym (count_next entry.requires.nodes _ _ c.loop-i-test.true _ c.count_one-c.ensures) ∙ c.loop-i.invariant.1,
+      sym (count_next c.requires.nodes _ _ c.loop-i-test.true _ c.count_one-c.ensures) ∙ c.loop-i.invariant.1,
     )
 
 pub returns : goal.returns

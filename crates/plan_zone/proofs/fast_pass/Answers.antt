@@ -9,17 +9,14 @@ overflow_sub-takers c = givers_le _ c.requires.nodes c.count_givers-givers.ensur
 
 pub returns-then-most-takers : goal.returns-then-most-takers
 returns-then-most-takers c =
-    let entry = c in
-    pass_on (board_of entry.args.rows.now entry.args.marks.now entry.args.gases) _ _ _ entry.requires.nodes c.count_givers-givers.ensures
+    pass_on (board_of c.args.rows.now c.args.marks.now c.args.gases) _ _ _ c.requires.nodes c.count_givers-givers.ensures
     c.log2-most.ensures c.if-most-givers.true
     c.if-most-takers.true c.fast_all.ensures
 
 pub returns-else-most-takers : goal.returns-else-most-takers
 returns-else-most-takers c =
-    let entry = c in
-    pass-takers (board_of entry.args.rows.now entry.args.marks.now entry.args.gases) _ _ _ entry.requires.nodes c.count_givers-givers.ensures c.log2-most.ensures entry.requires.planning.fit c.if-most-givers.true c.if-most-takers.false
+    pass-takers (board_of c.args.rows.now c.args.marks.now c.args.gases) _ _ _ c.requires.nodes c.count_givers-givers.ensures c.log2-most.ensures c.requires.planning.fit c.if-most-givers.true c.if-most-takers.false
 
 pub returns-else-most-givers : goal.returns-else-most-givers
 returns-else-most-givers c =
-    let entry = c in
-    pass-few (board_of entry.args.rows.now entry.args.marks.now entry.args.gases) _ _ _ entry.requires.nodes c.count_givers-givers.ensures c.log2-most.ensures entry.requires.planning.fit c.if-most-givers.false
+    pass-few (board_of c.args.rows.now c.args.marks.now c.args.gases) _ _ _ c.requires.nodes c.count_givers-givers.ensures c.log2-most.ensures c.requires.planning.fit c.if-most-givers.false

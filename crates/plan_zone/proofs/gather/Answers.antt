@@ -7,8 +7,7 @@ use Rattle.plan_zone.proofs.gather.Goals as goal
 
 pub list_at-list-requires : goal.list_at-list-requires
 list_at-list-requires c =
-    let entry = c in
-    record { turfs = entry.requires.plan_fits.turfs; links = entry.requires.plan_fits.links }
+    record { turfs = c.requires.plan_fits.turfs; links = c.requires.plan_fits.links }
 
 pub loop-i-init : goal.loop-i-init
 loop-i-init c = ((omega arith, refl), picking_start _ _ c.requires.plan_fits)
@@ -24,15 +23,14 @@ bounds-words-first c = omega (arith, c.requires.nodes.room, c.loop-i.invariant.0
 
 pub choose-c-requires : goal.choose-c-requires
 choose-c-requires c =
-    let entry = c in
-    let below = pick-below entry.requires.nodes entry.args.side c.loop-i.invariant.1 c.loop-i.invariant.0.1 c.loop-i-test.true in
+    let below = pick-below c.requires.nodes c.args.side c.loop-i.invariant.1 c.loop-i.invariant.0.1 c.loop-i-test.true in
     record {
-      listed = omega (arith, c.loop-i.invariant.1.fit.words, c.list_at-list.ensures, c.loop-i.invariant.1.few, c.loop-i-test.true, entry.requires.nodes.few);
+      listed = omega (arith, c.loop-i.invariant.1.fit.words, c.list_at-list.ensures, c.loop-i.invariant.1.few, c.loop-i-test.true, c.requires.nodes.few);
       counted = record {
-        room = omega (arith, entry.requires.plan_fits.floats, below);
-        count = omega (arith, c.loop-i.invariant.1.few, c.loop-i-test.true, entry.requires.nodes.few, entry.requires.plan_fits.turfs);
+        room = omega (arith, c.requires.plan_fits.floats, below);
+        count = omega (arith, c.loop-i.invariant.1.few, c.loop-i-test.true, c.requires.nodes.few, c.requires.plan_fits.turfs);
         row = below;
-        sizes = record { turfs = entry.requires.plan_fits.turfs; links = entry.requires.plan_fits.links };
+        sizes = record { turfs = c.requires.plan_fits.turfs; links = c.requires.plan_fits.links };
       };
     }
 
@@ -44,14 +42,13 @@ loop-i-smaller c = omega (arith, c.loop-i-test.true)
 
 pub loop-i-preserved : goal.loop-i-preserved
 loop-i-preserved c =
-    let entry = c in
     let loop = c.loop-i in
     let loop-test = c.loop-i-test in
     let choose = c.choose-c in (
       (omega (arith, loop-test.true), choose.auto.words ∙ loop.invariant.0.1),
-      picking_next _ _ loop.invariant.1 (rw (nodes-length entry.requires.nodes) loop-test.true) _ c.list_at-list.ensures
-          (omega (arith, loop.invariant.1.few, loop-test.true, entry.requires.nodes.few)) _
-          (pick-test entry.requires.nodes entry.args.side loop.invariant.1 loop.invariant.0.1 loop-test.true) _ (pick-row entry.requires.nodes entry.args.side loop.invariant.1
+      picking_next _ _ loop.invariant.1 (rw (nodes-length c.requires.nodes) loop-test.true) _ c.list_at-list.ensures
+          (omega (arith, loop.invariant.1.few, loop-test.true, c.requires.nodes.few)) _
+          (pick-test c.requires.nodes c.args.side loop.invariant.1 loop.invariant.0.1 loop-test.true) _ (pick-row c.requires.nodes c.args.side loop.invariant.1
           loop.invariant.0.1 loop-test.true) _ choose.ensures.value _ choose.ensures.words_after,
     )
 
@@ -60,5 +57,4 @@ shape_of-words c = c.loop-i.invariant.0.1
 
 pub returns : goal.returns
 returns c =
-    let entry = c in
-    picking_end entry.args.side _ _ c.loop-i.invariant.1 (omega (arith, c.loop-i.invariant.0, entry.requires.nodes.few)) (rw (nodes-length entry.requires.nodes) c.loop-i-test.false)
+    picking_end c.args.side _ _ c.loop-i.invariant.1 (omega (arith, c.loop-i.invariant.0, c.requires.nodes.few)) (rw (nodes-length c.requires.nodes) c.loop-i-test.false)

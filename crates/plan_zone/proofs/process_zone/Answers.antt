@@ -8,27 +8,25 @@ use Rattle.plan_zone.proofs.process_zone.Goals as goal
 pub fast_pass-requires : goal.fast_pass-requires
 fast_pass-requires c =
     let deltas = c.all_deltas in
-    let entry = c in record { planning = record {
-        sized = entry.requires.planning.sized;
+    record { planning = record {
+        sized = c.requires.planning.sized;
         fit = deltas.ensures.fit;
-        zone = entry.requires.planning.zone;
-        reverses = reverses-kept entry.requires.planning.reverses (does-frame deltas.ensures);
-      }; nodes = nodes-kept entry.requires.nodes (does-frame deltas.ensures) deltas.auto.words }
+        zone = c.requires.planning.zone;
+        reverses = reverses-kept c.requires.planning.reverses (does-frame deltas.ensures);
+      }; nodes = nodes-kept c.requires.nodes (does-frame deltas.ensures) deltas.auto.words }
 
 pub share_out-requires : goal.share_out-requires
 share_out-requires c =
-    let entry = c in
     let all-deltas = c.all_deltas in
     let fast-pass = c.fast_pass in record { planning = record {
-        sized = entry.requires.planning.sized;
+        sized = c.requires.planning.sized;
         fit = fast-pass.ensures.fit;
-        zone = entry.requires.planning.zone;
-        reverses = reverses-kept (reverses-kept entry.requires.planning.reverses (does-frame all-deltas.ensures)) (does-frame fast-pass.ensures);
-      }; nodes = nodes-kept (nodes-kept entry.requires.nodes (does-frame all-deltas.ensures) all-deltas.auto.words) (does-frame fast-pass.ensures) fast-pass.auto.words }
+        zone = c.requires.planning.zone;
+        reverses = reverses-kept (reverses-kept c.requires.planning.reverses (does-frame all-deltas.ensures)) (does-frame fast-pass.ensures);
+      }; nodes = nodes-kept (nodes-kept c.requires.nodes (does-frame all-deltas.ensures) all-deltas.auto.words) (does-frame fast-pass.ensures) fast-pass.auto.words }
 
 pub returns : goal.returns
 returns c =
-    let entry = c in
-    processed (board_of entry.args.rows.now entry.args.marks.now entry.args.gases) _ _ entry.args.zone.first entry.args.zone.count _ _ _ entry.requires.nodes
+    processed (board_of c.args.rows.now c.args.marks.now c.args.gases) _ _ c.args.zone.first c.args.zone.count _ _ _ c.requires.nodes
     c.all_deltas.ensures
     c.fast_pass.ensures c.share_out.ensures

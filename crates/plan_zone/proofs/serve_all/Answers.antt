@@ -8,8 +8,7 @@ use Rattle.plan_zone.proofs.serve_all.Goals as goal
 
 pub list_at-list-requires : goal.list_at-list-requires
 list_at-list-requires c =
-    let entry = c in
-    record { turfs = entry.requires.planning.fit.turfs; links = entry.requires.planning.fit.links }
+    record { turfs = c.requires.planning.fit.turfs; links = c.requires.planning.fit.links }
 
 pub loop-i-init : goal.loop-i-init
 loop-i-init c = ((omega arith, (refl, refl)), along-start _ c.requires.planning.fit)
@@ -25,17 +24,16 @@ bounds-words-list c = omega (arith, c.requires.listed_le_n, c.loop-i.invariant.1
 
 pub overflow_cast-g : goal.overflow_cast-g
 overflow_cast-g c =
-    let entry = c in
-    omega (arith, list-below entry.requires.listed_le_n entry.requires.below c.loop-i.invariant.1 _ c.list_at-list.ensures _ c.loop-i-test.true, entry.requires.planning.fit.turfs)
+    omega (arith, list-below c.requires.listed_le_n c.requires.below c.loop-i.invariant.1 _ c.list_at-list.ensures _ c.loop-i-test.true, c.requires.planning.fit.turfs)
 
 pub serve-requires : goal.serve-requires
 serve-requires c =
-    let entry = c in record { planning = record {
-        sized = entry.requires.planning.sized;
+    record { planning = record {
+        sized = c.requires.planning.sized;
         fit = c.loop-i.invariant.1.fit;
-        zone = entry.requires.planning.zone;
-        reverses = reverses-kept entry.requires.planning.reverses c.loop-i.invariant.1.frame;
-      }; g_lt_n = list-below entry.requires.listed_le_n entry.requires.below c.loop-i.invariant.1 _ c.list_at-list.ensures _ c.loop-i-test.true }
+        zone = c.requires.planning.zone;
+        reverses = reverses-kept c.requires.planning.reverses c.loop-i.invariant.1.frame;
+      }; g_lt_n = list-below c.requires.listed_le_n c.requires.below c.loop-i.invariant.1 _ c.list_at-list.ensures _ c.loop-i-test.true }
 
 pub overflow_add-i : goal.overflow_add-i
 overflow_add-i c = omega (arith, c.loop-i-test.true, c.requires.listed_le_n, c.requires.planning.fit.turfs)
@@ -45,12 +43,11 @@ loop-i-smaller c = omega (arith, c.loop-i-test.true)
 
 pub loop-i-preserved : goal.loop-i-preserved
 loop-i-preserved c =
-    let entry = c in
     let loop = c.loop-i in
     let loop-test = c.loop-i-test in
     let serve' = c.serve in (
       (omega (arith, loop-test.true), (serve'.auto.words ∙ loop.invariant.0.1.0, serve'.auto.floats ∙ loop.invariant.0.1.1)),
-      along-next _ _ loop.invariant.1 serve'.ensures (λ o p. list-next entry.requires.listed_le_n entry.requires.below loop.invariant.1 _ c.list_at-list.ensures
+      along-next _ _ loop.invariant.1 serve'.ensures (λ o p. list-next c.requires.listed_le_n c.requires.below loop.invariant.1 _ c.list_at-list.ensures
           _ loop-test.true _ p),
     )
 

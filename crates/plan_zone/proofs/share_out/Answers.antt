@@ -11,16 +11,15 @@ overflow_sub-count c = givers_le _ c.requires.nodes c.count_givers-givers.ensure
 pub serve_all-requires : goal.serve_all-requires
 serve_all-requires c =
     let gather = c.gather-listed in
-    let entry = c in record { planning = record {
-        sized = entry.requires.planning.sized;
+    record { planning = record {
+        sized = c.requires.planning.sized;
         fit = gather.ensures.fit;
-        zone = entry.requires.planning.zone;
-        reverses = reverses-kept entry.requires.planning.reverses gather.ensures.frame;
-      }; listed_le_n = gather.ensures.few; below = chosen-below _ _ entry.requires.nodes gather.ensures }
+        zone = c.requires.planning.zone;
+        reverses = reverses-kept c.requires.planning.reverses gather.ensures.frame;
+      }; listed_le_n = gather.ensures.few; below = chosen-below _ _ c.requires.nodes gather.ensures }
 
 pub returns : goal.returns
 returns c =
-    let entry = c in
-    shared-out (board_of entry.args.rows.now entry.args.marks.now entry.args.gases) _ _ _ _ entry.requires.nodes c.count_givers-givers.ensures
+    shared-out (board_of c.args.rows.now c.args.marks.now c.args.gases) _ _ _ _ c.requires.nodes c.count_givers-givers.ensures
     c.side_of-side.ensures c.gather-listed.ensures
     c.serve_all.ensures

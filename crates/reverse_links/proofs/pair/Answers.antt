@@ -10,20 +10,25 @@ use Rattle.reverse_links.proofs.pair.Goals as goal
 
 pub reverse_at-here-requires : goal.reverse_at-here-requires
 reverse_at-here-requires c =
-    let entry = c in record { k_bound = omega (arith, link-below entry.requires.pairing.linked _ _ entry.requires.of_row.row entry.requires.of_row.link, entry.requires.pairing); e_bound = entry.requires.pairing.links }
+    record {
+      k_bound = omega (arith, link-below c.requires.pairing.linked _ _ c.requires.of_row.row c.requires.of_row.link, c.requires.pairing);
+      e_bound = c.requires.pairing.links;
+    }
 
 pub offset_bounds-words-here : goal.offset_bounds-words-here
 offset_bounds-words-here c =
-    let entry = c in
-    omega (arith, c.reverse_at-here.ensures, link-below entry.requires.pairing.linked _ _ entry.requires.of_row.row entry.requires.of_row.link, entry.requires.pairing)
+    omega (arith, c.reverse_at-here.ensures, link-below c.requires.pairing.linked _ _ c.requires.of_row.row c.requires.of_row.link, c.requires.pairing)
 
 pub bounds-words-here : goal.bounds-words-here
 bounds-words-here c =
-    let entry = c in
-    omega (arith, c.reverse_at-here.ensures, link-below entry.requires.pairing.linked _ _ entry.requires.of_row.row entry.requires.of_row.link, entry.requires.pairing)
+    omega (arith, c.reverse_at-here.ensures, link-below c.requires.pairing.linked _ _ c.requires.of_row.row c.requires.of_row.link, c.requires.pairing)
 
 pub returns-then-words-here-ne0 : goal.returns-then-words-here-ne0
-returns-then-words-here-ne0 c = let entry = c in record { but = but_none; paired_2 = paired_same entry.requires.pairing.linked _ _ _ _ entry.requires.of_row.row entry.requires.of_row.link (λ s. entry.requires.paired.right _ _ entry.requires.of_row.row entry.requires.of_row.link (subst (λ (i : ℕ). get_or entry.args.words.now i 0 ≢ 0) c.reverse_at-here.ensures c.if-words-here-ne0.true)) entry.requires.paired }
+returns-then-words-here-ne0 c =
+    record {
+      but = but_none;
+      paired_2 = paired_same c.requires.pairing.linked _ _ _ _ c.requires.of_row.row c.requires.of_row.link (λ s. c.requires.paired.right _ _ c.requires.of_row.row c.requires.of_row.link (subst (λ (i : ℕ). get_or c.args.words.now i 0 ≢ 0) c.reverse_at-here.ensures c.if-words-here-ne0.true)) c.requires.paired;
+    }
 
 pub offset_bounds-neighbours-k : goal.offset_bounds-neighbours-k
 offset_bounds-neighbours-k c =
@@ -57,14 +62,13 @@ bounds-starts-a c =
 
 pub overflow_cast-from : goal.overflow_cast-from
 overflow_cast-from c =
-    let entry = c in
     omega (
       arith,
-      entry.requires.pairing.linked.rise (get_or entry.args.neighbours.now entry.args.k 0) (end_below entry.requires.pairing.linked _ _ entry.requires.of_row.row
-          entry.requires.of_row.link),
-      entry.requires.pairing.linked.within (get_or entry.args.neighbours.now entry.args.k 0) (end_below entry.requires.pairing.linked _ _ entry.requires.of_row.row
-          entry.requires.of_row.link),
-      entry.requires.pairing,
+      c.requires.pairing.linked.rise (get_or c.args.neighbours.now c.args.k 0) (end_below c.requires.pairing.linked _ _ c.requires.of_row.row
+          c.requires.of_row.link),
+      c.requires.pairing.linked.within (get_or c.args.neighbours.now c.args.k 0) (end_below c.requires.pairing.linked _ _ c.requires.of_row.row
+          c.requires.of_row.link),
+      c.requires.pairing,
     )
 
 pub overflow_add-to : goal.overflow_add-to
@@ -89,84 +93,86 @@ bounds-starts-a-2 c =
 
 pub overflow_cast-to : goal.overflow_cast-to
 overflow_cast-to c =
-    let entry = c in
     omega (
       arith,
-      entry.requires.pairing.linked.within (get_or entry.args.neighbours.now entry.args.k 0) (end_below entry.requires.pairing.linked _ _ entry.requires.of_row.row
-          entry.requires.of_row.link),
-      entry.requires.pairing,
+      c.requires.pairing.linked.within (get_or c.args.neighbours.now c.args.k 0) (end_below c.requires.pairing.linked _ _ c.requires.of_row.row
+          c.requires.of_row.link),
+      c.requires.pairing,
     )
 
 pub overflow_sub-to : goal.overflow_sub-to
 overflow_sub-to c =
-    let entry = c in
-    entry.requires.pairing.linked.rise (get_or entry.args.neighbours.now entry.args.k 0) (end_below entry.requires.pairing.linked _ _ entry.requires.of_row.row entry.requires.of_row.link)
+    c.requires.pairing.linked.rise (get_or c.args.neighbours.now c.args.k 0) (end_below c.requires.pairing.linked _ _ c.requires.of_row.row c.requires.of_row.link)
 
 pub returns-then-to-from : goal.returns-then-to-from
 returns-then-to-from c =
-    let entry = c in record { but = but_none; paired_2 = paired_same entry.requires.pairing.linked _ _ _ _ entry.requires.of_row.row entry.requires.of_row.link (λ s. absurd (omega (arith, s, c.if-to-from.true, entry.requires.of_row.links)))
-          entry.requires.paired }
+    record { but = but_none; paired_2 = paired_same c.requires.pairing.linked _ _ _ _ c.requires.of_row.row c.requires.of_row.link (λ s. absurd (omega (arith, s, c.if-to-from.true, c.requires.of_row.links)))
+          c.requires.paired }
 
 pub look_back-p-requires : goal.look_back-p-requires
 look_back-p-requires c =
-    let entry = c in record { to_in_bounds = entry.requires.pairing.linked.within (get_or entry.args.neighbours.now entry.args.k 0) (end_below entry.requires.pairing.linked _ _ entry.requires.of_row.row entry.requires.of_row.link); to_bound = omega (
+    record { to_in_bounds = c.requires.pairing.linked.within (get_or c.args.neighbours.now c.args.k 0) (end_below c.requires.pairing.linked _ _ c.requires.of_row.row c.requires.of_row.link); to_bound = omega (
         arith,
-        entry.requires.pairing.linked.within (get_or entry.args.neighbours.now entry.args.k 0) (end_below entry.requires.pairing.linked _ _ entry.requires.of_row.row
-            entry.requires.of_row.link),
-        entry.requires.pairing,
+        c.requires.pairing.linked.within (get_or c.args.neighbours.now c.args.k 0) (end_below c.requires.pairing.linked _ _ c.requires.of_row.row
+            c.requires.of_row.link),
+        c.requires.pairing,
       ) }
 
 pub returns-then-p-eq0 : goal.returns-then-p-eq0
-returns-then-p-eq0 c = let entry = c in record { but = but_none; paired_2 = paired_same entry.requires.pairing.linked _ _ _ _ entry.requires.of_row.row entry.requires.of_row.link (λ s. ap (λ (i : ℕ). get_or entry.args.words.now i 0) (sym c.reverse_at-here.ensures) ∙ c.if-words-here-ne0.false ∙ sym c.if-p-eq0.true ∙ c.look_back-p.ensures) entry.requires.paired }
+returns-then-p-eq0 c =
+    record {
+      but = but_none;
+      paired_2 = paired_same c.requires.pairing.linked _ _ _ _ c.requires.of_row.row c.requires.of_row.link (λ s. ap (λ (i : ℕ). get_or c.args.words.now i 0) (sym c.reverse_at-here.ensures) ∙ c.if-words-here-ne0.false ∙ sym c.if-p-eq0.true ∙ c.look_back-p.ensures) c.requires.paired;
+    }
 
 pub overflow_cast-p : goal.overflow_cast-p
 overflow_cast-p c =
-    let entry = c in
-    omega (arith, back_low entry.requires.pairing.linked _ _ c.look_back-p.result entry.requires.of_row.row entry.requires.of_row.link c.look_back-p.ensures, entry.requires.pairing)
+    omega (arith, back_low c.requires.pairing.linked _ _ c.look_back-p.result c.requires.of_row.row c.requires.of_row.link c.look_back-p.ensures, c.requires.pairing)
 
 pub overflow_sub-p : goal.overflow_sub-p
 overflow_sub-p c = omega (arith, c.if-p-eq0.false)
 
 pub reverse_at-there-requires : goal.reverse_at-there-requires
 reverse_at-there-requires c =
-    let entry = c in record { k_bound = omega (arith, back_low entry.requires.pairing.linked _ _ c.look_back-p.result entry.requires.of_row.row entry.requires.of_row.link c.look_back-p.ensures, entry.requires.pairing); e_bound = entry.requires.pairing.links }
+    record {
+      k_bound = omega (arith, back_low c.requires.pairing.linked _ _ c.look_back-p.result c.requires.of_row.row c.requires.of_row.link c.look_back-p.ensures, c.requires.pairing);
+      e_bound = c.requires.pairing.links;
+    }
 
 pub offset_bounds-words-here-2 : goal.offset_bounds-words-here-2
 offset_bounds-words-here-2 c =
-    let entry = c in
-    omega (arith, c.reverse_at-here.ensures, link-below entry.requires.pairing.linked _ _ entry.requires.of_row.row entry.requires.of_row.link, entry.requires.pairing)
+    omega (arith, c.reverse_at-here.ensures, link-below c.requires.pairing.linked _ _ c.requires.of_row.row c.requires.of_row.link, c.requires.pairing)
 
 pub bounds-words-here-2 : goal.bounds-words-here-2
 bounds-words-here-2 c =
-    let entry = c in
-    omega (arith, c.reverse_at-here.ensures, link-below entry.requires.pairing.linked _ _ entry.requires.of_row.row entry.requires.of_row.link, entry.requires.pairing)
+    omega (arith, c.reverse_at-here.ensures, link-below c.requires.pairing.linked _ _ c.requires.of_row.row c.requires.of_row.link, c.requires.pairing)
 
 pub overflow_cast-words : goal.overflow_cast-words
 overflow_cast-words c =
-    let entry = c in
-    omega (arith, link-below entry.requires.pairing.linked _ _ entry.requires.of_row.row entry.requires.of_row.link, entry.requires.pairing)
+    omega (arith, link-below c.requires.pairing.linked _ _ c.requires.of_row.row c.requires.of_row.link, c.requires.pairing)
 
 pub overflow_add-words : goal.overflow_add-words
 overflow_add-words c =
-    let entry = c in
-    omega (arith, link-below entry.requires.pairing.linked _ _ entry.requires.of_row.row entry.requires.of_row.link, entry.requires.pairing)
+    omega (arith, link-below c.requires.pairing.linked _ _ c.requires.of_row.row c.requires.of_row.link, c.requires.pairing)
 
 pub offset_bounds-words-there : goal.offset_bounds-words-there
 offset_bounds-words-there c =
-    let entry = c in
-    omega (arith, c.reverse_at-there.ensures, back_low entry.requires.pairing.linked _ _ c.look_back-p.result entry.requires.of_row.row entry.requires.of_row.link c.look_back-p.ensures, entry.requires.pairing)
+    omega (arith, c.reverse_at-there.ensures, back_low c.requires.pairing.linked _ _ c.look_back-p.result c.requires.of_row.row c.requires.of_row.link c.look_back-p.ensures, c.requires.pairing)
 
 pub bounds-words-there : goal.bounds-words-there
 bounds-words-there c =
-    let entry = c in
     omega (
       arith,
       c.reverse_at-there.ensures,
-      back_low entry.requires.pairing.linked _ _ c.look_back-p.result entry.requires.of_row.row entry.requires.of_row.link c.look_back-p.ensures,
+      back_low c.requires.pairing.linked _ _ c.look_back-p.result c.requires.of_row.row c.requires.of_row.link c.look_back-p.ensures,
       c.if-p-eq0.false,
-      entry.requires.pairing,
-      length-set entry.args.words.now c.reverse_at-here.result c.look_back-p.result,
+      c.requires.pairing,
+      length-set c.args.words.now c.reverse_at-here.result c.look_back-p.result,
     )
 
 pub returns : goal.returns
-returns c = let entry = c in record { but = rw (c.reverse_at-here.ensures, c.reverse_at-there.ensures) (paired_word entry.requires.pairing.linked _ _ _ c.look_back-p.result _ entry.requires.pairing.all entry.requires.pairing.room entry.requires.of_row.row entry.requires.of_row.link c.if-p-eq0.false c.look_back-p.ensures entry.requires.paired).0; paired_2 = rw (c.reverse_at-here.ensures, c.reverse_at-there.ensures) (paired_word entry.requires.pairing.linked _ _ _ c.look_back-p.result _ entry.requires.pairing.all entry.requires.pairing.room entry.requires.of_row.row entry.requires.of_row.link c.if-p-eq0.false c.look_back-p.ensures entry.requires.paired).1 }
+returns c =
+    record {
+      but = rw (c.reverse_at-here.ensures, c.reverse_at-there.ensures) (paired_word c.requires.pairing.linked _ _ _ c.look_back-p.result _ c.requires.pairing.all c.requires.pairing.room c.requires.of_row.row c.requires.of_row.link c.if-p-eq0.false c.look_back-p.ensures c.requires.paired).0;
+      paired_2 = rw (c.reverse_at-here.ensures, c.reverse_at-there.ensures) (paired_word c.requires.pairing.linked _ _ _ c.look_back-p.result _ c.requires.pairing.all c.requires.pairing.room c.requires.of_row.row c.requires.of_row.link c.if-p-eq0.false c.look_back-p.ensures c.requires.paired).1;
+    }

@@ -41,7 +41,11 @@ overflow_sub-to c = c.requires.pairing.linked.rise _ c.requires.r_lt_n
 
 pub pair-requires : goal.pair-requires
 pair-requires c =
-    let entry = c in record { pairing = record { linked = entry.requires.pairing.linked; all = entry.requires.pairing.all; links = entry.requires.pairing.links; turfs = entry.requires.pairing.turfs; room = omega (arith, entry.requires.pairing, c.loop-k.invariant.1.0.len) }; of_row = record { row = entry.requires.r_lt_n; link = record { from = c.loop-k.invariant.0.0; to = c.loop-k-test.true }; links = refl }; paired = c.loop-k.invariant.1.1 }
+    record {
+      pairing = record { linked = c.requires.pairing.linked; all = c.requires.pairing.all; links = c.requires.pairing.links; turfs = c.requires.pairing.turfs; room = omega (arith, c.requires.pairing, c.loop-k.invariant.1.0.len) };
+      of_row = record { row = c.requires.r_lt_n; link = record { from = c.loop-k.invariant.0.0; to = c.loop-k-test.true }; links = refl };
+      paired = c.loop-k.invariant.1.1;
+    }
 
 pub overflow_add-k : goal.overflow_add-k
 overflow_add-k c =

@@ -10,7 +10,11 @@ loop-r-init c = (omega arith, (but_none, paired_upto (sym c.requires.pairing.lin
 
 pub pair_row-requires : goal.pair_row-requires
 pair_row-requires c =
-    let entry = c in record { pairing = record { linked = entry.requires.pairing.linked; all = entry.requires.pairing.all; links = entry.requires.pairing.links; turfs = entry.requires.pairing.turfs; room = omega (arith, entry.requires.pairing, c.loop-r.invariant.1.0.len) }; r_lt_n = c.loop-r-test.true; paired = c.loop-r.invariant.1.1 }
+    record {
+      pairing = record { linked = c.requires.pairing.linked; all = c.requires.pairing.all; links = c.requires.pairing.links; turfs = c.requires.pairing.turfs; room = omega (arith, c.requires.pairing, c.loop-r.invariant.1.0.len) };
+      r_lt_n = c.loop-r-test.true;
+      paired = c.loop-r.invariant.1.1;
+    }
 
 pub overflow_add-r : goal.overflow_add-r
 overflow_add-r c = omega (arith, c.loop-r-test.true, c.requires.pairing)
@@ -25,4 +29,8 @@ pub shape_of-words : goal.shape_of-words
 shape_of-words c = c.loop-r.invariant.1.0.len
 
 pub returns : goal.returns
-returns c = record { but = c.loop-r.invariant.1.0; paired_2 = paired_upto (rows_end c.requires.pairing.linked _ c.loop-r.invariant.0 c.loop-r-test.false ∙ c.requires.pairing.all) c.loop-r.invariant.1.1 }
+returns c =
+    record {
+      but = c.loop-r.invariant.1.0;
+      paired_2 = paired_upto (rows_end c.requires.pairing.linked _ c.loop-r.invariant.0 c.loop-r-test.false ∙ c.requires.pairing.all) c.loop-r.invariant.1.1;
+    }

@@ -17,7 +17,12 @@ fill_all-filling-requires c =
     let b = board_of c.args.rows.now c.args.marks.now c.args.gases in
     let q = asked c.args.hot.now c.args.settings in
     let l = lent c.args.gas.now c.args.events.now c.args.words.now c.args.floats.now in
-    let whole = fill-asks b q [] l (sym (c.refusal-number.ensures c.args.settings.limit c.args.settings.allowance) ∙ c.if-number-ne0.false) in record { accepted = whole.0; threshold_value = whole.1.0; fill_fits = whole.1.1 }
+    let whole = fill-asks b q [] l (sym (c.refusal-number.ensures c.args.settings.limit c.args.settings.allowance) ∙ c.if-number-ne0.false) in
+    record {
+      accepted = whole.0;
+      threshold_value = whole.1.0;
+      fill_fits = whole.1.1;
+    }
 
 pub returns : goal.returns
 returns c =

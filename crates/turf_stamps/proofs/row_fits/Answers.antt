@@ -19,9 +19,8 @@ offset_bounds-stamps-a c = omega (arith, c.requires.ends c.loop-i.i c.loop-i-tes
 
 pub bounds-stamps-a : goal.bounds-stamps-a
 bounds-stamps-a c =
-    let entry = c in
     let loop = c.loop-i in
-    omega (arith, entry.requires.ends loop.i c.loop-i-test.true, loop.invariant.0.1, length-set entry.args.stamps.now entry.args.row (entry.args.row + 1))
+    omega (arith, c.requires.ends loop.i c.loop-i-test.true, loop.invariant.0.1, length-set c.args.stamps.now c.args.row (c.args.row + 1))
 
 pub shape_of-stamps-then-stamps-a : goal.shape_of-stamps-then-stamps-a
 shape_of-stamps-then-stamps-a c = c.loop-i.invariant.0.1 ∙ length-set c.args.stamps.now c.args.row (c.args.row + 1)
@@ -37,18 +36,16 @@ offset_bounds-stamps-a-in-loop-i c = omega (arith, c.requires.ends c.loop-i.i c.
 
 pub bounds-stamps-a-in-loop-i : goal.bounds-stamps-a-in-loop-i
 bounds-stamps-a-in-loop-i c =
-    let entry = c in
     let loop = c.loop-i in
-    omega (arith, entry.requires.ends loop.i c.loop-i-test.true, loop.invariant.0.1, length-set entry.args.stamps.now entry.args.row (entry.args.row + 1))
+    omega (arith, c.requires.ends loop.i c.loop-i-test.true, loop.invariant.0.1, length-set c.args.stamps.now c.args.row (c.args.row + 1))
 
 pub loop-i-preserved : goal.loop-i-preserved
 loop-i-preserved c =
-    let entry = c in
-    let s = entry.args in
+    let s = c.args in
     let loop = c.loop-i in
     let test = c.loop-i-test in
     let a = get_or s.near.now loop.i 0 in
-    let e = entry.requires.ends loop.i test.true in
+    let e = c.requires.ends loop.i test.true in
     let l : a < length loop.stamps = omega (arith, e, loop.invariant.0.1, length-set s.stamps.now s.row (s.row + 1)) in
     let rest = rest-next (s.row + 1) loop.stamps s.near.now loop.i test.true l c.if-stamps-a.false in
     ((omega arith, length-set loop.stamps _ _ ∙ loop.invariant.0.1), (sym rest ∙ loop.invariant.1.0, stamp_keeps (s.row + 1) loop.stamps a l loop.invariant.1.1))

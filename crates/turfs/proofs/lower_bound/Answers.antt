@@ -14,14 +14,12 @@ loop-lo-init c = bracket_start c.args.xs.now c.args.x
 pub loop-lo-preserved-then-xs-mid : goal.loop-lo-preserved-then-xs-mid
 loop-lo-preserved-then-xs-mid c =
     let l = c.loop-lo in
-    let s = c in
-    bracket_up s.args.xs.now s.args.x s.requires l.lo l.hi (mid l.lo l.hi) l.invariant (omega arith) (omega arith) c.if-xs-mid.true
+    bracket_up c.args.xs.now c.args.x c.requires l.lo l.hi (mid l.lo l.hi) l.invariant (omega arith) (omega arith) c.if-xs-mid.true
 
 pub loop-lo-preserved : goal.loop-lo-preserved
 loop-lo-preserved c =
     let l = c.loop-lo in
-    let s = c in
-    bracket_down s.args.xs.now s.args.x s.requires l.lo l.hi (mid l.lo l.hi) l.invariant (omega arith) (omega arith) c.if-xs-mid.false
+    bracket_down c.args.xs.now c.args.x c.requires l.lo l.hi (mid l.lo l.hi) l.invariant (omega arith) (omega arith) c.if-xs-mid.false
 
 pub returns : goal.returns
 returns c =

@@ -25,7 +25,9 @@ pub overflow_add-way : goal.overflow_add-way
 overflow_add-way c = let p = c.requires in omega (arith, c.ways_at-ways.ensures, row_below _ _ _ _ _ _ p.fact.fit p.left_nonzero _ _ c.order_at-order.ensures c.ways_at-ways.ensures, p.fact.fit.small)
 
 pub offset_bounds-words-ways : goal.offset_bounds-words-ways
-offset_bounds-words-ways c = let p = c.requires in omega (arith, c.ways_at-ways.ensures, row_below _ _ _ _ _ _ p.fact.fit p.left_nonzero _ _ c.order_at-order.ensures c.ways_at-ways.ensures, p.fact.fit.small)
+offset_bounds-words-ways c =
+    let p = c.requires in
+    omega (arith, c.ways_at-ways.ensures, row_below _ _ _ _ _ _ p.fact.fit p.left_nonzero _ _ c.order_at-order.ensures c.ways_at-ways.ensures, p.fact.fit.small)
 
 pub bounds-words-ways : goal.bounds-words-ways
 bounds-words-ways c = let p = c.requires in omega (arith, c.ways_at-ways.ensures, row_below _ _ _ _ _ _ p.fact.fit p.left_nonzero _ _ c.order_at-order.ensures c.ways_at-ways.ensures, p.fact.fit.words)
@@ -52,4 +54,8 @@ returns c =
     let if1 = c.if-way-eq0 in
     let back_to = c.back_to in
     let order = c.order_at-order.ensures in
-    let ways = c.ways_at-ways.ensures in record { fact_2 = back_on _ _ _ _ _ _ p.fact.fit p.left_nonzero _ _ order ways _ if1.false back_to.ensures.fact; left_value = omega (arith, back_to.ensures.left_value, p.left_nonzero) }
+    let ways = c.ways_at-ways.ensures in
+    record {
+      fact_2 = back_on _ _ _ _ _ _ p.fact.fit p.left_nonzero _ _ order ways _ if1.false back_to.ensures.fact;
+      left_value = omega (arith, back_to.ensures.left_value, p.left_nonzero);
+    }

@@ -12,7 +12,11 @@ visit_planet-requires c = let p = c.requires in next-stands _ _ _ _ _ p.fact p.w
 
 pub visit_space-requires : goal.visit_space-requires
 visit_space-requires c =
-    let p = c.requires in record { fact = next-stands _ _ _ _ _ p.fact p.walked_lt_count _ c.counted-t.ensures; fact_2 = next-visits _ _ _ _ _ p.fact p.walked_lt_count _ c.counted-t.ensures Space c.in-Space.is }
+    let p = c.requires in
+    record {
+      fact = next-stands _ _ _ _ _ p.fact p.walked_lt_count _ c.counted-t.ensures;
+      fact_2 = next-visits _ _ _ _ _ p.fact p.walked_lt_count _ c.counted-t.ensures Space c.in-Space.is;
+    }
 
 pub returns-in-Planet : goal.returns-in-Planet
 returns-in-Planet c =

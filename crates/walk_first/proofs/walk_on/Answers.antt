@@ -18,7 +18,11 @@ loop-kind-init c =
 pub walk_next-t-requires : goal.walk_next-t-requires
 walk_next-t-requires c =
     let p = c.requires.fact in
-    let inv = c.loop-kind.invariant in record { fact = record { ground = p.ground; fit = inv.fit; room = rw (kept-area inv) p.room }; walked_lt_count = on-less c.loop-kind.t _ c.loop-kind-test.true c.goes_on.ensures }
+    let inv = c.loop-kind.invariant in
+    record {
+      fact = record { ground = p.ground; fit = inv.fit; room = rw (kept-area inv) p.room };
+      walked_lt_count = on-less c.loop-kind.t _ c.loop-kind-test.true c.goes_on.ensures;
+    }
 
 pub loop-kind-smaller : goal.loop-kind-smaller
 loop-kind-smaller c =

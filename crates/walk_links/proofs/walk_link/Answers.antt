@@ -22,7 +22,12 @@ pub insert-requires : goal.insert-requires
 insert-requires c =
     let p = c.requires in
     let below = leads-below p.fact.ground p.fact_2 in
-    let less = count_less _ _ _ _ _ p.fact.fit below (sym c.if-contains.false ∙ c.contains.ensures) in record { count_in_bounds = omega (arith, less, p.fact.fit.words); a_in_bounds = omega (arith, below, p.fact.fit.words, c.spots_at-spots.ensures); count_bound = omega (arith, less, p.fact.fit.small) }
+    let less = count_less _ _ _ _ _ p.fact.fit below (sym c.if-contains.false ∙ c.contains.ensures) in
+    record {
+      count_in_bounds = omega (arith, less, p.fact.fit.words);
+      a_in_bounds = omega (arith, below, p.fact.fit.words, c.spots_at-spots.ensures);
+      count_bound = omega (arith, less, p.fact.fit.small);
+    }
 
 pub joined-requires : goal.joined-requires
 joined-requires c =

@@ -17,7 +17,11 @@ overflow_add-from c = let p = c.requires in omega (arith, near-inside p.fact.gro
 
 pub walk_link-t-requires : goal.walk_link-t-requires
 walk_link-t-requires c =
-    let p = c.requires in record { fact = record { ground = p.fact.ground; fit = c.loop-i.invariant.fit; inside = p.fact.inside }; fact_2 = near-leads _ _ _ _ p.fact.ground p.fact.inside p.fact_2 _ c.loop-i-test.true }
+    let p = c.requires in
+    record {
+      fact = record { ground = p.fact.ground; fit = c.loop-i.invariant.fit; inside = p.fact.inside };
+      fact_2 = near-leads _ _ _ _ p.fact.ground p.fact.inside p.fact_2 _ c.loop-i-test.true;
+    }
 
 pub loop-i-preserved : goal.loop-i-preserved
 loop-i-preserved c = going_next (walking _) _ _ c.loop-i.invariant c.walk_link-t.ensures (λ es. near_next _ _ _ _ _ c.loop-i-test.true)

@@ -36,7 +36,12 @@ out_to-requires c =
     let p = c.requires in
     let args = c.args in
     let n = turf_count (board_at args.rows args.marks 0) in
-    record { fit = p.fact.fit; from = p.fact.inside; inside = p.a_bound; new = sym (order-member n args.s args.words.now _ _ _ c.order_at-order.ensures (sym c.if-contains.false ∙ c.contains.ensures)) }
+    record {
+      fit = p.fact.fit;
+      from = p.fact.inside;
+      inside = p.a_bound;
+      new = sym (order-member n args.s args.words.now _ _ _ c.order_at-order.ensures (sym c.if-contains.false ∙ c.contains.ensures));
+    }
 
 pub returns : goal.returns
 returns c =

@@ -12,7 +12,11 @@ loop-i-init c =
 
 pub out_link-t-requires : goal.out_link-t-requires
 out_link-t-requires c =
-    let p = c.requires in record { fact = record { ground = p.fact.ground; fit = c.loop-i.invariant.fit; inside = p.fact.inside }; a_bound = leads-below p.fact.ground (near-leads _ _ _ _ p.fact.ground p.fact.inside (near-here p.near_value) _ c.loop-i-test.true) }
+    let p = c.requires in
+    record {
+      fact = record { ground = p.fact.ground; fit = c.loop-i.invariant.fit; inside = p.fact.inside };
+      a_bound = leads-below p.fact.ground (near-leads _ _ _ _ p.fact.ground p.fact.inside (near-here p.near_value) _ c.loop-i-test.true);
+    }
 
 pub loop-i-preserved : goal.loop-i-preserved
 loop-i-preserved c =

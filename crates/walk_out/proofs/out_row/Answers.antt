@@ -62,10 +62,13 @@ slice_bounds-near-end c =
 
 pub out_links-requires : goal.out_links-requires
 out_links-requires c =
-    let entry = c in
-    let p = entry.requires in
+    let p = c.requires in
     let r = next_row _ _ _ _ p.fact.fit p.place_lt_count _ c.order_at.ensures in
-    let l = c.links_of-links.ensures in record { fact = record { ground = p.fact.ground; fit = passed_fit _ _ _ _ p.fact.fit p.place_lt_count _ c.order_at.ensures; inside = r }; near_value = (part-near {b = board_of entry.args.rows.now entry.args.marks.now 0} l.0 l.1).part }
+    let l = c.links_of-links.ensures in
+    record {
+      fact = record { ground = p.fact.ground; fit = passed_fit _ _ _ _ p.fact.fit p.place_lt_count _ c.order_at.ensures; inside = r };
+      near_value = (part-near {b = board_of c.args.rows.now c.args.marks.now 0} l.0 l.1).part;
+    }
 
 pub returns : goal.returns
 returns c =

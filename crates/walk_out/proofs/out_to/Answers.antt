@@ -20,7 +20,12 @@ targets_at-targets-requires c = c.requires.fit.small
 pub insert-requires : goal.insert-requires
 insert-requires c =
     let p = c.requires in
-    let less = count_less _ _ _ _ _ _ p in record { count_in_bounds = omega (arith, less, p.fit.words, c.order_at-order.ensures); a_in_bounds = omega (arith, p.fit.words, p.inside, c.spots_at-spots.ensures); count_bound = omega (arith, less, p.fit.small) }
+    let less = count_less _ _ _ _ _ _ p in
+    record {
+      count_in_bounds = omega (arith, less, p.fit.words, c.order_at-order.ensures);
+      a_in_bounds = omega (arith, p.fit.words, p.inside, c.spots_at-spots.ensures);
+      count_bound = omega (arith, less, p.fit.small);
+    }
 
 pub overflow_add-words-2 : goal.overflow_add-words-2
 overflow_add-words-2 c = let p = c.requires in omega (arith, c.ways_at-ways.ensures, p.fit.small, p.inside)

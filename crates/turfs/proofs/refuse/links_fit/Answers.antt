@@ -35,13 +35,12 @@ returns-then-not-all_below-2 c = sym (one-fails _ 4 (no _ c.all_below-2.ensures 
 
 pub rows_fit-requires : goal.rows_fit-requires
 rows_fit-requires c =
-    let entry = c in
     let risen = yes _ c.rising.ensures c.if-not-rising.false-raw in
     let below = yes _ c.all_below.ensures c.if-not-all_below.false-raw in
     record {
-      parts = parts-of _ _ _ entry.requires.small.turfs entry.requires.starts_value risen c.if-starts-n.false;
-      few = entry.requires.small.links;
-      ends = λ k l. ltb-true _ _ (every-at _ (table entry.args.rows.now 3) 0 k below l);
+      parts = parts-of _ _ _ c.requires.small.turfs c.requires.starts_value risen c.if-starts-n.false;
+      few = c.requires.small.links;
+      ends = λ k l. ltb-true _ _ (every-at _ (table c.args.rows.now 3) 0 k below l);
     }
 
 pub returns : goal.returns

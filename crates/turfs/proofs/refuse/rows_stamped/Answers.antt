@@ -35,11 +35,10 @@ slice_bounds-row_fits-end c = part_end c.requires.links_lead.parts c.loop-row-te
 
 pub row_fits-requires : goal.row_fits-requires
 row_fits-requires c =
-    let entry = c in
     let loop = c.loop-row in
     let links = c.links_of-links in
-    near-stamps (board_of entry.args.rows.now [] 0) loop.row (part-near links.ensures.0 links.ensures.1) loop.stamps entry.requires.links_lead c.loop-row-test.true
-    (omega (arith, entry.requires.no_stamps.enough, loop.invariant.0.1), omega (arith, entry.requires.no_stamps.few, loop.invariant.0.1)) loop.invariant.1.0
+    near-stamps (board_of c.args.rows.now [] 0) loop.row (part-near links.ensures.0 links.ensures.1) loop.stamps c.requires.links_lead c.loop-row-test.true
+    (omega (arith, c.requires.no_stamps.enough, loop.invariant.0.1), omega (arith, c.requires.no_stamps.few, loop.invariant.0.1)) loop.invariant.1.0
 
 pub returns-then-not-row_fits : goal.returns-then-not-row_fits
 returns-then-not-row_fits c =
