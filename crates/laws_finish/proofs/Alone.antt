@@ -141,7 +141,7 @@ module _ (b : Board) (owner : List ℕ) (z : ℕ) (In : ℕ → Type 0)
       let y = mix_of b p.to in
       let moved : List Float → List Float = move_air b x y p.amount in
       let go : (e : Bool) (m : ℕ) → In m → amounts b (cond e s.gas (moved s.gas)) m ≡ amounts b (cond e t.gas (moved t.gas)) m =
-            λ e. elim e as (λ k. (m : ℕ) → In m → amounts b (cond k s.gas (moved s.gas)) m ≡ amounts b (cond k t.gas (moved t.gas)) m) [
+      λ e. elim e as (λ k. (m : ℕ) → In m → amounts b (cond k s.gas (moved s.gas)) m ≡ amounts b (cond k t.gas (moved t.gas)) m) [
         | true ↦ q.air
         | false ↦ λ m i. move_like b x y p.amount (mixed r) (mixed p.to) s.gas t.gas q.fits q.fits' (q.air x hr) (q.air y hp) m (q.air m i)
       ] in

@@ -36,11 +36,14 @@ reach-s-requires c =
     let p = c.requires in
     let inv = c.loop-i.invariant.0 in
     let taken = c.loop-i-test.true in
-    let inside = near-inside p.tables_fit.parts p.turf_fits.row p.near in record { walking = record { fit = inv.done.fit; bounds = inv.done.bounds }; link_fits = record {
+    let inside = near-inside p.tables_fit.parts p.turf_fits.row p.near in record {
+      walking = record { fit = inv.done.fit; bounds = inv.done.bounds };
+      link_fits = record {
         link = omega (arith, taken, inside);
         row = met-row p.tables_fit _ (omega (arith, taken, inside)) _ (near-met p.tables_fit p.turf_fits.row p.near _ taken _ c.meet-m.ensures);
         free = walked-free _ inv (omega (arith, taken)) inside;
-      } }
+      };
+    }
 
 pub overflow_add-i : goal.overflow_add-i
 overflow_add-i c =

@@ -18,13 +18,16 @@ pub pop-t-requires : goal.pop-t-requires
 pop-t-requires c =
     let head = c.loop-settings in
     let t = head.t in
-    let on = going_on t.state t.popped t.reach.queued (sym c.goes_on.ensures ∙ c.loop-settings-test.true) in record { accepted = c.requires.accepted; pop_fits = record {
+    let on = going_on t.state t.popped t.reach.queued (sym c.goes_on.ensures ∙ c.loop-settings-test.true) in record {
+      accepted = c.requires.accepted;
+      pop_fits = record {
         walking = record { fit = head.invariant.0.done.fit; bounds = head.invariant.0.done.bounds };
         on = on.0;
         left = on.1;
         clock = head.invariant.0.clock on.0;
         free = popping_free c.requires.accepted _ _ _ _ _ _ _ _ c.requires.zone_fits c.start-t.ensures.zone_starts c.start-t.ensures.at_start head.invariant.0 on.1;
-      } }
+      };
+    }
 
 pub loop-settings-smaller : goal.loop-settings-smaller
 loop-settings-smaller c =

@@ -37,7 +37,9 @@ returns-then-breaks c =
 
 pub expand-requires : goal.expand-requires
 expand-requires c =
-    record { accepted = c.requires.accepted; expand_fits = record {
+    record {
+      accepted = c.requires.accepted;
+      expand_fits = record {
         walking = c.requires.pop_fits.walking;
         turf = record {
           row = row_below c.requires.pop_fits.walking.fit c.requires.pop_fits.walking.bounds _ c.requires.pop_fits.left _ c.queue_at.ensures;
@@ -45,7 +47,8 @@ expand-requires c =
         };
         popped = omega (arith, c.requires.pop_fits.left, c.requires.pop_fits.walking.fit.queue, c.requires.accepted.turfs);
         tests = omega (arith, c.requires.pop_fits.clock, c.well_formed);
-      } }
+      };
+    }
 
 pub returns : goal.returns
 returns c =

@@ -9,8 +9,12 @@ pub plan_zones-requires : goal.plan_zones-requires
 plan_zones-requires c =
     let find-reverses = c.find_reverses in
     let clear-plan = c.clear_plan in
-    record { plannable = c.requires.plannable; fact = cleared-zoned c.requires.fact find-reverses.ensures.but clear-plan.ensures clear-plan.auto.words clear-plan.auto.floats; fact_2 = cleared-reverses c.requires.fact find-reverses.ensures.but clear-plan.ensures (reverses-of (board_of c.args.rows.now c.args.marks.now c.args.gases)
-            _ find-reverses.ensures.backs) }
+    record {
+      plannable = c.requires.plannable;
+      fact = cleared-zoned c.requires.fact find-reverses.ensures.but clear-plan.ensures clear-plan.auto.words clear-plan.auto.floats;
+      fact_2 = cleared-reverses c.requires.fact find-reverses.ensures.but clear-plan.ensures (reverses-of (board_of c.args.rows.now c.args.marks.now c.args.gases)
+          _ find-reverses.ensures.backs);
+    }
 
 pub returns : goal.returns
 returns c =

@@ -43,14 +43,18 @@ overflow_sub-zone c = omega (arith, (from-to c.starts_at.ensures c.requires.zone
 
 pub process_zone-requires : goal.process_zone-requires
 process_zone-requires c =
-    record { fact = c.requires.tables.gassed; planning = record {
-          sized = record { turfs = refl; links = refl; linked = c.requires.tables.linked };
-          fit = room-fit c.requires.room;
-          zone = omega (arith, c.requires.zone, c.requires.room.sizes.turfs);
-          reverses = c.requires.reverses;
-        }; nodes = handed c.starts_at.ensures c.requires.zone c.requires.ready c.nodes_at.ensures c.requires.room }
+    record {
+      fact = c.requires.tables.gassed;
+      planning = record {
+        sized = record { turfs = refl; links = refl; linked = c.requires.tables.linked };
+        fit = room-fit c.requires.room;
+        zone = omega (arith, c.requires.zone, c.requires.room.sizes.turfs);
+        reverses = c.requires.reverses;
+      };
+      nodes = handed c.starts_at.ensures c.requires.zone c.requires.ready c.nodes_at.ensures c.requires.room;
+    }
 
 pub returns : goal.returns
-returns c =     zone-planned (board_of c.args.rows.now c.args.marks.now c.args.gases) _ c.starts_at.ensures
+returns c = zone-planned (board_of c.args.rows.now c.args.marks.now c.args.gases) _ c.starts_at.ensures
     c.requires.zone c.requires.ready c.nodes_at.ensures (omega (arith, c.moles_at.ensures))
     c.process_zone.ensures

@@ -44,7 +44,7 @@ hand_on-requires c =
     }
 
 pub returns-then-direction-ne0 : goal.returns-then-direction-ne0
-returns-then-direction-ne0 c =     drained _ _ _ _ _ _ _ c.load-i.ensures c.requires.fit c.requires.row c.requires.within c.if-direction-ne0.true _ c.via_at.ensures _
+returns-then-direction-ne0 c = drained _ _ _ _ _ _ _ c.load-i.ensures c.requires.fit c.requires.row c.requires.within c.if-direction-ne0.true _ c.via_at.ensures _
     c.back_link-there.ensures c.if-amount.true c.hand_on.ensures
 
 pub returns-else-direction-ne0 : goal.returns-else-direction-ne0

@@ -19,8 +19,11 @@ bounds-floats-from c = omega (arith, c.amount_at-from.ensures, c.requires.fit, c
 
 pub adjust_eq_movement-requires : goal.adjust_eq_movement-requires
 adjust_eq_movement-requires c =
-    record { found = found-more _ _ c.args.there (omega (arith, c.requires.fit.floats)) c.requires.there; found_2 = found-more _ _ c.args.back (omega (arith, c.requires.fit.floats))
-          c.requires.back }
+    record {
+      found = found-more _ _ c.args.there (omega (arith, c.requires.fit.floats)) c.requires.there;
+      found_2 = found-more _ _ c.args.back (omega (arith, c.requires.fit.floats))
+          c.requires.back;
+    }
 
 pub offset_bounds-floats-to : goal.offset_bounds-floats-to
 offset_bounds-floats-to c = omega (arith, c.amount_at-to.ensures, c.requires.fit, c.requires.to)
@@ -41,4 +44,4 @@ pub bounds-floats-from-2 : goal.bounds-floats-from-2
 bounds-floats-from-2 c = simp length-set (omega (arith, c.amount_at-from.ensures, c.requires.fit, c.requires.row, c.adjust_eq_movement.auto))
 
 pub returns : goal.returns
-returns c =     handed _ _ _ _ _ _ _ _ _ c.requires.fit c.requires.row c.requires.to c.requires.there c.requires.back _ _ c.amount_at-from.ensures c.amount_at-to.ensures c.adjust_eq_movement.ensures
+returns c = handed _ _ _ _ _ _ _ _ _ c.requires.fit c.requires.row c.requires.to c.requires.there c.requires.back _ _ c.amount_at-from.ensures c.amount_at-to.ensures c.adjust_eq_movement.ensures

@@ -19,12 +19,15 @@ bounds-words-first c = omega (arith, c.requires.nodes.room, c.loop-i.invariant.0
 
 pub fast_turf-requires : goal.fast_turf-requires
 fast_turf-requires c =
-    record { planning = record {
+    record {
+      planning = record {
         sized = c.requires.planning.sized;
         fit = c.loop-i.invariant.1.fit;
         zone = c.requires.planning.zone;
         reverses = reverses-kept c.requires.planning.reverses (onto_frame c.loop-i.invariant.1);
-      }; r_lt_n = now_below c.requires.nodes (onto_frame c.loop-i.invariant.1) c.loop-i.invariant.0.1.0 _ c.loop-i-test.true }
+      };
+      r_lt_n = now_below c.requires.nodes (onto_frame c.loop-i.invariant.1) c.loop-i.invariant.0.1.0 _ c.loop-i-test.true;
+    }
 
 pub overflow_add-i : goal.overflow_add-i
 overflow_add-i c = omega (arith, c.loop-i-test.true, c.requires.nodes.few, c.requires.planning.fit.turfs)

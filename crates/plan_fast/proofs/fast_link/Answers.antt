@@ -17,7 +17,7 @@ overflow_cast-a c =
     omega (arith, ha, c.requires.fit.turfs)
 
 pub fast_at-requires : goal.fast_at-requires
-fast_at-requires c =     let hk : c.args.k < c.args.share.e = omega (arith, c.requires.ends.within) in
+fast_at-requires c = let hk : c.args.k < c.args.share.e = omega (arith, c.requires.ends.within) in
     let ha = c.requires.ends.ends c.args.k hk in
     record {
       row_bound = omega (arith, ha, c.requires.fit.turfs);
@@ -25,17 +25,17 @@ fast_at-requires c =     let hk : c.args.k < c.args.share.e = omega (arith, c.re
     }
 
 pub offset_bounds-words-fast_at : goal.offset_bounds-words-fast_at
-offset_bounds-words-fast_at c =     let hk : c.args.k < c.args.share.e = omega (arith, c.requires.ends.within) in
+offset_bounds-words-fast_at c = let hk : c.args.k < c.args.share.e = omega (arith, c.requires.ends.within) in
     let ha = c.requires.ends.ends c.args.k hk in
     omega (arith, c.fast_at.ensures, ha, c.requires.fit.turfs, c.requires.fit.links)
 
 pub bounds-words-fast_at : goal.bounds-words-fast_at
-bounds-words-fast_at c =     let hk : c.args.k < c.args.share.e = omega (arith, c.requires.ends.within) in
+bounds-words-fast_at c = let hk : c.args.k < c.args.share.e = omega (arith, c.requires.ends.within) in
     let ha = c.requires.ends.ends c.args.k hk in
     omega (arith, c.fast_at.ensures, ha, c.requires.fit.words)
 
 pub returns-then-words-fast_at-ne0 : goal.returns-then-words-fast_at-ne0
-returns-then-words-fast_at-ne0 c =     let hk : c.args.k < c.args.share.e = omega (arith, c.requires.ends.within) in
+returns-then-words-fast_at-ne0 c = let hk : c.args.k < c.args.share.e = omega (arith, c.requires.ends.within) in
     let ha = c.requires.ends.ends c.args.k hk in
     fast-marked _ _ c.args.share.z c.args.share.r _ _ c.args.share.x _ _ c.requires.fit hk ha c.if-words-k.false _ c.fast_at.ensures c.if-words-fast_at-ne0.true
 
@@ -64,7 +64,7 @@ fast_move-requires c =
     }
 
 pub returns : goal.returns
-returns c =     let hk : c.args.k < c.args.share.e = omega (arith, c.requires.ends.within) in
+returns c = let hk : c.args.k < c.args.share.e = omega (arith, c.requires.ends.within) in
     let ha = c.requires.ends.ends c.args.k hk in
     fast-more _ _ c.args.share.z c.args.share.r _ _ c.args.share.x _ _ c.requires.fit hk ha c.requires.back _ c.back_link-back.ensures c.if-words-k.false _
     c.fast_at.ensures c.if-words-fast_at-ne0.false c.fast_move.ensures

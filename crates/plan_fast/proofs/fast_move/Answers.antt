@@ -45,4 +45,4 @@ pub bounds-floats-to-2 : goal.bounds-floats-to-2
 bounds-floats-to-2 c = simp length-set (omega (arith, c.delta_at-to.ensures, c.requires.fit, c.requires.to, c.adjust_eq_movement.auto))
 
 pub returns : goal.returns
-returns c =     moved _ _ _ _ _ _ _ _ _ _ c.requires.fit c.requires.row c.requires.to c.requires.there c.requires.back c.adjust_eq_movement.ensures _ _ c.delta_at-from.ensures c.delta_at-to.ensures
+returns c = moved _ _ _ _ _ _ _ _ _ _ c.requires.fit c.requires.row c.requires.to c.requires.there c.requires.back c.adjust_eq_movement.ensures _ _ c.delta_at-from.ensures c.delta_at-to.ensures

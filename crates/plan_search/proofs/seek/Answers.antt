@@ -35,8 +35,12 @@ shape_of-floats-then-settled c = c.loop-looked.invariant.0.1
 pub returns-then-settled : goal.returns-then-settled
 returns-then-settled c =
     let loop = c.loop-looked in
-    record { fact = trail_end _ loop.invariant.1.0 (turn-settled _ _ _ _ _ _ loop.invariant.1.0.seeking c.loop-looked-test.true _ c.queue_at-queue.ensures _ _ _ _ c.requires.searching.row _
-      c.delta_at-own.ensures (sym c.settled.ensures ∙ c.if-settled.true)); fact_2 = loop.invariant.1.1.0; idle = loop.invariant.1.1.1 }
+    record {
+      fact = trail_end _ loop.invariant.1.0 (turn-settled _ _ _ _ _ _ loop.invariant.1.0.seeking c.loop-looked-test.true _ c.queue_at-queue.ensures _ _ _ _ c.requires.searching.row _
+          c.delta_at-own.ensures (sym c.settled.ensures ∙ c.if-settled.true));
+      fact_2 = loop.invariant.1.1.0;
+      idle = loop.invariant.1.1.1;
+    }
 
 pub overflow_add-r : goal.overflow_add-r
 overflow_add-r c =
@@ -70,7 +74,7 @@ pub loop-looked-smaller : goal.loop-looked-smaller
 loop-looked-smaller c = omega (arith, c.loop-looked.invariant.1.0.seeking.line.few, c.loop-looked-test.true)
 
 pub loop-looked-preserved : goal.loop-looked-preserved
-loop-looked-preserved c =     let queue-at = c.queue_at-queue in
+loop-looked-preserved c = let queue-at = c.queue_at-queue in
     let loop = c.loop-looked in
     let loop-test = c.loop-looked-test in
     let seek-turf = c.seek_turf-reach in (

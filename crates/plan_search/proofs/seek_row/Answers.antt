@@ -21,12 +21,16 @@ seek_link-step-requires c =
     let loop = c.loop-k in
     let pass-links = c.pass_links-pass in
     let t = row-passes loop.invariant.1 c.requires.searching.row loop.invariant.0.0 pass-links.ensures.at_le_at pass-links.ensures.at_le_to_2 pass-links.ensures.fact in
-    record { searching = record { seeking = t.on.seeking; zone = c.requires.searching.zone; row = c.requires.searching.row }; unsettled = t.unsettled; ends = record {
-          row = c.requires.ends.row;
-          all = c.requires.ends.all;
-          within = omega (arith, c.requires.ends.within, c.if-k-to.true);
-          ends = c.requires.ends.ends;
-        } }
+    record {
+      searching = record { seeking = t.on.seeking; zone = c.requires.searching.zone; row = c.requires.searching.row };
+      unsettled = t.unsettled;
+      ends = record {
+        row = c.requires.ends.row;
+        all = c.requires.ends.all;
+        within = omega (arith, c.requires.ends.within, c.if-k-to.true);
+        ends = c.requires.ends.ends;
+      };
+    }
 
 pub overflow_add-k : goal.overflow_add-k
 overflow_add-k c =

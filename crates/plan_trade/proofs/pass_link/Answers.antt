@@ -54,9 +54,12 @@ pub returns-then-contains : goal.returns-then-contains
 returns-then-contains c =
     let hk : c.args.k < c.args.hand.e = omega (arith, c.requires.ends.within) in
     let ha = c.requires.ends.ends c.args.k hk in
-    record { floats_value = λ q. absurd (true≢false (sym q)); fact = λ _. pass-queued c.args.hand.side c.args.r c.args.k c.args.hand.z _ _ _ c.args.neighbours.now
+    record {
+      floats_value = λ q. absurd (true≢false (sym q));
+      fact = λ _. pass-queued c.args.hand.side c.args.r c.args.k c.args.hand.z _ _ _ c.args.neighbours.now
           _ _ c.requires.searching.seeking hk ha _ _ c.queue_at-queue.ensures c.places_at-places.ensures c.if-words-k.false
-          (sym c.if-contains.true ∙ c.contains.ensures) }
+          (sym c.if-contains.true ∙ c.contains.ensures);
+    }
 
 pub overflow_cast-row : goal.overflow_cast-row
 overflow_cast-row c =
@@ -83,11 +86,15 @@ insert-requires c =
     let ha = c.requires.ends.ends c.args.k hk in
     let l = link-room c.args.hand.side _ c.args.r c.args.k _ c.args.hand.z _ _ _ _ _ c.requires.searching.seeking hk ha ha _ _ queue-at.ensures
     places-at.ensures c.if-words-k.false (sym c.if-contains.false
-    ∙ c.contains.ensures) in record { count_in_bounds = omega (arith, l, queue-at.ensures, c.requires.searching.seeking.fit.words); a_in_bounds = omega (arith, l, places-at.ensures, c.requires.searching.seeking.fit.words, ha); count_bound = omega (
-          arith,
-          l,
-          c.requires.searching.seeking.fit.turfs,
-        ) }
+    ∙ c.contains.ensures) in record {
+      count_in_bounds = omega (arith, l, queue-at.ensures, c.requires.searching.seeking.fit.words);
+      a_in_bounds = omega (arith, l, places-at.ensures, c.requires.searching.seeking.fit.words, ha);
+      count_bound = omega (
+        arith,
+        l,
+        c.requires.searching.seeking.fit.turfs,
+      );
+    }
 
 pub overflow_cast-words : goal.overflow_cast-words
 overflow_cast-words c =
@@ -113,11 +120,14 @@ overflow_add-r c =
     omega (arith, c.requires.ends.row, c.requires.searching.seeking.fit.turfs)
 
 pub point-requires : goal.point-requires
-point-requires c =     let hk : c.args.k < c.args.hand.e = omega (arith, c.requires.ends.within) in
+point-requires c = let hk : c.args.k < c.args.hand.e = omega (arith, c.requires.ends.within) in
     let ha = c.requires.ends.ends c.args.k hk in
-    record { plan_fits = push-fit c.args.hand.side _ c.args.r c.args.k _ c.args.hand.z _ _ _ _ _ c.requires.searching.seeking hk ha ha _ _ c.queue_at-queue.ensures
+    record {
+      plan_fits = push-fit c.args.hand.side _ c.args.r c.args.k _ c.args.hand.z _ _ _ _ _ c.requires.searching.seeking hk ha ha _ _ c.queue_at-queue.ensures
           c.places_at-places.ensures c.if-words-k.false
-          (sym c.if-contains.false ∙ c.contains.ensures) _ c.insert.ensures _ c.via_at.ensures; a_lt_n = ha }
+          (sym c.if-contains.false ∙ c.contains.ensures) _ c.insert.ensures _ c.via_at.ensures;
+      a_lt_n = ha;
+    }
 
 pub overflow_add-result : goal.overflow_add-result
 overflow_add-result c =
@@ -134,13 +144,16 @@ pub shape_of-words : goal.shape_of-words
 shape_of-words c = c.point.auto.words ∙ simp length-set c.insert.auto.words
 
 pub returns : goal.returns
-returns c =     let hk : c.args.k < c.args.hand.e = omega (arith, c.requires.ends.within) in
+returns c = let hk : c.args.k < c.args.hand.e = omega (arith, c.requires.ends.within) in
     let ha = c.requires.ends.ends c.args.k hk in
-    record { floats_value = λ q. absurd (true≢false (sym q)); fact = λ _. pass-new c.args.hand.side c.args.r c.args.k c.args.hand.z _ _ _ c.args.neighbours.now _ _ c.requires.searching.seeking hk ha _ _
+    record {
+      floats_value = λ q. absurd (true≢false (sym q));
+      fact = λ _. pass-new c.args.hand.side c.args.r c.args.k c.args.hand.z _ _ _ c.args.neighbours.now _ _ c.requires.searching.seeking hk ha _ _
           c.queue_at-queue.ensures
           c.places_at-places.ensures
           c.if-words-k.false
           (sym c.if-contains.false ∙ c.contains.ensures) _
           refl
           (sym c.wants_at.ensures ∙ c.if-wants_at.false) _
-          c.insert.ensures _ c.via_at.ensures _ _ c.point.ensures }
+          c.insert.ensures _ c.via_at.ensures _ _ c.point.ensures;
+    }

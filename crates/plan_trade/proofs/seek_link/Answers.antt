@@ -54,13 +54,16 @@ pub returns-then-contains : goal.returns-then-contains
 unfolding along
 returns-then-contains c =
     let hk : c.args.k < c.args.hand.e = omega (arith, c.requires.ends.within) in
-    let ha = c.requires.ends.ends c.args.k hk in record { fact = record {
+    let ha = c.requires.ends.ends c.args.k hk in record {
+      fact = record {
         sought = link-queued c.args.hand.side c.args.hand.g c.args.r c.args.k _ c.args.hand.z _ _ _ _ _ c.requires.searching.seeking
             hk c.requires.searching.row ha _ _ c.queue_at-queue.ensures c.places_at-places.ensures c.if-words-k.false
             c.requires.unsettled (sym c.if-contains.true ∙ c.contains.ensures);
         met = keeps-none;
         idle = idle-none;
-      }; done_value = sym c.requires.unsettled }
+      };
+      done_value = sym c.requires.unsettled;
+    }
 
 pub insert-requires : goal.insert-requires
 insert-requires c =
@@ -70,11 +73,15 @@ insert-requires c =
     let ha = c.requires.ends.ends c.args.k hk in
     let l = link-room c.args.hand.side c.args.hand.g c.args.r c.args.k _ c.args.hand.z _ _ _ _ _ c.requires.searching.seeking hk
     c.requires.searching.row ha _ _ queue-at.ensures places-at.ensures c.if-words-k.false (sym c.if-contains.false
-    ∙ c.contains.ensures) in record { count_in_bounds = omega (arith, l, queue-at.ensures, c.requires.searching.seeking.fit.words); a_in_bounds = omega (arith, l, places-at.ensures, c.requires.searching.seeking.fit.words, ha); count_bound = omega (
-          arith,
-          l,
-          c.requires.searching.seeking.fit.turfs,
-        ) }
+    ∙ c.contains.ensures) in record {
+      count_in_bounds = omega (arith, l, queue-at.ensures, c.requires.searching.seeking.fit.words);
+      a_in_bounds = omega (arith, l, places-at.ensures, c.requires.searching.seeking.fit.words, ha);
+      count_bound = omega (
+        arith,
+        l,
+        c.requires.searching.seeking.fit.turfs,
+      );
+    }
 
 pub overflow_cast-row : goal.overflow_cast-row
 overflow_cast-row c =
@@ -139,7 +146,7 @@ shape_of-words c = c.meet-traded.auto.words ∙ simp length-set c.insert.auto.wo
 
 pub returns : goal.returns
 unfolding along
-returns c =     let if1 = c.if-words-k in
+returns c = let if1 = c.if-words-k in
     let queue-at = c.queue_at-queue in
     let places-at = c.places_at-places in
     let contains = c.contains in
@@ -148,10 +155,13 @@ returns c =     let if1 = c.if-words-k in
     let via = c.via_at in
     let meet = c.meet-traded in
     let hk : c.args.k < c.args.hand.e = omega (arith, c.requires.ends.within) in
-    let ha = c.requires.ends.ends c.args.k hk in record { fact = record {
+    let ha = c.requires.ends.ends c.args.k hk in record {
+      fact = record {
         sought = link-new c.args.hand.side c.args.hand.g c.args.r c.args.k _ c.args.hand.z _ _ _ _ _ c.requires.searching.seeking hk c.requires.searching.row ha _ _ queue-at.ensures places-at.ensures if1.false (sym if2.false ∙ contains.ensures) _ insert.ensures _ via.ensures meet.ensures.plan_does c.requires.unsettled;
         met = link-keeps c.args.hand.side c.args.hand.g c.args.r c.args.k _ c.args.hand.z _ _ _ _ _ c.requires.searching.seeking hk c.requires.searching.row ha _ _ queue-at.ensures places-at.ensures if1.false (sym if2.false ∙ contains.ensures) _ insert.ensures _ via.ensures meet.ensures.plan_does c.args.neighbours.now refl;
         idle = link-idle c.args.hand.side c.args.hand.g c.args.r c.args.k _ c.args.hand.z _ _ _ _ _ c.requires.searching.seeking hk c.requires.searching.row ha _ _ queue-at.ensures places-at.ensures if1.false (sym if2.false ∙ contains.ensures) _ insert.ensures _ via.ensures
             meet.ensures.plan_does _ _ _ meet.ensures.value c.first_traded.ensures;
-      }; done_value = link-open c.args.hand.side c.args.hand.g c.args.r c.args.k _ c.args.hand.z _ _ _ _ _ c.requires.searching.seeking hk c.requires.searching.row ha _ _ queue-at.ensures places-at.ensures if1.false (sym if2.false ∙ contains.ensures) _ insert.ensures _ via.ensures
-          meet.ensures.plan_does c.requires.unsettled _ meet.ensures.value _ _ refl _ c.delta_at.ensures _ c.settles.ensures }
+      };
+      done_value = link-open c.args.hand.side c.args.hand.g c.args.r c.args.k _ c.args.hand.z _ _ _ _ _ c.requires.searching.seeking hk c.requires.searching.row ha _ _ queue-at.ensures places-at.ensures if1.false (sym if2.false ∙ contains.ensures) _ insert.ensures _ via.ensures
+          meet.ensures.plan_does c.requires.unsettled _ meet.ensures.value _ _ refl _ c.delta_at.ensures _ c.settles.ensures;
+    }

@@ -33,8 +33,11 @@ total-moles-requires c =
 
 pub first_delta-requires : goal.first_delta-requires
 first_delta-requires c =
-    let loop = c.loop-i in record { plan_fits = loop.invariant.1.fit; row_lt_n = now_below c.requires.nodes (onto_frame loop.invariant.1)
-          loop.invariant.0.1.0 _ c.loop-i-test.true }
+    let loop = c.loop-i in record {
+      plan_fits = loop.invariant.1.fit;
+      row_lt_n = now_below c.requires.nodes (onto_frame loop.invariant.1)
+          loop.invariant.0.1.0 _ c.loop-i-test.true;
+    }
 
 pub overflow_add-i : goal.overflow_add-i
 overflow_add-i c =

@@ -37,19 +37,18 @@ pub loop-i-smaller : goal.loop-i-smaller
 loop-i-smaller c = omega (arith, c.loop-i-test.true)
 
 pub loop-i-preserved : goal.loop-i-preserved
-loop-i-preserved c =
-    (
-      (
-        omega (arith, c.loop-i-test.true),
-        omega (
-          arith,
-          c.loop-i.invariant.0,
-          c.count_one-c.ensures,
-          cond-le (picks Giving (get_or c.args.floats.now (c.args.zone.e + get_or c.args.words.now (c.args.zone.first + c.loop-i.i) 0 + get_or c.args.words.now (c.args.zone.first + c.loop-i.i) 0) nan)) c.loop-i.c,
-        ),
-      ),
-      sym (count_next c.requires.nodes _ _ c.loop-i-test.true _ c.count_one-c.ensures) ∙ c.loop-i.invariant.1,
-    )
+loop-i-preserved c = (
+  (
+    omega (arith, c.loop-i-test.true),
+    omega (
+      arith,
+      c.loop-i.invariant.0,
+      c.count_one-c.ensures,
+      cond-le (picks Giving (get_or c.args.floats.now (c.args.zone.e + get_or c.args.words.now (c.args.zone.first + c.loop-i.i) 0 + get_or c.args.words.now (c.args.zone.first + c.loop-i.i) 0) nan)) c.loop-i.c,
+    ),
+  ),
+  sym (count_next c.requires.nodes _ _ c.loop-i-test.true _ c.count_one-c.ensures) ∙ c.loop-i.invariant.1,
+)
 
 pub returns : goal.returns
 returns c = sym (count-end c.requires.nodes _ _ c.loop-i-test.false) ∙ c.loop-i.invariant.1

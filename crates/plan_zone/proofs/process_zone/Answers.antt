@@ -8,22 +8,28 @@ use Rattle.plan_zone.proofs.process_zone.Goals as goal
 pub fast_pass-requires : goal.fast_pass-requires
 fast_pass-requires c =
     let deltas = c.all_deltas in
-    record { planning = record {
+    record {
+      planning = record {
         sized = c.requires.planning.sized;
         fit = deltas.ensures.fit;
         zone = c.requires.planning.zone;
         reverses = reverses-kept c.requires.planning.reverses (does-frame deltas.ensures);
-      }; nodes = nodes-kept c.requires.nodes (does-frame deltas.ensures) deltas.auto.words }
+      };
+      nodes = nodes-kept c.requires.nodes (does-frame deltas.ensures) deltas.auto.words;
+    }
 
 pub share_out-requires : goal.share_out-requires
 share_out-requires c =
     let all-deltas = c.all_deltas in
-    let fast-pass = c.fast_pass in record { planning = record {
+    let fast-pass = c.fast_pass in record {
+      planning = record {
         sized = c.requires.planning.sized;
         fit = fast-pass.ensures.fit;
         zone = c.requires.planning.zone;
         reverses = reverses-kept (reverses-kept c.requires.planning.reverses (does-frame all-deltas.ensures)) (does-frame fast-pass.ensures);
-      }; nodes = nodes-kept (nodes-kept c.requires.nodes (does-frame all-deltas.ensures) all-deltas.auto.words) (does-frame fast-pass.ensures) fast-pass.auto.words }
+      };
+      nodes = nodes-kept (nodes-kept c.requires.nodes (does-frame all-deltas.ensures) all-deltas.auto.words) (does-frame fast-pass.ensures) fast-pass.auto.words;
+    }
 
 pub returns : goal.returns
 returns c =

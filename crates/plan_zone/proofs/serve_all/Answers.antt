@@ -28,12 +28,15 @@ overflow_cast-g c =
 
 pub serve-requires : goal.serve-requires
 serve-requires c =
-    record { planning = record {
+    record {
+      planning = record {
         sized = c.requires.planning.sized;
         fit = c.loop-i.invariant.1.fit;
         zone = c.requires.planning.zone;
         reverses = reverses-kept c.requires.planning.reverses c.loop-i.invariant.1.frame;
-      }; g_lt_n = list-below c.requires.listed_le_n c.requires.below c.loop-i.invariant.1 _ c.list_at-list.ensures _ c.loop-i-test.true }
+      };
+      g_lt_n = list-below c.requires.listed_le_n c.requires.below c.loop-i.invariant.1 _ c.list_at-list.ensures _ c.loop-i-test.true;
+    }
 
 pub overflow_add-i : goal.overflow_add-i
 overflow_add-i c = omega (arith, c.loop-i-test.true, c.requires.listed_le_n, c.requires.planning.fit.turfs)

@@ -11,12 +11,16 @@ overflow_sub-count c = givers_le _ c.requires.nodes c.count_givers-givers.ensure
 pub serve_all-requires : goal.serve_all-requires
 serve_all-requires c =
     let gather = c.gather-listed in
-    record { planning = record {
+    record {
+      planning = record {
         sized = c.requires.planning.sized;
         fit = gather.ensures.fit;
         zone = c.requires.planning.zone;
         reverses = reverses-kept c.requires.planning.reverses gather.ensures.frame;
-      }; listed_le_n = gather.ensures.few; below = chosen-below _ _ c.requires.nodes gather.ensures }
+      };
+      listed_le_n = gather.ensures.few;
+      below = chosen-below _ _ c.requires.nodes gather.ensures;
+    }
 
 pub returns : goal.returns
 returns c =

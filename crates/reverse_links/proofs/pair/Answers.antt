@@ -106,17 +106,23 @@ overflow_sub-to c =
 
 pub returns-then-to-from : goal.returns-then-to-from
 returns-then-to-from c =
-    record { but = but_none; paired_2 = paired_same c.requires.pairing.linked _ _ _ _ c.requires.of_row.row c.requires.of_row.link (λ s. absurd (omega (arith, s, c.if-to-from.true, c.requires.of_row.links)))
-          c.requires.paired }
+    record {
+      but = but_none;
+      paired_2 = paired_same c.requires.pairing.linked _ _ _ _ c.requires.of_row.row c.requires.of_row.link (λ s. absurd (omega (arith, s, c.if-to-from.true, c.requires.of_row.links)))
+          c.requires.paired;
+    }
 
 pub look_back-p-requires : goal.look_back-p-requires
 look_back-p-requires c =
-    record { to_in_bounds = c.requires.pairing.linked.within (get_or c.args.neighbours.now c.args.k 0) (end_below c.requires.pairing.linked _ _ c.requires.of_row.row c.requires.of_row.link); to_bound = omega (
+    record {
+      to_in_bounds = c.requires.pairing.linked.within (get_or c.args.neighbours.now c.args.k 0) (end_below c.requires.pairing.linked _ _ c.requires.of_row.row c.requires.of_row.link);
+      to_bound = omega (
         arith,
         c.requires.pairing.linked.within (get_or c.args.neighbours.now c.args.k 0) (end_below c.requires.pairing.linked _ _ c.requires.of_row.row
             c.requires.of_row.link),
         c.requires.pairing,
-      ) }
+      );
+    }
 
 pub returns-then-p-eq0 : goal.returns-then-p-eq0
 returns-then-p-eq0 c =
