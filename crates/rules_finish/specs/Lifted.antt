@@ -9,6 +9,7 @@ use Rattle.rules_board.specs.Board.{Board, turf_count, end}
 use Rattle.rules_mixture.specs.Mixture.{total}
 use Rattle.rules_plan.specs.Edges.{edges_of}
 use Rattle.rules_finish.specs.Finish.{Done, zero_lifted, send}
+use Rattle.rules_finish.specs.Worked as worked  -- checked before what builds on it
 
 -- above 0
 abbrev pub above : Float → Bool
