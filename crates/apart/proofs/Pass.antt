@@ -16,7 +16,8 @@ use Rattle.basics.proofs.Loops.{All-imp, All-get_or}
 use Rattle.basics.proofs.Lists.{map-append, member-front, member-last, member-map, members, or_cases, all-every, up_from-below}
 use Rattle.basics.proofs.Tests.{differ, every-up_at}
 use Rattle.rules_board.specs.Board.{Board, turf_count, link_count, mixture_count, mix_of, immutable_mix}
-use Rattle.turfs.specs.Tables.{Slices, board_of}
+use Rattle.turfs.specs.declared.LentTables.{LentTables}
+use Rattle.turfs.specs.Tables.{board_of}
 use Rattle.reverse_links.specs.Words.{But}
 use Rattle.reverse_links.proofs.Places.{but_set, but_then}
 use Rattle.rules_finish.specs.Turns.{Zone, zone_at, nodes_at}
@@ -61,21 +62,6 @@ module _ (f : ℕ → ℕ) (l : List ℕ) (i : ℕ) (h : i < length l) where
   has_whole = member-map f (get_or l i 0) l (All-get_or (λ x. T (member x l)) l i 0 (members l) h)
 
 -- ---- one node
-
-not_zero : (x : ℕ) → x ≢ 0 → not (eqb x 0) ≡ true
-not_zero zero n = absurd (n refl)
-not_zero (suc x) n = ap not (eqb-suc-zero x)
-
--- x is the mixture's byte: nonzero, it is immutable
-module _ (x p z : ℕ) (w : List ℕ) where
-  pub marked-fixed : x ≢ 0 → Marked (not (eqb x 0)) p z true w w
-  marked-fixed n = record { fixed = λ q. (refl, refl); new = λ q. absurd (differ (sym (not_zero x n) ∙ q)); marked = λ q. absurd (differ (sym (not_zero x n) ∙ q)) }
-
-  pub marked-old : x ≡ 0 → get_or w p 0 ≢ 0 → Marked (not (eqb x 0)) p z (eqb (get_or w p 0) (z + 1)) w w
-  marked-old e n = record { fixed = λ q. absurd (differ (sym q ∙ rw e)); new = λ q o. absurd (n o); marked = λ q o. (refl, refl) }
-
-  pub marked-new : x ≡ 0 → get_or w p 0 ≡ 0 → Marked (not (eqb x 0)) p z true w (set w p (z + 1))
-  marked-new e o = record { fixed = λ q. absurd (differ (sym q ∙ rw e)); new = λ q r. (refl, refl); marked = λ q n. absurd (n o) }
 
 -- ---- the marks
 
@@ -350,9 +336,6 @@ module _ {n zones first base at : ℕ} {hi : ℕ} {w₀ w : List ℕ} (h : Zones
   pub end_before : base + get_or w (first + z + 1) 0 ≤ at
   end_before = rw end-now (h.end z l)
 
-  pub start-before : base + get_or w (first + z) 0 ≤ at
-  start-before = omega (arith, h.end z l, h.rise z l, start-now)
-
   pub rows-now : (j : ℕ) → base + get_or w (first + z) 0 ≤ j → j < base + get_or w (first + z + 1) 0 → get_or w j 0 < n
   rows-now j a b =
       rw (k.same j (inl (omega (arith, end_before)))) (h.rows z j l (omega (arith, start-now)) (omega (arith, end-now)))
@@ -387,15 +370,15 @@ module _ {n zones first base at hi : ℕ} {w₀ w : List ℕ} (h : ZonesLaid n z
   tells_after {b} q t = record { words = but_then (omega arith) (omega arith) (subst (λ (x : ℕ). But at x w₀ w) q k) t.words; answer = λ zs e s. t.answer zs e (stands-kept zs e s) }
 
 -- the number of gases is read nowhere
-pub fits-gases : (rows marks : Slices) (gases : ℕ) {zones : ℕ} {w : List ℕ} → ApartFits (board_of rows marks gases) zones w → ApartFits (board_of rows marks 0) zones w
-fits-gases rows marks gases f =
+pub fits-gases : (tables : LentTables) (gases : ℕ) {zones : ℕ} {w : List ℕ} → ApartFits (board_of tables gases) zones w → ApartFits (board_of tables 0) zones w
+fits-gases tables gases f =
     let p = f.pass in
     record { sizes = f.sizes; pass = record { turfs = p.turfs; few = p.few; room = p.room; mixtures = p.mixtures; mixed = p.mixed }; laid = f.laid }
 
-pub tells_gases : (rows marks : Slices) (gases : ℕ) {zones first base at : ℕ} {r : Bool} {w w' : List ℕ} → ApartTells (board_of rows marks 0) zones first base at r w w'
-    → ApartTells (board_of rows marks gases) zones first base at r w w'
+pub tells_gases : (tables : LentTables) (gases : ℕ) {zones first base at : ℕ} {r : Bool} {w w' : List ℕ} → ApartTells (board_of tables 0) zones first base at r w w'
+    → ApartTells (board_of tables gases) zones first base at r w w'
 unfolding apart has_mix
-tells_gases rows marks gases t = record { words = t.words; answer = t.answer }
+tells_gases tables gases t = record { words = t.words; answer = t.answer }
 
 -- ---- the whole pass
 

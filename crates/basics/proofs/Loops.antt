@@ -12,8 +12,7 @@ use lib.ListN.{length, get_or, set, take, drop, drop_of_length-le}
 use lib.Seq.{drop-cons, take-suc}
 use Rattle.basics.specs.Lists.{All, Found}
 use Rattle.basics.specs.Loops.{run, times, cons_if, keep, every, all_of, up_from, first, at_or, snoc}
-use Rattle.basics.specs.declared.Spot.{Spot}
-use Rattle.basics.specs.declared.Spot.TheVariants.{At, Nowhere}
+use Rattle.std.specs.Prelude.{Option, Some, None}
 
 pub All-map : {A B : Type 0} (P : B → Type 0) (f : A → B) (xs : List A) → All (λ x. P (f x)) xs → All P (map f xs)
 All-map P f [] h = tt
@@ -101,7 +100,7 @@ module _ {A : Type 0} where
   map-like f g [] h = refl
   map-like f g (x ∷ xs) h = λ i. h.0 i ∷ map-like f g xs h.1 i
 
-at_or-found : (P : ℕ → Type 0) (t : Bool) (x : ℕ) (o : Spot) → P x → Found P o → Found P (at_or t x o)
+at_or-found : (P : ℕ → Type 0) (t : Bool) (x : ℕ) (o : Option ℕ) → P x → Found P o → Found P (at_or t x o)
 at_or-found P true x o a f = a
 at_or-found P false x o a f = f
 
@@ -169,7 +168,7 @@ run-keep p f (x ∷ xs) s = go (p x) (λ t. run-keep p f xs t)
     go false ih = ih s
 
 -- a search up from i to e: found here, or on from the next; nothing at the end
-pub first-here : (p : ℕ → Bool) (i e : ℕ) → i < e → p i ≡ true → first p (up_from i (e - i)) ≡ At i
+pub first-here : (p : ℕ → Bool) (i e : ℕ) → i < e → p i ≡ true → first p (up_from i (e - i)) ≡ Some i
 unfolding first up_from
 first-here p i e h t = let k : e - i ≡ suc (e - (i + 1)) = omega arith in ap (λ (n : ℕ). first p (up_from i n)) k ∙ rw t
 
@@ -179,7 +178,7 @@ first_on p i e h t =
     let k : e - i ≡ suc (e - (i + 1)) = omega arith in
     sym (ap (λ (n : ℕ). first p (up_from i n)) k ∙ rw t (ap (λ (j : ℕ). first p (up_from j (e - (i + 1)))) (sym (add-one i))))
 
-pub first-end : (p : ℕ → Bool) (i e : ℕ) → e ≤ i → first p (up_from i (e - i)) ≡ Nowhere
+pub first-end : (p : ℕ → Bool) (i e : ℕ) → e ≤ i → first p (up_from i (e - i)) ≡ None
 unfolding first up_from
 first-end p i e h = let k : e - i ≡ 0 = omega arith in ap (λ (n : ℕ). first p (up_from i n)) k
 

@@ -19,10 +19,6 @@ module _ {A : Type 0} where
   fill_suc zero v (x ∷ d) l = refl
   fill_suc (suc n) v (x ∷ d) l = ap (λ (t : List A). v ∷ t) (fill_suc n v d (le_of_suc-le-suc l))
 
-  -- the store at n of a list whose first n are v
-  pub fill-next : (n : ℕ) (v : A) (d : List A) → n < length d → set (replicate n v ++ drop n d) n v ≡ replicate (n + 1) v ++ drop (n + 1) d
-  fill-next n v d l = subst (λ (k : ℕ). set (replicate n v ++ drop n d) n v ≡ replicate k v ++ drop k d) (sym (add-one n)) (fill_suc n v d l)
-
   set-append_add : (xs ys : List A) (i : ℕ) (a : A) → set (xs ++ ys) (length xs + i) a ≡ xs ++ set ys i a
   set-append_add [] ys i a = rw (zero-add i)
   set-append_add (x ∷ xs) ys i a = rw (suc-add (length xs) i) (ap (λ (r : List A). x ∷ r) (set-append_add xs ys i a))

@@ -7,6 +7,10 @@ use mathlib.Core.Path.{◌≡◌, refl, ap, ◌∙◌, sym, subst}
 use mathlib.Core.List.{List, [], ◌∷◌}
 use mathlib.Core.Bool.{Bool, true, false, not, ◌&&◌, and-false}
 use lib.Dec.{T}
+use Rattle.std.specs.List.{list_all, AllPass}
+use Rattle.std.specs.Bool.{IsTrue}
+use Rattle.std.specs.Prelude.{◌↔◌}
+use Rattle.std.proofs.lemmas.List.Sums.{AllPass-from_list_all, list_all-from_AllPass}
 use lib.ListN.{length, get_or, drop, drop_of_length-le}
 use lib.Seq.{drop-cons}
 use borrow.Author.Tests.{not-true, not-false}
@@ -24,25 +28,26 @@ both false b e = absurd (differ (sym e))
 pub not_of : (t : Bool) → t ≡ false → T (not t)
 not_of t e = subst (λ (s : Bool). T (not s)) (sym e) tt
 
-module _ {A : Type 0} (test : A → Bool) (l : List A) (d : A) (i : ℕ) where
-  module _ (h : i < length l) where
-    pub every-next : test (get_or l i d) ≡ true → every test (drop i l) ≡ every test (drop (i + 1) l)
-    unfolding every
-    every-next t = rw (drop-cons l i d h, t, add-one)
-
-    pub every-fails : test (get_or l i d) ≡ false → every test (drop i l) ≡ false
-    unfolding every
-    every-fails t = rw (drop-cons l i d h, t)
-
-  pub every-end : length l ≤ i → every test (drop i l) ≡ true
-  unfolding every
-  every-end h = rw (drop_of_length-le l h)
-
 pub every-at : {A : Type 0} (test : A → Bool) (l : List A) (d : A) (i : ℕ) → every test l ≡ true → i < length l → test (get_or l i d) ≡ true
 unfolding every
 every-at test [] d i e h = absurd (not-suc-le-zero h)
 every-at test (x ∷ l) d zero e h = (both (test x) (every test l) e).0
 every-at test (x ∷ l) d (suc i) e h = every-at test l d i (both (test x) (every test l) e).1 (le_of_suc-le-suc h)
+
+-- a chain ends in `all`: the library's word for what it answers is the same test
+pub every-list_all : {A : Type 0} (test : A → Bool) (l : List A) → every test l ≡ list_all test l
+unfolding every
+every-list_all test [] = refl
+every-list_all test (x ∷ l) = ap (λ (b : Bool). test x && b) (every-list_all test l)
+
+-- a loop or a chain whose answer says whether all pass
+pub every-each : {A : Type 0} (test : A → Bool) (l : List A) (r : Bool) → IsTrue r ↔ AllPass test l → r ≡ every test l
+every-each test l true e = sym (every-list_all test l ∙ list_all-from_AllPass test l (e.0 refl))
+every-each test l false e = go (list_all test l) refl
+  where
+    go : (t : Bool) → list_all test l ≡ t → false ≡ every test l
+    go true h = absurd (differ (sym (e.1 (AllPass-from_list_all test l h))))
+    go false h = sym (every-list_all test l ∙ h)
 
 -- over the numbers from i up to e
 module _ (test : ℕ → Bool) (i e : ℕ) where
@@ -87,14 +92,6 @@ unfolding all_of
 last-is [] true e = refl
 last-is [] false e = refl
 last-is (u ∷ l) t e = rw (both u (all_of l) e).0 (last-is l t (both u (all_of l) e).1)
-
-pub all_none : all_of [] ≡ true
-unfolding all_of
-all_none = refl
-
-pub all_hold : (t : Bool) (l : List Bool) → t ≡ true → all_of l ≡ true → all_of (t ∷ l) ≡ true
-unfolding all_of
-all_hold t l e h = rw e h
 
 -- what the answer of a test says of its definition
 pub yes : {r : Bool} (t : Bool) → r ≡ t → not r ≡ false → t ≡ true

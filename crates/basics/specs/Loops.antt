@@ -1,9 +1,7 @@
 -- Loops and searches. A loop of the definitions is one of two: `run f xs s`, a step for each element of a list, and `times f n s`, a step n times.
 -- A loop that ends early is the same loop with a step that changes nothing from there on.
 -- `if` computes both branches, so no branch of a definition holds a call of the definition itself.
-use Rattle.std.specs.Prelude.{List, [], ◌∷◌, ◌++◌, Bool, true, false, ◌&&◌, ◌||◌, ℕ, zero, suc, eqb}
-use Rattle.basics.specs.declared.Spot.{Spot}
-use Rattle.basics.specs.declared.Spot.TheVariants.{At, Nowhere}
+use Rattle.std.specs.Prelude.{List, [], ◌∷◌, ◌++◌, Bool, true, false, ◌&&◌, ◌||◌, ℕ, zero, suc, eqb, Option, Some, None}
 
 module _ {A S : Type 0} where
   -- for x in xs { s = f(x, s) }
@@ -53,13 +51,13 @@ member x [] = false
 member x (y ∷ ys) = eqb x y || member x ys
 
 -- found here, or what the rest of the search answers
-abbrev pub at_or : Bool → ℕ → Spot → Spot
-at_or true x o = At x
+abbrev pub at_or : Bool → ℕ → Option ℕ → Option ℕ
+at_or true x o = Some x
 at_or false x o = o
 
 -- the first element that passes, as a search answers it
-unfoldable pub first : (ℕ → Bool) → List ℕ → Spot
-first p [] = Nowhere
+unfoldable pub first : (ℕ → Bool) → List ℕ → Option ℕ
+first p [] = None
 first p (x ∷ xs) = at_or (p x) x (first p xs)
 
 -- the two lists are equal, number by number

@@ -10,8 +10,7 @@ use lib.Ieee.{Float}
 use borrow.Author.Tests.{eq-eqb, ne_eqb}
 use Rattle.basics.specs.Floats.{0f}
 use Rattle.basics.specs.Regions.{region}
-use Rattle.basics.specs.declared.Spot.{Spot}
-use Rattle.basics.specs.declared.Spot.TheVariants.{At, Nowhere}
+use Rattle.std.specs.Prelude.{Option, Some, None, Ok, Err}
 use Rattle.basics.specs.Lists.{Found}
 use Rattle.basics.proofs.Regions.{cut-length, later_same}
 use Rattle.rules_board.specs.Board.{Board, turf_count, link_count, immutable, links_of, row_of}
@@ -25,6 +24,9 @@ use Rattle.rules_lent.specs.Lent.{Lent, Extra, no_extra, words_room, floats_room
 use Rattle.lent_room.specs.Areas.{cleared_first, Roomy}
 use Rattle.lent.specs.Given.{lent, Given, Tests}
 use Rattle.lent.specs.declared.ExtraTests.{ExtraTests}
+use Rattle.lent.specs.Given.{number_of}
+use Rattle.lent.specs.declared.Refusal.{Refusal}
+use Rattle.lent.proofs.Told.{number-some}
 use Rattle.lent.proofs.Numbers.{bare, given, no_links, scratch_of}
 use Rattle.lent.proofs.Passed.{passed}
 use Rattle.scratch.specs.Layout.{out_sizes, back_sizes, walk_room, out_room, back_room}
@@ -45,7 +47,10 @@ use Rattle.walk_back.proofs.Signs.{fits-every}
 use Rattle.rules_depressurize.specs.declared.Breach.{Breach}
 use Rattle.rules_depressurize.specs.Depressurize.{Depressurized, way_back, from_walk, from_row, depressurize, depressurize_number, depressurize_done, depressurize_result}
 use Rattle.call_depressurize.specs.Ended.{WalkHeld, Ended, Depressed}
-use Rattle.call_depressurize.specs.declared.Outcome.{Outcome}
+use Rattle.call_answers.specs.declared.Outcome.TheVariants.{NoSpace, Planet, Emptied}
+use Rattle.call_answers.specs.declared.Outcome.{Outcome}
+use Rattle.call_answers.specs.Told.{outcome_number, depressurize_answer}
+use Rattle.call_depressurize.specs.declared.Ending.{Ending}
 use Rattle.laws_depressurize.proofs.Room.{space-walk, depressurize-room}
 
 -- the areas that a call is lent
@@ -82,24 +87,24 @@ module _ (b : Board) (s : Reach) (gas : List Float) (e w : List ℕ) (f : List F
 
   module _ (v : Breach) where
     -- nothing more is done
-    stays : (o : ℕ) → ((es : List Event) → record { outcome = o; gas = gas; events = es } ≡ from_walk b gas v (walk_of n (walks.walk_at s w e) es))
+    stays : (o : Outcome) → ((es : List Event) → record { outcome = outcome_number o; gas = gas; events = es } ≡ from_walk b gas v (walk_of n (walks.walk_at s w e) es))
         → Ended b v s (record { outcome = o; used = s.used }) (back_areas gas w f e) (back_areas gas w f e)
     stays o same = record {
       words = refl;
       floats = refl;
       new = [];
       wrote = none-wrote s.used e (written-room n (walks.walk_at s w e) h.fit);
-      same = λ es. ap (λ (fs : List Event). record { outcome = o; gas = gas; events = fs }) (append-nil es) ∙ same es;
+      same = λ es. ap (λ (fs : List Event). record { outcome = outcome_number o; gas = gas; events = fs }) (append-nil es) ∙ same es;
     }
 
-    pub ended-planet : s.planet ≡ true → Ended b v s (record { outcome = 1; used = s.used }) (back_areas gas w f e) (back_areas gas w f e)
+    pub ended-planet : s.planet ≡ true → Ended b v s (record { outcome = Planet; used = s.used }) (back_areas gas w f e) (back_areas gas w f e)
     unfolding from_walk walk_of
-    ended-planet p = stays 1 (λ es. rw p)
+    ended-planet p = stays Planet (λ es. rw p)
 
     module _ (p : s.planet ≡ false) where
-      pub ended-none : s.spaces ≡ 0 → Ended b v s (record { outcome = 0; used = s.used }) (back_areas gas w f e) (back_areas gas w f e)
+      pub ended-none : s.spaces ≡ 0 → Ended b v s (record { outcome = NoSpace; used = s.used }) (back_areas gas w f e) (back_areas gas w f e)
       unfolding from_walk walk_of
-      ended-none z = stays 0 (λ es. rw (p, eq-eqb (length space) 0 (space-length ∙ z)))
+      ended-none z = stays NoSpace (λ es. rw (p, eq-eqb (length space) 0 (space-length ∙ z)))
 
       module _ (z : s.spaces ≡ 0 → ⊥) (g : Front) (e₁ w₁ : List ℕ) (o : Outed (bare b) v.limit s.spaces s.used g w w₁ e e₁) where
         pub back_fits : BackStarts b g.count g.used (back_areas gas w₁ f e₁)
@@ -130,7 +135,7 @@ module _ (b : Board) (s : Reach) (gas : List Float) (e w : List ℕ) (f : List F
           unfolding from_walk walk_of
           from es = rw (p, ne_eqb (length space) 0 (λ x. z (sym space-length ∙ x)))
 
-          pub ended-done : Ended b v s (record { outcome = 2; used = to }) (back_areas gas w f e) (back_areas gas' w₂ f₂ e₂)
+          pub ended-done : Ended b v s (record { outcome = Emptied; used = to }) (back_areas gas w f e) (back_areas gas' w₂ f₂ e₂)
           ended-done = record {
             words = k.words ∙ o.beyond;
             floats = k.floats;
@@ -159,7 +164,7 @@ module _ (b : Board) (l : Lent) (z : refusal b l (84 * turf_count b) no_extra �
       }
 
   module _ (v : Breach) where
-    pub no_turf : (o : Spot) → o ≡ row_of b v.id → o ≡ Nowhere → Depressed b v (record { outcome = 0; used = 0 }) (areas_of l) (areas_of l)
+    pub no_turf : (o : Option ℕ) → o ≡ row_of b v.id → o ≡ None → Depressed b v (record { outcome = NoSpace; used = 0 }) (areas_of l) (areas_of l)
     unfolding depressurize from_row
     no_turf o r q = record {
       words = refl;
@@ -169,7 +174,7 @@ module _ (b : Board) (l : Lent) (z : refusal b l (84 * turf_count b) no_extra �
       same = rw (← r, q);
     }
 
-    module _ (o : Spot) (r : o ≡ row_of b v.id) (row : ℕ) (q : o ≡ At row) where
+    module _ (o : Option ℕ) (r : o ≡ row_of b v.id) (row : ℕ) (q : o ≡ Some row) where
       pub turf-row : row < m
       turf-row = subst (Found (λ r. r < m)) (sym r ∙ q) (row_below b v.id)
 
@@ -197,7 +202,7 @@ module _ (b : Board) (l : Lent) (z : refusal b l (84 * turf_count b) no_extra �
               apart = all_apart _ line.apart;
             }
 
-        pub from-turf : (g : Outcome) (gas' : List Float) (e₂ w₂ : List ℕ) (f₂ : List Float) → Ended b v s g (back_areas l.gas w₁ l.floats e₁) (back_areas gas' w₂ f₂ e₂)
+        pub from-turf : (g : Ending) (gas' : List Float) (e₂ w₂ : List ℕ) (f₂ : List Float) → Ended b v s g (back_areas l.gas w₁ l.floats e₁) (back_areas gas' w₂ f₂ e₂)
             → Depressed b v g (areas_of l) (back_areas gas' w₂ f₂ e₂)
         from-turf g gas' e₂ w₂ f₂ k = record {
           words = k.words ∙ ap (λ (x : List ℕ). drop m (drop m x)) d.beyond;
@@ -216,9 +221,9 @@ module _ (b : Board) (v : Breach) (l : Lent) (t : ExtraTests) (number : ℕ) (q 
   number_is : number ≡ refusal b l (84 * turf_count b) no_extra
   number_is = r no_extra q ∙ rw (no_links (link_count b) (84 * turf_count b))
 
-  pub refused : (number ≡ 0 → ⊥) → record { answer = record { number = number; outcome = 0; bytes = 0 }; lent = l } ≡ depressurize_result b v l
+  pub refused : (f : Refusal) → number ≡ number_of f → record { answer = depressurize_answer (Err f); lent = l } ≡ depressurize_result b v l
   unfolding depressurize_result depressurize_number
-  refused z = rw (← number_is, ne_eqb number 0 z)
+  refused f e = rw (← number_is, e, ne_eqb (number_of f) 0 (number-some f))
 
   module _ (z : number ≡ 0) where
     pub is_zero : refusal b l (84 * turf_count b) no_extra ≡ 0
@@ -231,7 +236,7 @@ module _ (b : Board) (v : Breach) (l : Lent) (t : ExtraTests) (number : ℕ) (q 
     pub roomy : (w₁ : List ℕ) (f₁ : List Float) → length w₁ ≡ length l.words → length f₁ ≡ length l.floats → Roomy (bare b) w₁ f₁
     roomy w₁ f₁ c k = let s = scratch_of b l (84 * turf_count b) given-all in record { small = s.small; words = rw c s.words; floats = rw k s.floats }
 
-    module _ (g : Outcome) (gas' : List Float) (e' w₁ : List ℕ) (f₁ : List Float) (d : Depressed b v g (areas_of l) (back_areas gas' w₁ f₁ e')) where
+    module _ (g : Ending) (gas' : List Float) (e' w₁ : List ℕ) (f₁ : List Float) (d : Depressed b v g (areas_of l) (back_areas gas' w₁ f₁ e')) where
       bytes-is : g.used ≡ size (depressurize b l.gas v).events
       bytes-is = d.wrote.end ∙ omega (arith, ap (λ (o : Depressurized). size o.events) d.same)
 
@@ -240,7 +245,7 @@ module _ (b : Board) (v : Breach) (l : Lent) (t : ExtraTests) (number : ℕ) (q 
 
       pub answered : (w' : List ℕ) (f' : List Float)
           → w' ≡ cleared_first 0 (words_room (bare b)) w₁ → f' ≡ cleared_first 0f (floats_room (bare b)) f₁
-          → record { answer = record { number = 0; outcome = g.outcome; bytes = g.used }; lent = lent gas' e' w' f' } ≡ depressurize_result b v l
+          → record { answer = depressurize_answer (Ok (record { outcome = g.outcome; bytes = g.used })); lent = lent gas' e' w' f' } ≡ depressurize_result b v l
       unfolding depressurize_result depressurize_number depressurize_done after words_room floats_room
       answered w' f' c k =
           let n = turf_count b in

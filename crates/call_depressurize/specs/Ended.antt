@@ -15,7 +15,8 @@ use Rattle.walk_links.specs.declared.Reach.{Reach}
 use Rattle.walk_back.specs.Backed.{not_negative, BackAreas}
 use Rattle.rules_depressurize.specs.declared.Breach.{Breach}
 use Rattle.rules_depressurize.specs.Depressurize.{from_walk, depressurize}
-use Rattle.call_depressurize.specs.declared.Outcome.{Outcome}
+use Rattle.call_answers.specs.Told.{outcome_number}
+use Rattle.call_depressurize.specs.declared.Ending.{Ending}
 
 -- the areas hold the first walk, and have room for the rest
 pub record WalkHeld (b : Board) (s : Reach) (a : BackAreas) : Type 0 where
@@ -30,18 +31,18 @@ pub record WalkHeld (b : Board) (s : Reach) (a : BackAreas) : Type 0 where
   pub apart : Apart (take s.spaces (region (out_sizes (turf_count b)) 2 a.words))
 
 -- from the first walk on, from a to a'
-pub record Ended (b : Board) (q : Breach) (s : Reach) (r : Outcome) (a a' : BackAreas) : Type 0 where
+pub record Ended (b : Board) (q : Breach) (s : Reach) (r : Ending) (a a' : BackAreas) : Type 0 where
   pub words : region (out_sizes (turf_count b)) 5 a'.words ≡ region (out_sizes (turf_count b)) 5 a.words
   pub floats : region (back_sizes (turf_count b)) 2 a'.floats ≡ region (back_sizes (turf_count b)) 2 a.floats
   pub new : List Event
   pub wrote : Wrote (encode_all new) s.used r.used a.area a'.area
   pub same : (es : List Event) →
-      record { outcome = r.outcome; gas = a'.gas; events = es ++ new } ≡ from_walk b a.gas q (walk_of (turf_count b) (walks.walk_at s a.words a.area) es)
+      record { outcome = outcome_number r.outcome; gas = a'.gas; events = es ++ new } ≡ from_walk b a.gas q (walk_of (turf_count b) (walks.walk_at s a.words a.area) es)
 
 -- as asked, from a to a'
-pub record Depressed (b : Board) (q : Breach) (r : Outcome) (a a' : BackAreas) : Type 0 where
+pub record Depressed (b : Board) (q : Breach) (r : Ending) (a a' : BackAreas) : Type 0 where
   pub words : region (out_sizes (turf_count b)) 5 a'.words ≡ region (out_sizes (turf_count b)) 5 a.words
   pub floats : region (back_sizes (turf_count b)) 2 a'.floats ≡ region (back_sizes (turf_count b)) 2 a.floats
   pub events : List Event
   pub wrote : Wrote (encode_all events) 0 r.used a.area a'.area
-  pub same : record { outcome = r.outcome; gas = a'.gas; events = events } ≡ depressurize b a.gas q
+  pub same : record { outcome = outcome_number r.outcome; gas = a'.gas; events = events } ≡ depressurize b a.gas q

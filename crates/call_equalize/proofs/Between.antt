@@ -3,7 +3,7 @@ use Prim.Native.Nat.{ℕ, suc, ◌+◌, ◌-◌, ◌*◌, ◌≤◌, ◌<◌}
 use native.Mathlib.Omega.{arith}
 use mathlib.Core.Path.{◌≡◌, refl, ap, ◌∙◌, sym, subst}
 use mathlib.Core.Logic.{inl, inr}
-use mathlib.Core.Bool.{Bool}
+use mathlib.Core.Bool.{Bool, false}
 use mathlib.Core.List.{List, [], ◌∷◌}
 use lib.Dec.{T}
 use lib.Ieee.{Float}
@@ -17,14 +17,13 @@ use Rattle.basics.proofs.Parts.{part-alike, drop-alike, drop-later}
 use Rattle.rules_board.specs.Board.{Board, turf_count, link_count, mixture_count}
 use Rattle.rules_board.specs.Refuse.{links_fit}
 use Rattle.turfs.specs.Tables.{Accepted}
-use Rattle.events.proofs.Sizes.{size}
 use Rattle.rules_lent.specs.Lent.{Lent, words_room, floats_room}
 use Rattle.lent.proofs.Numbers.{bare}
 use Rattle.rules_plan.specs.Plan.{Plan}
 use Rattle.reverse_links.specs.Reverse.{Linked, Reverses}
 use Rattle.reverse_links.specs.Words.{But}
 use Rattle.reverse_links.proofs.Accepted.{linked}
-use Rattle.plan_state.specs.Held.{area, plan_view}
+use Rattle.plan_state.specs.Held.{plan_view}
 use Rattle.plan_all.specs.Zones.{Plannable, Zoned, PlansAll}
 use Rattle.plan_all.proofs.Asked as asked
 use Rattle.plan_all.proofs.Calls.{planned-filled}
@@ -39,7 +38,6 @@ use Rattle.scratch.specs.View.{reverse_in, owner_in}
 use Rattle.finish_send.specs.Areas.{finish_areas, floats_of, others, weight_on}
 use Rattle.finish_send.proofs.Shown.{holds_written}
 use Rattle.finish_zones.specs.Zones.{start_of, zone_nodes}
-use Rattle.finish_zones.specs.Zones as words
 use Rattle.finish_turns.specs.Turning.{Same, Planned, FinishesAll}
 use Rattle.finish_turns.proofs.Whole.{Ends, finished}
 use Rattle.rules_equalize.specs.Equalize.{Ask, filled_all, planned_all, planned, played, apart, bit}
@@ -261,15 +259,14 @@ module _ (b : Board) (q : Ask) (l₀ l : Lent) (s : Filling) (d : CallFills b q 
             ∙ drop-later (lifted_at n e) m f₁ l.floats (omega arith) p.floats.1
             ∙ later_same (float_sizes n e) m l₀.floats l.floats (omega arith) (ap (λ (v : FilledView). v.around.rest_r) D.same)
 
-        pub comes-played : (r : Bool) → ApartTells b s.zones (starts_at n e) (zone_nodes_at n e) marks r w₁ w₂ → (mark : ℕ) → mark ≡ bit r
-            → Comes b (played b l₀.gas q turns (filled_all b l₀.gas q)) (record { cancelled = 0; processed = s.nodes; tests = s.tests + 2; zones = s.zones; apart = mark; used = used }) l₀ (record { gas = g₃; area = a₃; words = w₃; floats = f₃ })
+        pub comes-played : (r : Bool) → ApartTells b s.zones (starts_at n e) (zone_nodes_at n e) marks r w₁ w₂ → Comes b (played b l₀.gas q turns (filled_all b l₀.gas q)) (record { cancelled = false; processed = s.nodes; tests = s.tests + 2; zones = s.zones; apart = r; used = used }) l₀ (record { gas = g₃; area = a₃; words = w₃; floats = f₃ })
         unfolding played
-        comes-played r o mark m = record {
+        comes-played r o = record {
           cancelled = refl;
           processed = processed-is;
           tests = ap (λ (x : ℕ). x + 2) (tests-are D);
           zones = sym (zones-count D);
-          apart = m ∙ ap bit (apart-is o);
+          apart = ap bit (apart-is o);
           gas = ended.gas;
           events = ended.events;
           words = words-rest;
@@ -297,10 +294,10 @@ module _ {b : Board} {s : Filling} {l : Lent} (x : CallFilled b s l) where
       finish-fits = finish-asks b x.asked x.lent l s x.fills x.board x.links x.area x.words x.floats w₁ f₁ p w₂ t.words
 
       pub played-comes : (turns w₃ : List ℕ) (g₃ f₃ : List Float) (a₃ : List ℕ) (used : ℕ) → FinishesAll b s.zones turns w₂ w₃ (finish_areas l.gas f₁ l.area s.used) (finish_areas g₃ f₃ a₃ used)
-          → (mark : ℕ) → mark ≡ bit r → (q : Ask) (l₀ : Lent) → CallFills b q s l₀ l
-          → Comes b (played b l₀.gas q turns (filled_all b l₀.gas q)) (record { cancelled = 0; processed = s.nodes; tests = s.tests + 2; zones = s.zones; apart = mark; used = used }) l₀ (record { gas = g₃; area = a₃; words = w₃; floats = f₃ })
-      played-comes turns w₃ g₃ f₃ a₃ used u mark m q l₀ d =
-          comes-played b q l₀ l s d x.board x.links x.area x.words x.floats w₁ f₁ p w₂ t.words turns w₃ g₃ f₃ a₃ used u r t mark m
+          → (q : Ask) (l₀ : Lent) → CallFills b q s l₀ l
+          → Comes b (played b l₀.gas q turns (filled_all b l₀.gas q)) (record { cancelled = false; processed = s.nodes; tests = s.tests + 2; zones = s.zones; apart = r; used = used }) l₀ (record { gas = g₃; area = a₃; words = w₃; floats = f₃ })
+      played-comes turns w₃ g₃ f₃ a₃ used u q l₀ d =
+          comes-played b q l₀ l s d x.board x.links x.area x.words x.floats w₁ f₁ p w₂ t.words turns w₃ g₃ f₃ a₃ used u r t
 
 -- the counts are small
 pub tests-small : {b : Board} {s : Filling} {l : Lent} → CallFilled b s l → s.tests ≤ 4096

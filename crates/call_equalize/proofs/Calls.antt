@@ -16,6 +16,11 @@ use Rattle.events.proofs.Areas.{wrote-length}
 use Rattle.rules_lent.specs.Lent.{Lent, words_room, floats_room, after}
 use Rattle.lent_room.specs.Areas.{cleared_first}
 use Rattle.lent.specs.Given.{lent}
+use Rattle.std.specs.Prelude.{Ok, Err}
+use Rattle.lent.specs.Given.{number_of}
+use Rattle.lent.specs.declared.Refusal.{Refusal}
+use Rattle.lent.proofs.Told.{number-some}
+use Rattle.call_answers.specs.Told.{equalize_answer}
 use Rattle.lent.proofs.Passed.{Passed}
 use Rattle.lent.proofs.Numbers.{bare}
 use Rattle.fill_all.specs.Held.{FillsAll}
@@ -23,12 +28,11 @@ use Rattle.fill_all.specs.declared.Filling.{Filling}
 use Rattle.fill_all.proofs.Asked.{extra, let_pass, let_links}
 use Rattle.rules_finish.specs.Turns.{node_count}
 use Rattle.rules_equalize.specs.Equalize.{Ask, Equalized, filled_all, cancel, played, equalize}
-use Rattle.rules_equalize.specs.Result.{equalize_room, refused_equalize, equalize_number, equalize_done, equalize_result}
-use Rattle.rules_equalize.specs.declared.EqualizeAnswer.{EqualizeAnswer}
+use Rattle.rules_equalize.specs.Result.{EqualizeAnswer, equalize_room, refused_equalize, equalize_number, equalize_done, equalize_result}
 use Rattle.laws_equalize.proofs.Zones.{node-room, zone-room, test_room}
 use Rattle.laws_equalize.proofs.Room.{events-room}
 use Rattle.call_equalize.specs.Parts.{CallFills, CallFilled, Comes}
-use Rattle.call_equalize.specs.declared.Outcome.{Outcome}
+use Rattle.call_equalize.specs.declared.Counts.{Counts}
 
 -- counts that fit the answer
 record Few (o : Equalized) : Type 0 where
@@ -77,7 +81,7 @@ module _ (b : Board) (q : Ask) (turns : List ℕ) (l : Lent) where
         (cond_both Few (ltb q.allowance (all.tests + 1)) (cancel b l.gas q 0 (all.tests + 1) all.events) _ second
         (cond_both Few (ltb q.allowance (all.tests + 2)) (cancel b l.gas q (node_count all.zones) (all.tests + 2) all.events) (played b l.gas q turns all) third last))
 
-    module _ {r : Outcome} {l' : Lent} (c : Comes b (equalize b l.gas q turns) r l l') where
+    module _ {r : Counts} {l' : Lent} (c : Comes b (equalize b l.gas q turns) r l l') where
       pub few-processed : r.processed ≤ 28672
       few-processed = omega (arith, c.processed, counts.processed)
 
@@ -93,13 +97,13 @@ module _ (b : Board) (q : Ask) (turns : List ℕ) (l : Lent) where
   -- ---- the answers
 
   module _ {number : ℕ} (r : number ≡ equalize_number b q turns l) where
-    pub refused-is : (number ≡ 0 → ⊥) → {a : EqualizeAnswer} → a ≡ refused_equalize number → record { answer = a; lent = l } ≡ equalize_result b q turns l
+    pub refused-is : (f : Refusal) → number ≡ number_of f → record { answer = equalize_answer (Err f); lent = l } ≡ equalize_result b q turns l
     unfolding equalize_result
-    refused-is z e = rw (e, ← r, ne_eqb number 0 z)
+    refused-is f e = rw (← r, e, ne_eqb (number_of f) 0 (number-some f))
 
-    pub answered : number ≡ 0 → {o : Outcome} {l₁ : Lent} → Comes b (equalize b l.gas q turns) o l l₁ → (w' : List ℕ) (f' : List Float)
+    pub answered : number ≡ 0 → {o : Counts} {l₁ : Lent} → Comes b (equalize b l.gas q turns) o l l₁ → (w' : List ℕ) (f' : List Float)
         → w' ≡ cleared_first 0 (words_room (bare b)) l₁.words → f' ≡ cleared_first 0f (floats_room (bare b)) l₁.floats
-        → record { answer = record { number = 0; cancelled = o.cancelled; processed = o.processed; tests = o.tests; zones = o.zones; apart = o.apart; bytes = o.used }; lent = lent l₁.gas l₁.area w' f' }
+        → record { answer = equalize_answer (Ok (record { cancelled = o.cancelled; processed = o.processed; tests = o.tests; zones = o.zones; apart = o.apart; bytes = o.used })); lent = lent l₁.gas l₁.area w' f' }
         ≡ equalize_result b q turns l
     unfolding equalize_result equalize_done after words_room floats_room
     answered z {o} {l₁} c w' f' cw cf =

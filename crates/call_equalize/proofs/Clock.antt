@@ -16,7 +16,7 @@ use Rattle.fill_all.specs.declared.Filling.{Filling}
 use Rattle.fill_all.proofs.Words.{tests-are}
 use Rattle.rules_equalize.specs.Equalize.{Ask, Equalized, filled_all, cancel, played, equalize}
 use Rattle.call_equalize.specs.Parts.{cancelled_at, CallFills, CallFilled, Comes}
-use Rattle.call_equalize.specs.declared.Outcome.{Outcome}
+use Rattle.call_equalize.specs.declared.Counts.{Counts}
 use Rattle.call_equalize.proofs.Between.{processed-is}
 
 -- the last of four ways
@@ -42,17 +42,17 @@ module _ {b : Board} {s : Filling} {l : Lent} (x : CallFilled b s l) (turns : Li
   unfolding fill.filled_view
   cancelled-is = sym (ap (λ (v : FilledView). v.filled.cancelled) d.fills.same)
 
-  pub over-filling : s.cancelled ≡ true → {r : Outcome} → r ≡ cancelled_at 0 s.tests s.used → Comes b (equalize b l₀.gas q turns) r l₀ l
+  pub over-filling : s.cancelled ≡ true → {r : Counts} → r ≡ cancelled_at 0 s.tests s.used → Comes b (equalize b l₀.gas q turns) r l₀ l
   unfolding equalize
   over-filling t e = rw (e, cancelled-is ∙ t, ← tests-are d.fills) (stopped 0 s.tests)
 
   module _ (on : s.cancelled ≡ false) where
-    pub over_first : allowance < s.tests + 1 → {r : Outcome} → r ≡ cancelled_at 0 (s.tests + 1) s.used → Comes b (equalize b l₀.gas q turns) r l₀ l
+    pub over_first : allowance < s.tests + 1 → {r : Counts} → r ≡ cancelled_at 0 (s.tests + 1) s.used → Comes b (equalize b l₀.gas q turns) r l₀ l
     unfolding equalize
     over_first t e = rw (e, cancelled-is ∙ on, ← tests-are d.fills, lt-ltb q.allowance (s.tests + 1) (omega (arith, a, t))) (stopped 0 (s.tests + 1))
 
     module _ (in-time : s.tests + 1 ≤ allowance) where
-      pub over_last : allowance < s.tests + 2 → {r : Outcome} → r ≡ cancelled_at s.nodes (s.tests + 2) s.used → Comes b (equalize b l₀.gas q turns) r l₀ l
+      pub over_last : allowance < s.tests + 2 → {r : Counts} → r ≡ cancelled_at s.nodes (s.tests + 2) s.used → Comes b (equalize b l₀.gas q turns) r l₀ l
       unfolding equalize
       over_last t e =
           rw (
@@ -64,7 +64,7 @@ module _ {b : Board} {s : Filling} {l : Lent} (x : CallFilled b s l) (turns : Li
             ← processed-is b q l₀ l s d x.board x.links x.area x.words x.floats,
           ) (stopped s.nodes (s.tests + 2))
 
-      pub not_over : s.tests + 2 ≤ allowance → {r : Outcome} {l' : Lent} → Comes b (played b l₀.gas q turns (filled_all b l₀.gas q)) r l₀ l' → Comes b (equalize b l₀.gas q turns) r l₀ l'
+      pub not_over : s.tests + 2 ≤ allowance → {r : Counts} {l' : Lent} → Comes b (played b l₀.gas q turns (filled_all b l₀.gas q)) r l₀ l' → Comes b (equalize b l₀.gas q turns) r l₀ l'
       unfolding equalize
       not_over t {r} {l'} c =
           let tests : ℕ = (filled_all b l₀.gas q).tests in

@@ -8,8 +8,7 @@ use lib.Ieee.{Float}
 use borrow.Author.Tests.{eq-eqb, ne_eqb}
 use Rattle.basics.specs.Floats.{0f}
 use Rattle.basics.specs.Regions.{region}
-use Rattle.basics.specs.declared.Spot.{Spot}
-use Rattle.basics.specs.declared.Spot.TheVariants.{At, Nowhere}
+use Rattle.std.specs.Prelude.{Option, Some, None, Ok, Err}
 use Rattle.basics.specs.Lists.{Found}
 use Rattle.basics.proofs.Regions.{later_same}
 use Rattle.rules_board.specs.Board.{Board, turf_count, link_count, row_of}
@@ -21,6 +20,10 @@ use Rattle.rules_lent.specs.Lent.{Lent, Extra, no_extra, words_room, floats_room
 use Rattle.lent_room.specs.Areas.{cleared_first, Roomy}
 use Rattle.lent.specs.Given.{lent, Given, Tests}
 use Rattle.lent.specs.declared.ExtraTests.{ExtraTests}
+use Rattle.lent.specs.Given.{number_of}
+use Rattle.lent.specs.declared.Refusal.{Refusal}
+use Rattle.lent.proofs.Told.{number-some}
+use Rattle.call_answers.specs.Told.{planet_answer}
 use Rattle.lent.proofs.Numbers.{bare, given, no_links, scratch_of}
 use Rattle.lent.proofs.Passed.{passed}
 use Rattle.scratch.specs.Layout.{walk_sizes, walk_room}
@@ -37,11 +40,11 @@ use Rattle.laws_planet.proofs.Room.{planet-room}
 -- ---- the events
 
 module _ (b : Board) (limit id : ℕ) where
-  pub no_turf : (o : Spot) → o ≡ row_of b id → o ≡ Nowhere → (e : List ℕ) → Wrote (encode_all (planet_walk b limit id)) 0 0 e e
+  pub no_turf : (o : Option ℕ) → o ≡ row_of b id → o ≡ None → (e : List ℕ) → Wrote (encode_all (planet_walk b limit id)) 0 0 e e
   unfolding planet_walk planet_from
   no_turf o r q e = rw (← r, q) (none-wrote 0 e (omega arith))
 
-  module _ (o : Spot) (r : o ≡ row_of b id) (row : ℕ) (q : o ≡ At row) where
+  module _ (o : Option ℕ) (r : o ≡ row_of b id) (row : ℕ) (q : o ≡ Some row) where
     pub turf-row : row < turf_count b
     turf-row = subst (Found (λ r. r < turf_count b)) (sym r ∙ q) (row_below b id)
 
@@ -54,9 +57,9 @@ bare_walk : (b : Board) (limit id : ℕ) → planet_walk (bare b) limit id ≡ p
 unfolding planet_walk row_of
 bare_walk b limit id = from (row_of b id)
   where
-    from : (o : Spot) → planet_from (bare b) limit o ≡ planet_from b limit o
-    from Nowhere = unfold planet_from in refl
-    from (At r) = unfold planet_from in ap (λ (v : Walk). v.events) (gasless b Planet limit r)
+    from : (o : Option ℕ) → planet_from (bare b) limit o ≡ planet_from b limit o
+    from None = unfold planet_from in refl
+    from (Some r) = unfold planet_from in ap (λ (v : Walk). v.events) (gasless b Planet limit r)
 
 -- ---- the answers
 
@@ -64,9 +67,9 @@ module _ (b : Board) (limit id : ℕ) (l : Lent) (t : ExtraTests) (number : ℕ)
   number_is : number ≡ refusal b l (planet_room b) no_extra
   number_is = r no_extra q ∙ rw (no_links (link_count b) (12 * turf_count b))
 
-  pub refused : (number ≡ 0 → ⊥) → record { answer = record { number = number; bytes = 0 }; lent = l } ≡ planet_result b limit id l
+  pub refused : (f : Refusal) → number ≡ number_of f → record { answer = planet_answer (Err f); lent = l } ≡ planet_result b limit id l
   unfolding planet_result planet_number
-  refused z = rw (← number_is, ne_eqb number 0 z)
+  refused f e = rw (← number_is, e, ne_eqb (number_of f) 0 (number-some f))
 
   module _ (z : number ≡ 0) where
     granted : Given b l (planet_room b)
@@ -95,7 +98,7 @@ module _ (b : Board) (limit id : ℕ) (l : Lent) (t : ExtraTests) (number : ℕ)
 
       pub answered : (w₁ : List ℕ) → region (walk_sizes (turf_count b)) 3 w₁ ≡ region (walk_sizes (turf_count b)) 3 l.words → (w' : List ℕ) (f' : List Float)
           → w' ≡ cleared_first 0 (words_room (bare b)) w₁ → f' ≡ cleared_first 0f (floats_room (bare b)) l.floats
-          → record { answer = record { number = 0; bytes = bytes }; lent = lent l.gas e' w' f' } ≡ planet_result b limit id l
+          → record { answer = planet_answer (Ok bytes); lent = lent l.gas e' w' f' } ≡ planet_result b limit id l
       unfolding planet_result planet_number planet_done after words_room floats_room
       answered w₁ same w' f' c d =
           let n = turf_count b in

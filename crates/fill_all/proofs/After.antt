@@ -13,7 +13,7 @@ use Rattle.basics.specs.Regions.{cut}
 use Rattle.basics.proofs.Loops.{All-imp, All-get_or, map-like, up-below, up-snoc}
 use Rattle.basics.proofs.Lists.{up_from-length, map-append}
 use Rattle.basics.proofs.Regions.{cut-set, cut-length}
-use Rattle.basics.specs.declared.Spot.TheVariants.{At}
+use Rattle.std.specs.Prelude.{Some}
 use Rattle.basics.proofs.Parts.{take_in}
 use Rattle.scratch.specs.Layout.{word_sizes, float_sizes, starts_at, moles_at}
 use Rattle.scratch.specs.View.{owner_in, queue_in, found_in, starts_in}
@@ -133,7 +133,7 @@ module _ {b : Board} {m : ℕ} (h : Accepted b m) (gas : List Float) (q : Ask) (
 
     -- the step of the definition
     module _ (pass : (es : List Event) → passed_over b gas q row found₀ ≡ false) where
-      step : (es : List Event) → after_fill (T es) (filled_view n e s w f es).filled ≡ hot_row b gas q (At row) (filled_view n e s w f es).filled
+      step : (es : List Event) → after_fill (T es) (filled_view n e s w f es).filled ≡ hot_row b gas q (Some row) (filled_view n e s w f es).filled
       unfolding filled_view hot_row fill_from
       step es =
           sym (ap (λ (c : Bool). cond c (filled_view n e s w f es).filled (fill_from b gas q row (filled_view n e s w f es).filled)) (pass es)
@@ -209,10 +209,10 @@ module _ {b : Board} {m : ℕ} (h : Accepted b m) (gas : List Float) (q : Ask) (
           nodes = rw (owners []) st.nodes;
         }
 
-        pub dropped_fills : Fills n e (hot_row b gas q (At row)) s r w w' f f' area area₁
+        pub dropped_fills : Fills n e (hot_row b gas q (Some row)) s r w w' f f' area area₁
         dropped_fills =
-            subst (λ (x : List Float). Fills n e (hot_row b gas q (At row)) s r w w' f x area area₁) (sym d.floats)
-            (subst (λ (x : Filling). Fills n e (hot_row b gas q (At row)) s x w w' f f area area₁) (sym d.answer) (record {
+            subst (λ (x : List Float). Fills n e (hot_row b gas q (Some row)) s r w w' f x area area₁) (sym d.floats)
+            (subst (λ (x : Filling). Fills n e (hot_row b gas q (Some row)) s x w w' f f area area₁) (sym d.answer) (record {
               stored = dropped_stored;
               does = record {
                 more = B.does.more;
@@ -346,11 +346,11 @@ module _ {b : Board} {m : ℕ} (h : Accepted b m) (gas : List Float) (q : Ask) (
                 let p : i ≡ s.zones = omega arith in
                 rw (now i, now (i + 1), p, start-new, start-old s.zones (omega arith), st.last) (omega arith)
 
-        pub kept_fills : {r : Filling} {w' : List ℕ} {f' : List Float} → Keeps n e s t r w₁ w' f f' → Fills n e (hot_row b gas q (At row)) s r w w' f f' area area₁
+        pub kept_fills : {r : Filling} {w' : List ℕ} {f' : List Float} → Keeps n e s t r w₁ w' f f' → Fills n e (hot_row b gas q (Some row)) s r w w' f f' area area₁
         kept_fills {r} {w'} {f'} k =
-            subst (λ (x : List Float). Fills n e (hot_row b gas q (At row)) s r w w' f x area area₁) (sym k.floats)
-            (subst (λ (x : List ℕ). Fills n e (hot_row b gas q (At row)) s r w x f f₂ area area₁) (sym k.words)
-            (subst (λ (x : Filling). Fills n e (hot_row b gas q (At row)) s x w w₂ f f₂ area area₁) (sym k.answer) (record {
+            subst (λ (x : List Float). Fills n e (hot_row b gas q (Some row)) s r w w' f x area area₁) (sym k.floats)
+            (subst (λ (x : List ℕ). Fills n e (hot_row b gas q (Some row)) s r w x f f₂ area area₁) (sym k.words)
+            (subst (λ (x : Filling). Fills n e (hot_row b gas q (Some row)) s x w w₂ f f₂ area area₁) (sym k.answer) (record {
               stored = kept-stored;
               does = record {
                 more = B.does.more;

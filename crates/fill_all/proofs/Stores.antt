@@ -2,8 +2,8 @@
 use Prim.Native.Nat.{ℕ, ◌+◌, ◌≤◌}
 use native.Mathlib.Omega.{arith}
 use mathlib.Core.Path.{◌≡◌, refl, ap, ap₂, ◌∙◌, sym}
-use mathlib.Core.List.{List, [], ◌++◌}
-use lib.ListN.{length, get_or, set, take, drop, replicate, length-set, length-replicate, length-drop}
+use mathlib.Core.List.{List, [], ◌++◌, append-nil}
+use lib.ListN.{length, get_or, set, take, drop, replicate, length-set, length-replicate, length-drop, drop_of_length-le}
 use lib.Seq.{length-take-le}
 use Rattle.basics.specs.Regions.{cut}
 use Rattle.basics.proofs.Regions.{cut-set, cut-part}
@@ -24,6 +24,17 @@ cleared n e w w₁ ys fa sa k long ef es ek e₁ ey =
   where
     front : length (replicate e 0 ++ drop e w) ≡ length w
     front = simp (lib.ListN.length-append, length-replicate, length-drop) (omega arith)
+
+-- the same where the words to be cleared were set to 0
+pub filled : (n e : ℕ) (w xs ys : List ℕ) (fa sa k : ℕ) → marks_at n e + n ≤ length w → fa ≡ found_at n e → sa ≡ starts_at n e → k ≡ n → xs ≡ replicate (length (take e w)) 0
+    → let w₁ = xs ++ drop e w in ys ≡ replicate (length (take k (drop fa w₁))) 0 → Cleared n e w (set (take fa w₁ ++ (ys ++ drop k (drop fa w₁))) sa 0)
+filled n e w xs ys fa sa k long ef es ek ex ey =
+    let w₁ : List ℕ = xs ++ drop e w in
+    let x : xs ≡ replicate e 0 = ex ∙ ap (λ (m : ℕ). replicate m 0) (length-take-le e w (omega arith)) in
+    let l₁ : length w₁ ≡ length w = ap (λ (r : List ℕ). length (r ++ drop e w)) x ∙ simp (lib.ListN.length-append, length-replicate, length-drop) (omega arith) in
+    let l : length (take k (drop fa w₁)) ≡ n = length-take-le k (drop fa w₁) (omega (arith, l₁, length-drop fa w₁)) ∙ ek in
+    let none : drop n (take k (drop fa w₁)) ≡ [] = drop_of_length-le (take k (drop fa w₁)) (omega (arith, l)) in
+    cleared n e w w₁ ys fa sa k long ef es ek (ap (λ (r : List ℕ). r ++ drop e w) x) (rw (none, append-nil) (ey ∙ ap (λ (m : ℕ). replicate m 0) l))
 
 pub cleared-length : (n e : ℕ) (w w₁ ys : List ℕ) (fa sa k : ℕ) → marks_at n e + n ≤ length w → fa ≡ found_at n e → k ≡ n → w₁ ≡ replicate e 0 ++ drop e w
     → ys ≡ replicate n 0 ++ drop n (take k (drop fa w₁)) → length (set (take fa w₁ ++ (ys ++ drop k (drop fa w₁))) sa 0) ≡ length w

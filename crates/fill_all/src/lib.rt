@@ -12,10 +12,10 @@ ghost use Rattle.fill_ignored.specs.Asked.{Spans, PushedFits};
 ghost use Rattle.fill_all.specs.Held.{asked, Fills, Keeps, After, start, Cleared, FillsAll};
 ghost use Rattle.fill_all.specs.Asked.{KeepFits, HotFits, FillFits};
 
-use basics::Spot;
 use fill_zone::{Flood, Seed};
 use rules_fill::{Going, Settings};
-use turfs::{IDS, Marks, NEIGHBOURS, Rows, STARTS};
+use scratch::Layout;
+use turfs::LentTables;
 
 // What filling has come to: zones kept, the nodes that they have in all, clock tests, bytes of events, whether the clock ran out.
 #[derive(Clone, Copy)]
@@ -31,38 +31,25 @@ pub struct Filling {
 fn is_over(state: Going) -> bool
     ensures { result ≡ is_over state }
 {
-    match state {
-        Going::On => false,
-        Going::Broken => false,
-        Going::Over => true,
-    }
+    matches!(state, Going::Over)
 }
 
 // The zone that was filled is kept.
-fn keep_zone(
-    s: Filling,
-    t: Flood,
-    n: usize,
-    e: usize,
-    words: &mut [u32],
-    floats: &mut [f32],
-) -> Filling
-    requires { KeepFits n e s t words.old floats.old }
-    ensures { Keeps n e s t result words.old words.new floats.old floats.new }
+fn keep_zone(s: Filling, t: Flood, layout: Layout, words: &mut [u32], floats: &mut [f32]) -> Filling
+    requires { KeepFits layout.turfs layout.links s t words.old floats.old }
+    ensures { Keeps layout.turfs layout.links s t result words.old words.new floats.old floats.new }
 {
     let reach = t.reach;
     let zones = s.zones;
     let nodes = s.nodes + reach.nodes;
-    words[scratch::starts_at(n, e) + zones + 1] = nodes as u32;
-    floats[scratch::moles_at(n, e) + zones] = t.moles;
-    let state = t.state;
-    let cancelled = is_over(state);
+    words[layout.starts_at() + zones + 1] = nodes as u32;
+    floats[layout.moles_at() + zones] = t.moles;
     Filling {
         zones: zones + 1,
         nodes,
         tests: t.tests,
         used: reach.used,
-        cancelled,
+        cancelled: is_over(t.state),
     }
 }
 
@@ -70,30 +57,26 @@ fn keep_zone(
 fn after_fill(
     s: Filling,
     t: Flood,
-    n: usize,
-    e: usize,
+    layout: Layout,
     starts: &[u32],
     words: &mut [u32],
     floats: &mut [f32],
 ) -> Filling
-    requires keep_fits { KeepFits n e s t words.old floats.old }
-    requires pushed_fits { PushedFits n e t.reach.queued words.old }
-    requires spans { Spans n e starts.now }
-    ensures { After n e starts.now s t result words.old words.new floats.old floats.new }
+    requires keep_fits { KeepFits layout.turfs layout.links s t words.old floats.old }
+    requires pushed_fits { PushedFits layout.turfs layout.links t.reach.queued words.old }
+    requires spans { Spans layout.turfs layout.links starts.now }
+    ensures { After layout.turfs layout.links starts.now s t result words.old words.new floats.old floats.new }
 {
     let reach = t.reach;
     if !reach.ignored {
-        return keep_zone(s, t, n, e, words, floats);
+        return keep_zone(s, t, layout, words, floats);
     }
-    fill_ignored::ignore(reach.queued, n, e, starts, words);
-    let state = t.state;
-    let cancelled = is_over(state);
+    fill_ignored::ignore(reach.queued, layout, starts, words);
     Filling {
-        zones: s.zones,
-        nodes: s.nodes,
         tests: t.tests,
         used: reach.used,
-        cancelled,
+        cancelled: is_over(t.state),
+        ..s
     }
 }
 
@@ -102,29 +85,31 @@ fn hot_id(
     id: u32,
     s: Filling,
     settings: Settings,
-    rows: &Rows,
-    marks: &Marks,
+    tables: &LentTables,
     gases: usize,
     gas: &[f32],
     words: &mut [u32],
     floats: &mut [f32],
     events: &mut [u8],
 ) -> Filling
-    requires accepted { Accepted (board_at rows marks gases) (length gas.now) }
+    requires accepted { Accepted (board_at tables gases) (length gas.now) }
     requires threshold_value { finite_sign_clear settings.threshold ≡ true }
-    requires hot_fits { HotFits (board_at rows marks gases) settings.allowance s words.old floats.old events.old }
-    ensures { let b = board_at rows.entry marks.entry gases in ((hot : List ℕ) → Fills (turf_count b) (link_count b)
+    requires hot_fits { HotFits (board_at tables gases) settings.allowance s words.old floats.old events.old }
+    ensures { let b = board_at tables.entry gases in ((hot : List ℕ) → Fills (turf_count b) (link_count b)
         (hot_id b gas.now (asked hot settings) id) s result
         words.old words.new floats.old floats.new events.old events.new) }
 {
-    let ids = rows[IDS];
-    let Spot::At(row) = turfs::find(ids, id) else {
+    let layout = Layout {
+        turfs: tables.ids.len(),
+        links: tables.neighbours.len(),
+    };
+    let ids = tables.ids;
+    let Some(row) = turfs::find(ids, id) else {
         return s;
     };
-    if fill_tests::passed_over(row, settings.threshold, rows, marks, gases, gas, words) {
+    if fill_tests::passed_over(row, settings.threshold, tables, gases, gas, words) {
         return s;
     }
-    let neighbours = rows[NEIGHBOURS];
     let seed = Seed {
         row: row as u32,
         z: s.zones as u32,
@@ -132,30 +117,20 @@ fn hot_id(
         used: s.used,
         tests: s.tests,
     };
-    let t = fill_zone::flood_fill(seed, settings, rows, marks, gases, gas, words, events);
-    after_fill(
-        s,
-        t,
-        ids.len(),
-        neighbours.len(),
-        rows[STARTS],
-        words,
-        floats,
-    )
+    let t = fill_zone::flood_fill(seed, settings, tables, gases, gas, words, events);
+    after_fill(s, t, layout, tables.starts, words, floats)
 }
 
 // Nothing is found, owned or kept yet.
-fn begin(n: usize, e: usize, words: &mut [u32]) -> Filling
-    requires sizes { Sizes n e }
-    requires e_in_bounds { words_end n e ≤ length words.old }
+fn begin(layout: Layout, words: &mut [u32]) -> Filling
+    requires e_in_bounds { words_end layout.turfs layout.links ≤ length words.old }
     ensures value { result ≡ start }
-    ensures cleared { Cleared n e words.old words.new }
+    ensures cleared { Cleared layout.turfs layout.links words.old words.new }
 {
-    basics::clear(words, e);
-    let found = scratch::found_at(n, e);
-    let end = found + n;
-    basics::clear(&mut words[found..end], n);
-    words[scratch::starts_at(n, e)] = 0;
+    words[..layout.links].fill(0);
+    let found = layout.found_at();
+    words[found..found + layout.turfs].fill(0);
+    words[layout.starts_at()] = 0;
     Filling {
         zones: 0,
         nodes: 0,
@@ -169,33 +144,30 @@ fn begin(n: usize, e: usize, words: &mut [u32]) -> Filling
 pub fn fill_all(
     hot: &[u32],
     settings: Settings,
-    rows: &Rows,
-    marks: &Marks,
+    tables: &LentTables,
     gases: usize,
     gas: &[f32],
     words: &mut [u32],
     floats: &mut [f32],
     events: &mut [u8],
 ) -> Filling
-    requires accepted { Accepted (board_at rows marks gases) (length gas.now) }
+    requires accepted { Accepted (board_at tables gases) (length gas.now) }
     requires threshold_value { finite_sign_clear settings.threshold ≡ true }
-    requires fill_fits { FillFits (board_at rows marks gases) words.old floats.old events.old }
-    ensures { let b = board_at rows.entry marks.entry gases in FillsAll (turf_count b) (link_count b)
+    requires fill_fits { FillFits (board_at tables gases) words.old floats.old events.old }
+    ensures { let b = board_at tables.entry gases in FillsAll (turf_count b) (link_count b)
         (filled_all b gas.now (asked hot.now settings)) result
         words.old words.new floats.old floats.new events.old events.new }
 {
-    let ids = rows[IDS];
-    let neighbours = rows[NEIGHBOURS];
-    let mut s = begin(ids.len(), neighbours.len(), words);
-    let mut i = 0;
-    while i < hot.len() {
+    let layout = Layout {
+        turfs: tables.ids.len(),
+        links: tables.neighbours.len(),
+    };
+    let mut s = begin(layout, words);
+    for &id in hot {
         if s.cancelled {
             return s;
         }
-        s = hot_id(
-            hot[i], s, settings, rows, marks, gases, gas, words, floats, events,
-        );
-        i += 1;
+        s = hot_id(id, s, settings, tables, gases, gas, words, floats, events);
     }
     s
 }

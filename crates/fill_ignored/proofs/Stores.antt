@@ -4,7 +4,7 @@ use native.Mathlib.Omega.{arith}
 use native.Mathlib.Numerals.{add-one}
 use mathlib.Core.Path.{◌≡◌, refl, ap, ap₂, ◌∙◌, sym}
 use mathlib.Core.List.{List, [], ◌∷◌, ◌++◌, append-nil, append_assoc}
-use lib.ListN.{length, get_or, set, take, drop, replicate, length-replicate, length-take, drop_of_length-le}
+use lib.ListN.{length, get_or, set, take, drop, replicate, length-replicate, length-take, length-drop, drop_of_length-le}
 use lib.Seq.{sets, sets-eq, length-sets, length-take-le, drop-drop, get_or-take, take-suc}
 use Rattle.basics.specs.Loops.{run}
 use Rattle.basics.specs.Regions.{cut}
@@ -34,6 +34,15 @@ pub row_back : (starts w ys : List ℕ) (r from to : ℕ) → from ≡ get_or st
     → ys ≡ replicate (to - from) 0 ++ drop (to - from) (take (to - from) (drop from w)) → take from w ++ (ys ++ drop (to - from) (drop from w)) ≡ give_back starts r w
 row_back starts w ys r from to ef et h k e =
     part-cleared w ys from (to - from) (omega arith) e ∙ ap₂ (λ (x y : ℕ). sets w x (replicate (y - x) 0)) ef et
+
+-- the same where its links were all set to 0
+pub row_filled : (starts w ys : List ℕ) (r from to : ℕ) → from ≡ get_or starts r 0 → to ≡ get_or starts (r + 1) 0 → get_or starts r 0 ≤ get_or starts (r + 1) 0 → get_or starts (r + 1) 0 ≤ length w
+    → ys ≡ replicate (length (take (to - from) (drop from w))) 0 → take from w ++ (ys ++ drop (to - from) (drop from w)) ≡ give_back starts r w
+row_filled starts w ys r from to ef et h k e =
+    let mine : List ℕ = take (to - from) (drop from w) in
+    let l : length mine ≡ to - from = length-take-le (to - from) (drop from w) (omega (arith, length-drop from w)) in
+    let none : drop (to - from) mine ≡ [] = drop_of_length-le mine (omega (arith, l)) in
+    row_back starts w ys r from to ef et h k (rw (none, append-nil) (e ∙ ap (λ (m : ℕ). replicate m 0) l))
 
 -- ---- the owners among the words
 
@@ -79,12 +88,6 @@ module _ {n e : ℕ} {starts : List ℕ} {queued i : ℕ} {w w' : List ℕ} (v :
     where
       last : (xs : List ℕ) (x : ℕ) (o : List ℕ) → run (give_back starts) (xs ++ (x ∷ [])) o ≡ give_back starts x (run (give_back starts) xs o)
       last xs x o = unfold run in run-append (give_back starts) xs (x ∷ []) o
-
-pub backing-end : {n e : ℕ} {starts : List ℕ} {queued i : ℕ} {w w' : List ℕ} → Backing n e starts queued i w w' → queued ≤ i → GaveBack n e starts queued w w'
-backing-end {n} {e} {starts} {queued} {i} {w} {w'} v l =
-    let same : i ≡ queued = omega (arith, v.within) in
-    v.done ∙ ap (λ (x : List ℕ). set (cut (word_sizes n e) w) 0 (run (give_back starts) x (owner_in e w)))
-    (ap (λ (j : ℕ). take j (pushed n e queued w)) same ∙ lib.Seq.take_all queued (pushed n e queued w) (omega (arith, length-take queued (queue_in n e w))))
 
 -- what a row that gives back is asked
 pub back-asks : {n e : ℕ} {starts : List ℕ} (w : List ℕ) → Spans n e starts → marks_at n e + n ≤ length w → (r : ℕ) → r < n

@@ -14,7 +14,8 @@ use Rattle.basics.proofs.Loops.{run-suc, run-up_end, run-same}
 use Rattle.scratch.specs.Layout.{found_at}
 use Rattle.scratch.specs.View.{queue_in, nodes_in}
 use Rattle.rules_board.specs.Board.{Board, turf_count, link_count, id_of, end, enabled, planetary, immutable, firelock, links_of}
-use Rattle.turfs.specs.Tables.{Slices, board_of, Near}
+use Rattle.turfs.specs.declared.LentTables.{LentTables}
+use Rattle.turfs.specs.Tables.{board_of, Near}
 use Rattle.turfs.proofs.Near.{near-inside, near-end}
 use Rattle.rules_events.specs.declared.Event.{Event}
 use Rattle.rules_events.specs.declared.Event.TheVariants.{DepressurizeWanted, PlanetWanted}
@@ -287,11 +288,11 @@ module _ {n e z kept : ℕ} (f : ℕ → Reach → Reach) {from to : ℕ} {s : R
       subst (λ (i : ℕ). Reaches n e z kept (λ r. run f (up_from from (i - from)) r) s s' w w' area area') (omega (arith, v.within)) v.done
 
 -- the links of the turf r: the number of gases is read nowhere
-pub links-walked : (rows marks : Slices) (r : ℕ) {n e z kept from to k : ℕ} {s s' : Reached} {w w' area area' : List ℕ}
-    → let b = board_of rows marks 0 in Walked n e z kept (reach_by b z (id_of b r)) from to k s s' w w' area area' → from ≡ get_or b.starts r 0 → to ≡ get_or b.starts (r + 1) 0 → to ≤ k
-    → (gases : ℕ) → Reaches n e z kept (λ q. run (reach_link (board_of rows marks gases) z r) (links_of (board_of rows marks gases) r) q) s s' w w' area area'
+pub links-walked : (tables : LentTables) (r : ℕ) {n e z kept from to k : ℕ} {s s' : Reached} {w w' area area' : List ℕ}
+    → let b = board_of tables 0 in Walked n e z kept (reach_by b z (id_of b r)) from to k s s' w w' area area' → from ≡ get_or b.starts r 0 → to ≡ get_or b.starts (r + 1) 0 → to ≤ k
+    → (gases : ℕ) → Reaches n e z kept (λ q. run (reach_link (board_of tables gases) z r) (links_of (board_of tables gases) r) q) s s' w w' area area'
 unfolding met_at enabled immutable planetary firelock links_of
-links-walked rows marks r {z = z} {from = from} {to} v ef et l gases =
-    let b : Board = board_of rows marks gases in
+links-walked tables r {z = z} {from = from} {to} v ef et l gases =
+    let b : Board = board_of tables gases in
     reaches_as (λ q. run (reach_link b z r) (links_of b r) q) (walked_end (reach_by b z (id_of b r)) v l)
     (λ q. run-same (λ _. Unit {0}) (reach_by b z (id_of b r)) (reach_link b z r) (λ k x _. link-met b z r k x) (λ _ _ _. tt) (up_from from (to - from)) q tt ∙ rw (ef, et))

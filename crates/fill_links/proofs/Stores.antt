@@ -229,9 +229,6 @@ module _ (m : Met) (k z : ℕ) (s : Reached) (kept n e : ℕ) (w : List ℕ) (h 
     owned : Moves n e kept (own k z) s s w w₁
     owned = own-more h k z hk
 
-    pub edge-holds : HoldsSet n s.nodes (at + kept) places w₁
-    edge-holds = rw (ea, ep) owned.fit.line
-
     module _ (t : Bool) (i : t ≡ member m.row (take s.nodes (array n (at + kept) w₁))) where
       here : member m.row (take s.nodes (array n (zone_nodes_at n e + kept) w₁)) ≡ t
       here = sym (i ∙ ap (λ (x : ℕ). member m.row (take s.nodes (array n (x + kept) w₁))) ea)

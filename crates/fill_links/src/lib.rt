@@ -11,10 +11,8 @@ ghost use Rattle.fill_links.specs.Held.{Moves, Asks, Discovers, Reaches};
 ghost use Rattle.fill_links.specs.Asked.{TablesFit, Walking, EdgeFits, PushFits, LinkFits, TurfFits};
 
 use rules_events::Event;
-use turfs::{
-    AdjacentFlags, FLAGS, IDS, IMMUTABLE, LINK_FLAGS, MIXTURES, Marks, NEIGHBOURS, PLANETARY, Rows,
-    STARTS, SimulationFlags,
-};
+use scratch::Layout;
+use turfs::{AdjacentFlags, LentTables, Links, SimulationFlags};
 
 // How far a walk over links has come: rows pushed, nodes of the zone, `ignore_zone`, bytes of events.
 #[derive(Clone, Copy)]
@@ -47,76 +45,61 @@ fn across_firelock(row: usize, k: usize, planetary: &[u8], link_flags: &[u8]) ->
     requires k_in_bounds { k < length link_flags.now }
     ensures { result ≡ (not (eqb (get_or planetary.now row 0) 0) && lock_bit (get_or link_flags.now k 0)) }
 {
-    if planetary[row] == 0 {
-        return false;
-    }
-    AdjacentFlags(link_flags[k]).firelock()
+    planetary[row] != 0 && AdjacentFlags(link_flags[k]).firelock()
 }
 
 // The neighbour at `row`, over the link k.
-fn meet(row: u32, k: usize, rows: &Rows, marks: &Marks) -> Met
-    requires tables_fit { TablesFit (board_at rows marks 0) }
-    requires row_bound { row < turf_count (board_at rows marks 0) }
-    requires k_bound { k < link_count (board_at rows marks 0) }
-    ensures { result ≡ met_over (board_at rows.entry marks.entry 0) row k }
+fn meet(row: u32, k: usize, tables: &LentTables) -> Met
+    requires tables_fit { TablesFit (board_at tables 0) }
+    requires row_bound { row < turf_count (board_at tables 0) }
+    requires k_bound { k < link_count (board_at tables 0) }
+    ensures { result ≡ met_over (board_at tables.entry 0) row k }
 {
-    let flags = marks[FLAGS];
+    let flags = tables.flags;
     let a = row as usize;
     Met {
         row,
         on: SimulationFlags(flags[a]).enabled(),
-        space: turfs::is_immutable(rows[MIXTURES], marks[IMMUTABLE], a),
-        planet: across_firelock(a, k, marks[PLANETARY], marks[LINK_FLAGS]),
+        space: turfs::is_immutable(tables.mixtures, tables.immutable, a),
+        planet: across_firelock(a, k, tables.planetary, tables.link_flags),
     }
 }
 
 // The link k to an enabled neighbour becomes an edge of the zone, and the neighbour a node.
-fn edge_to(
-    m: Met,
-    k: usize,
-    slot: Slot,
-    s: Reached,
-    n: usize,
-    e: usize,
-    words: &mut [u32],
-) -> Reached
-    requires { EdgeFits n e slot m k s words.old }
-    ensures { Moves n e slot.kept (edge_to m k slot.z) s result words.old words.new }
+fn edge_to(m: Met, k: usize, slot: Slot, s: Reached, layout: Layout, words: &mut [u32]) -> Reached
+    requires { EdgeFits layout.turfs layout.links slot m k s words.old }
+    ensures { Moves layout.turfs layout.links slot.kept (edge_to m k slot.z) s result words.old words.new }
 {
     if !m.on {
         return s;
     }
     words[k] = slot.z + 1;
     let nodes = s.nodes;
-    let places = scratch::places_at(n, e);
-    let first = scratch::nodes_at(n, e) + slot.kept;
-    if index_set::contains(m.row, nodes, n, first, places, words) {
+    let places = layout.places_at();
+    let first = layout.nodes_at() + slot.kept;
+    if index_set::contains(m.row, nodes, layout.turfs, first, places, words) {
         return s;
     }
     index_set::insert(m.row, nodes, first, places, words);
     Reached {
-        queued: s.queued,
         nodes: nodes + 1,
-        ignored: s.ignored,
-        used: s.used,
+        ..s
     }
 }
 
 // An enabled neighbour that is found now is pushed.
-fn push(m: Met, slot: Slot, s: Reached, n: usize, e: usize, words: &mut [u32]) -> Reached
-    requires { PushFits n e slot m s words.old }
-    ensures { Moves n e slot.kept (push m) s result words.old words.new }
+fn push(m: Met, slot: Slot, s: Reached, layout: Layout, words: &mut [u32]) -> Reached
+    requires { PushFits layout.turfs layout.links slot m s words.old }
+    ensures { Moves layout.turfs layout.links slot.kept (push m) s result words.old words.new }
 {
     if !m.on {
         return s;
     }
     let queued = s.queued;
-    words[scratch::queue_at(n, e) + queued] = m.row;
+    words[layout.queue_at() + queued] = m.row;
     Reached {
         queued: queued + 1,
-        nodes: s.nodes,
-        ignored: s.ignored,
-        used: s.used,
+        ..s
     }
 }
 
@@ -130,10 +113,9 @@ fn ask_space(m: Met, id: u32, s: Reached, events: &mut [u8]) -> Reached
     }
     let used = events::append(events, s.used, Event::DepressurizeWanted(id));
     Reached {
-        queued: s.queued,
-        nodes: s.nodes,
         ignored: true,
         used,
+        ..s
     }
 }
 
@@ -146,12 +128,7 @@ fn ask_planet(m: Met, id: u32, s: Reached, events: &mut [u8]) -> Reached
         return s;
     }
     let used = events::append(events, s.used, Event::PlanetWanted(id));
-    Reached {
-        queued: s.queued,
-        nodes: s.nodes,
-        ignored: s.ignored,
-        used,
-    }
+    Reached { used, ..s }
 }
 
 // A neighbour that is found now.
@@ -160,16 +137,15 @@ fn discover(
     id: u32,
     slot: Slot,
     s: Reached,
-    n: usize,
-    e: usize,
+    layout: Layout,
     words: &mut [u32],
     events: &mut [u8],
 ) -> Reached
-    requires push_fits { PushFits n e slot m s words.old }
+    requires push_fits { PushFits layout.turfs layout.links slot m s words.old }
     requires used_in_bounds { s.used + 16 ≤ length events.old }
-    ensures { Discovers n e slot.kept (discover m id) s result words.old words.new events.old events.new }
+    ensures { Discovers layout.turfs layout.links slot.kept (discover m id) s result words.old words.new events.old events.new }
 {
-    let t = push(m, slot, s, n, e, words);
+    let t = push(m, slot, s, layout, words);
     if t.ignored {
         return t;
     }
@@ -184,23 +160,22 @@ fn reach(
     id: u32,
     slot: Slot,
     s: Reached,
-    n: usize,
-    e: usize,
+    layout: Layout,
     words: &mut [u32],
     events: &mut [u8],
 ) -> Reached
-    requires walking { Walking n e slot s words.old events.old }
-    requires link_fits { LinkFits n e m k words.old }
-    ensures { Reaches n e slot.z slot.kept (reach_met m k slot.z id) s result words.old words.new events.old events.new }
+    requires walking { Walking layout.turfs layout.links slot s words.old events.old }
+    requires link_fits { LinkFits layout.turfs layout.links m k words.old }
+    ensures { Reaches layout.turfs layout.links slot.z slot.kept (reach_met m k slot.z id) s result words.old words.new events.old events.new }
 {
-    let t = edge_to(m, k, slot, s, n, e, words);
-    let mark = scratch::found_at(n, e) + m.row as usize;
+    let t = edge_to(m, k, slot, s, layout, words);
+    let mark = layout.found_at() + m.row as usize;
     let found = words[mark];
     words[mark] = 1;
     if found != 0 {
         return t;
     }
-    discover(m, id, slot, t, n, e, words, events)
+    discover(m, id, slot, t, layout, words, events)
 }
 
 // The links of the turf at `row`, from the link `from` on: `near` are the rows at their ends.
@@ -210,32 +185,31 @@ fn reach_near(
     near: &[u32],
     slot: Slot,
     start: Reached,
-    rows: &Rows,
-    marks: &Marks,
+    tables: &LentTables,
     words: &mut [u32],
     events: &mut [u8],
 ) -> Reached
-    requires tables_fit { TablesFit (board_at rows marks 0) }
-    requires turf_fits { TurfFits (board_at rows marks 0) row words.old }
-    requires near { Near (board_at rows marks 0) row from near.now }
-    requires fact { let b = board_at rows marks 0 in Walking (turf_count b) (link_count b) slot start words.old events.old }
-    ensures { (gases : ℕ) → let b = board_at rows.entry marks.entry gases in
+    requires tables_fit { TablesFit (board_at tables 0) }
+    requires turf_fits { TurfFits (board_at tables 0) row words.old }
+    requires near { Near (board_at tables 0) row from near.now }
+    requires fact { let b = board_at tables 0 in Walking (turf_count b) (link_count b) slot start words.old events.old }
+    ensures { (gases : ℕ) → let b = board_at tables.entry gases in
         Reaches (turf_count b) (link_count b) slot.z slot.kept (λ s. run (reach_link b slot.z row) (links_of b row) s) start result
         words.old words.new events.old events.new }
 {
-    let ids = rows[IDS];
-    let neighbours = rows[NEIGHBOURS];
-    let n = ids.len();
-    let e = neighbours.len();
+    let ids = tables.ids;
+    let neighbours = tables.neighbours;
+    let layout = Layout {
+        turfs: ids.len(),
+        links: neighbours.len(),
+    };
     let at = row as usize;
     let id = ids[at];
     let mut s = start;
-    let mut i = 0;
-    while i < near.len() {
+    for (i, &there) in near.iter().enumerate() {
         let k = from + i;
-        let m = meet(near[i], k, rows, marks);
-        s = reach(m, k, id, slot, s, n, e, words, events);
-        i += 1;
+        let m = meet(there, k, tables);
+        s = reach(m, k, id, slot, s, layout, words, events);
     }
     s
 }
@@ -245,22 +219,19 @@ pub fn reach_links(
     row: u32,
     slot: Slot,
     start: Reached,
-    rows: &Rows,
-    marks: &Marks,
+    tables: &LentTables,
     words: &mut [u32],
     events: &mut [u8],
 ) -> Reached
-    requires tables_fit { TablesFit (board_at rows marks 0) }
-    requires turf_fits { TurfFits (board_at rows marks 0) row words.old }
-    requires fact { let b = board_at rows marks 0 in Walking (turf_count b) (link_count b) slot start words.old events.old }
-    ensures { (gases : ℕ) → let b = board_at rows.entry marks.entry gases in
+    requires tables_fit { TablesFit (board_at tables 0) }
+    requires turf_fits { TurfFits (board_at tables 0) row words.old }
+    requires fact { let b = board_at tables 0 in Walking (turf_count b) (link_count b) slot start words.old events.old }
+    ensures { (gases : ℕ) → let b = board_at tables.entry gases in
         Reaches (turf_count b) (link_count b) slot.z slot.kept (λ s. run (reach_link b slot.z row) (links_of b row) s) start result
         words.old words.new events.old events.new }
 {
-    let neighbours = rows[NEIGHBOURS];
-    let links = turfs::links_of(rows[STARTS], row as usize);
-    let from = links.from;
-    let to = links.to;
+    let neighbours = tables.neighbours;
+    let Links { from, to } = turfs::links_of(tables.starts, row as usize);
     let near = &neighbours[from..to];
-    reach_near(row, from, near, slot, start, rows, marks, words, events)
+    reach_near(row, from, near, slot, start, tables, words, events)
 }

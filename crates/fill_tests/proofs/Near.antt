@@ -70,9 +70,6 @@ module _ (b : Board) (gas : List Float) (q : Ask) (r from to : ℕ) (ef : from �
     linked : (t : Bool) → t ≡ rest → t ≡ eqb (length (links_of b r)) 0 || rest
     linked t e = e ∙ sym (ap (λ (u : Bool). u || rest) (ne_eqb (length (links_of b r)) 0 (λ i. some (omega (arith, degree, i)))))
 
-    pub few-moles : lt mine 10f ≡ true → true ≡ eqb (length (links_of b r)) 0 || rest
-    few-moles l = linked true (sym (ap (λ (u : Bool). u || every (near b gas q r) (links_of b r)) (ap (λ (x : Float). lt x 10f) (sym em) ∙ l)))
-
     pub all_tested : lt mine 10f ≡ false → (x : Float) → q.threshold ≡ x → (t : Bool) → t ≡ every (near_at b gas mine x) (up_from from (to - from))
         → t ≡ eqb (length (links_of b r)) 0 || rest
     unfolding near links_of

@@ -12,7 +12,8 @@ ghost use Rattle.scratch.specs.View.{found_in};
 ghost use Rattle.rules_equalize.specs.Equalize.{Ask, 10f, near, passed_over};
 ghost use Rattle.fill_tests.specs.Asked.{FoundFits};
 
-use turfs::{FLAGS, IDS, Links, MIXTURES, Marks, NEIGHBOURS, Rows, STARTS, SimulationFlags};
+use scratch::Layout;
+use turfs::{LentTables, Links, SimulationFlags};
 
 // Whether two totals are nearer than the threshold.
 fn nearer(x: f32, y: f32, threshold: f32) -> bool
@@ -20,10 +21,7 @@ fn nearer(x: f32, y: f32, threshold: f32) -> bool
     ensures { result ≡ lt (abs (x -f y)) threshold }
 {
     let d = x - y;
-    if d < threshold {
-        return -threshold < d;
-    }
-    false
+    d < threshold && -threshold < d
 }
 
 // Whether the totals at the ends of these links are nearer to a total than the threshold.
@@ -31,81 +29,65 @@ fn all_near(
     links: Links,
     mine: f32,
     threshold: f32,
-    rows: &Rows,
-    marks: &Marks,
+    tables: &LentTables,
     gases: usize,
     gas: &[f32],
 ) -> bool
-    requires accepted { Accepted (board_at rows marks gases) (length gas.now) }
+    requires accepted { Accepted (board_at tables gases) (length gas.now) }
     requires threshold_value { finite_sign_clear threshold ≡ true }
-    requires to_bound { links.to ≤ link_count (board_at rows marks gases) }
-    ensures { let b = board_at rows.entry marks.entry gases in
+    requires to_bound { links.to ≤ link_count (board_at tables gases) }
+    ensures { let b = board_at tables.entry gases in
         result ≡ every (λ k. lt (abs (total b gas.now (end b k) -f mine)) threshold) (up_from links.from (links.to - links.from)) }
 {
-    let mixtures = rows[MIXTURES];
-    let neighbours = rows[NEIGHBOURS];
-    let to = links.to;
-    let mut k = links.from;
-    while k < to {
+    let mixtures = tables.mixtures;
+    let neighbours = tables.neighbours;
+    let Links { from, to } = links;
+    for k in from..to {
         let other = mixture::total(mixtures, gases, gas, neighbours[k] as usize);
         if !nearer(other, mine, threshold) {
             return false;
         }
-        k += 1;
     }
     true
 }
 
 // Whether a turf has no links, or is unshareable.
-fn unshareable(
-    row: usize,
-    threshold: f32,
-    rows: &Rows,
-    marks: &Marks,
-    gases: usize,
-    gas: &[f32],
-) -> bool
-    requires accepted { Accepted (board_at rows marks gases) (length gas.now) }
+fn unshareable(row: usize, threshold: f32, tables: &LentTables, gases: usize, gas: &[f32]) -> bool
+    requires accepted { Accepted (board_at tables gases) (length gas.now) }
     requires threshold_value { finite_sign_clear threshold ≡ true }
-    requires row_bound { row < turf_count (board_at rows marks gases) }
-    ensures { let b = board_at rows.entry marks.entry gases in ((q : Ask) → q.threshold ≡ threshold
+    requires row_bound { row < turf_count (board_at tables gases) }
+    ensures { let b = board_at tables.entry gases in ((q : Ask) → q.threshold ≡ threshold
         → result ≡ (eqb (length (links_of b row)) 0 || (lt (total b gas.now row) 10f || every (near b gas.now q row) (links_of b row)))) }
 {
-    let links = turfs::links_of(rows[STARTS], row);
+    let links = turfs::links_of(tables.starts, row);
     if links.from == links.to {
         return true;
     }
-    let mine = mixture::total(rows[MIXTURES], gases, gas, row);
-    if mine < 10.0 {
-        return true;
-    }
-    all_near(links, mine, threshold, rows, marks, gases, gas)
+    let mine = mixture::total(tables.mixtures, gases, gas, row);
+    mine < 10.0 || all_near(links, mine, threshold, tables, gases, gas)
 }
 
 // Whether a hot turf is passed over: found already, disabled, without links, or unshareable.
 pub fn passed_over(
     row: usize,
     threshold: f32,
-    rows: &Rows,
-    marks: &Marks,
+    tables: &LentTables,
     gases: usize,
     gas: &[f32],
     words: &[u32],
 ) -> bool
-    requires accepted { Accepted (board_at rows marks gases) (length gas.now) }
+    requires accepted { Accepted (board_at tables gases) (length gas.now) }
     requires threshold_value { finite_sign_clear threshold ≡ true }
-    requires fact { let b = board_at rows marks gases in FoundFits (turf_count b) (link_count b) row words.now }
-    ensures { let b = board_at rows.entry marks.entry gases in
+    requires fact { let b = board_at tables gases in FoundFits (turf_count b) (link_count b) row words.now }
+    ensures { let b = board_at tables.entry gases in
         ((q : Ask) → q.threshold ≡ threshold → passed_over b gas.now q row (found_in (turf_count b) (link_count b) words.now) ≡ result) }
 {
-    let ids = rows[IDS];
-    let neighbours = rows[NEIGHBOURS];
-    let flags = marks[FLAGS];
-    if words[scratch::found_at(ids.len(), neighbours.len()) + row] != 0 {
-        return true;
-    }
-    if !SimulationFlags(flags[row]).enabled() {
-        return true;
-    }
-    unshareable(row, threshold, rows, marks, gases, gas)
+    let layout = Layout {
+        turfs: tables.ids.len(),
+        links: tables.neighbours.len(),
+    };
+    let flags = tables.flags;
+    words[layout.found_at() + row] != 0
+        || !SimulationFlags(flags[row]).enabled()
+        || unshareable(row, threshold, tables, gases, gas)
 }

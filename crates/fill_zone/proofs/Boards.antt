@@ -10,7 +10,8 @@ use Rattle.basics.proofs.Loops.{All-get_or}
 use Rattle.basics.proofs.Lists.{up_from-at, up_from-length}
 use Rattle.scratch.specs.Layout.{Sizes}
 use Rattle.rules_board.specs.Board.{Board, turf_count, link_count, mix_of, links_of, mixture_count}
-use Rattle.turfs.specs.Tables.{Slices, board_of, Parts, Accepted, source}
+use Rattle.turfs.specs.declared.LentTables.{LentTables}
+use Rattle.turfs.specs.Tables.{board_of, Parts, Accepted, source}
 use Rattle.turfs.proofs.Accepted.{sources}
 use Rattle.turfs.proofs.Tables.{accepted-parts}
 use Rattle.mixture.specs.Held.{HoldsGas}
@@ -38,8 +39,8 @@ module _ {b : Board} {m : ℕ} (h : Accepted b m) where
         ap (source b.starts) (sym (up_from-at from deg (k - from) (omega arith) ∙ omega arith)) ∙ s
 
 -- what a walk over links reads is there, whatever the number of gases
-pub linked_of : (rows marks : Slices) (gases : ℕ) {m : ℕ} → Accepted (board_of rows marks gases) m → TablesFit (board_of rows marks 0)
-linked_of rows marks gases h = record {
+pub linked_of : (tables : LentTables) (gases : ℕ) {m : ℕ} → Accepted (board_of tables gases) m → TablesFit (board_of tables 0)
+linked_of tables gases h = record {
   parts = parts h;
   links = h.links;
   flags = h.flags;

@@ -59,9 +59,6 @@ module _ (row used tests kept n e : ℕ) (w : List ℕ) (sz : Sizes n e) (hr : r
     abbrev w₂ : List ℕ
     w₂ = set w₁ qa row
 
-    pub start-room : (qa < length w₁) × ((na + kept + 0 < length w₂) × ((pa + row < length w₂) × (0 < 4096)))
-    start-room = (simp length-set (omega arith), (simp length-set (omega arith), (simp length-set (omega arith), omega arith)))
-
     pub started : (w' : List ℕ) → w' ≡ set (set w₂ (na + kept + 0) row) (pa + row) 0 → ZoneStarts n e kept used (λ found owner es. start_fill row found owner es tests) first w w'
     unfolding reach_view mark_found push member
     started w' ew =
@@ -122,9 +119,6 @@ module _ {b : Board} {m : ℕ} (h : Accepted b m) (gas : List Float) (limit allo
   marks : length found₀ ≡ n
   unfolding reach_view
   marks = found-long n e w y.words
-
-  pub start-asks : StartFits n e kept row w
-  start-asks = record { sizes = sizes-of h; row = y.row; room = omega (arith, y.nodes, y.zone); words = y.words }
 
   start-bounds : Bounds n e z kept (set found₀ row 1) (row ∷ []) (row ∷ []) owner₀ used area
   start-bounds =

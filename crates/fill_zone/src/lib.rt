@@ -10,7 +10,8 @@ ghost use Rattle.fill_zone.specs.Held.{Floods, Moved, ZoneStarts, AtStart, Begin
 
 use fill_links::{Reached, Slot};
 use rules_fill::{Going, Settings};
-use turfs::{IDS, MIXTURES, Marks, NEIGHBOURS, PLANETARY, Rows};
+use scratch::Layout;
+use turfs::LentTables;
 
 // How far a fill has come.
 #[derive(Clone, Copy)]
@@ -37,16 +38,14 @@ pub struct Seed {
 fn ended(state: Going, planet: bool, t: Flood) -> Flood
     requires popped_bound { t.popped < 4096 }
     requires tests_bound { t.tests < 4294967296 }
-    ensures { result ≡ record { reach = t.reach; popped = t.popped + 1; moles = t.moles; planet = planet; tests = t.tests + 1; state = state } }
+    ensures { result ≡ record t { popped = t.popped + 1; planet = planet; tests = t.tests + 1; state = state } }
 {
-    let reach = t.reach;
     Flood {
-        reach,
         popped: t.popped + 1,
-        moles: t.moles,
         planet,
         tests: t.tests + 1,
         state,
+        ..t
     }
 }
 
@@ -54,20 +53,14 @@ fn ended(state: Going, planet: bool, t: Flood) -> Flood
 fn is_planet(marked: bool, planetary: u8) -> bool
     ensures { result ≡ (marked || not (eqb planetary 0)) }
 {
-    if marked {
-        return true;
-    }
-    planetary != 0
+    marked || planetary != 0
 }
 
 // Whether a zone of so many nodes breaks at the planet limit.
 fn breaks(planet: bool, nodes: usize, limit: u32) -> bool
     ensures { result ≡ (planet && ltb limit nodes) }
 {
-    if !planet {
-        return false;
-    }
-    (limit as usize) < nodes
+    planet && (limit as usize) < nodes
 }
 
 // A turf past the clock and the break: its total, its links.
@@ -76,22 +69,20 @@ fn expand(
     planet: bool,
     t: Flood,
     slot: Slot,
-    rows: &Rows,
-    marks: &Marks,
+    tables: &LentTables,
     gases: usize,
     gas: &[f32],
     words: &mut [u32],
     events: &mut [u8],
 ) -> Flood
-    requires accepted { Accepted (board_at rows marks gases) (length gas.now) }
-    requires expand_fits { ExpandFits (board_at rows marks gases) slot row t words.old events.old }
-    ensures { let b = board_at rows.entry marks.entry gases in ((limit allowance : ℕ) → Floods (turf_count b) (link_count b) slot.z slot.kept
+    requires accepted { Accepted (board_at tables gases) (length gas.now) }
+    requires expand_fits { ExpandFits (board_at tables gases) slot row t words.old events.old }
+    ensures { let b = board_at tables.entry gases in ((limit allowance : ℕ) → Floods (turf_count b) (link_count b) slot.z slot.kept
         (expand b gas.now limit allowance slot.z row planet) t result
         words.old words.new events.old events.new) }
 {
-    let total = mixture::total(rows[MIXTURES], gases, gas, row as usize);
-    let s = t.reach;
-    let reach = fill_links::reach_links(row, slot, s, rows, marks, words, events);
+    let total = mixture::total(tables.mixtures, gases, gas, row as usize);
+    let reach = fill_links::reach_links(row, slot, t.reach, tables, words, events);
     Flood {
         reach,
         popped: t.popped + 1,
@@ -107,60 +98,54 @@ fn pop(
     t: Flood,
     slot: Slot,
     settings: Settings,
-    rows: &Rows,
-    marks: &Marks,
+    tables: &LentTables,
     gases: usize,
     gas: &[f32],
     words: &mut [u32],
     events: &mut [u8],
 ) -> Flood
-    requires accepted { Accepted (board_at rows marks gases) (length gas.now) }
-    requires pop_fits { PopFits (board_at rows marks gases) slot settings.allowance t words.old events.old }
-    ensures fact { let b = board_at rows.entry marks.entry gases in Floods (turf_count b) (link_count b) slot.z slot.kept
+    requires accepted { Accepted (board_at tables gases) (length gas.now) }
+    requires pop_fits { PopFits (board_at tables gases) slot settings.allowance t words.old events.old }
+    ensures fact { let b = board_at tables.entry gases in Floods (turf_count b) (link_count b) slot.z slot.kept
         (pop_next b gas.now settings.limit settings.allowance slot.z) t result
         words.old words.new events.old events.new }
     ensures moved { Moved settings.allowance t result }
 {
-    let ids = rows[IDS];
-    let neighbours = rows[NEIGHBOURS];
-    let planetary = marks[PLANETARY];
+    let layout = Layout {
+        turfs: tables.ids.len(),
+        links: tables.neighbours.len(),
+    };
+    let planetary = tables.planetary;
     let popped = t.popped;
-    let row = words[scratch::queue_at(ids.len(), neighbours.len()) + popped];
+    let row = words[layout.queue_at() + popped];
     if (settings.allowance as usize) < t.tests + 1 {
         return ended(Going::Over, t.planet, t);
     }
     let planet = is_planet(t.planet, planetary[row as usize]);
-    let s = t.reach;
-    if breaks(planet, s.nodes, settings.limit) {
+    if breaks(planet, t.reach.nodes, settings.limit) {
         return ended(Going::Broken, planet, t);
     }
-    expand(row, planet, t, slot, rows, marks, gases, gas, words, events)
+    expand(row, planet, t, slot, tables, gases, gas, words, events)
 }
 
 // Whether there is another pop.
 fn goes_on(t: Flood) -> bool
     ensures { result ≡ (is_on t.state && ltb t.popped t.reach.queued) }
 {
-    let state = t.state;
-    let s = t.reach;
-    match state {
-        Going::On => t.popped < s.queued,
-        Going::Broken => false,
-        Going::Over => false,
-    }
+    matches!(t.state, Going::On) && t.popped < t.reach.queued
 }
 
 // The first turf of a zone is found, pushed, and a node.
-fn start(seed: Seed, n: usize, e: usize, words: &mut [u32]) -> Flood
-    requires { StartFits n e seed.kept seed.row words.old }
-    ensures zone_starts { ZoneStarts n e seed.kept seed.used (λ found owner es. start_fill seed.row found owner es seed.tests) result words.old words.new }
+fn start(seed: Seed, layout: Layout, words: &mut [u32]) -> Flood
+    requires { StartFits layout.turfs layout.links seed.kept seed.row words.old }
+    ensures zone_starts { ZoneStarts layout.turfs layout.links seed.kept seed.used (λ found owner es. start_fill seed.row found owner es seed.tests) result words.old words.new }
     ensures at_start { AtStart seed.used seed.tests result }
 {
     let row = seed.row;
-    words[scratch::found_at(n, e) + row as usize] = 1;
-    words[scratch::queue_at(n, e)] = row;
-    let first = scratch::nodes_at(n, e) + seed.kept;
-    let places = scratch::places_at(n, e);
+    words[layout.found_at() + row as usize] = 1;
+    words[layout.queue_at()] = row;
+    let first = layout.nodes_at() + seed.kept;
+    let places = layout.places_at();
     index_set::insert(row, 0, first, places, words);
     let reach = Reached {
         queued: 1,
@@ -182,29 +167,31 @@ fn start(seed: Seed, n: usize, e: usize, words: &mut [u32]) -> Flood
 pub fn flood_fill(
     seed: Seed,
     settings: Settings,
-    rows: &Rows,
-    marks: &Marks,
+    tables: &LentTables,
     gases: usize,
     gas: &[f32],
     words: &mut [u32],
     events: &mut [u8],
 ) -> Flood
-    requires accepted { Accepted (board_at rows marks gases) (length gas.now) }
-    requires zone_fits { ZoneFits (board_at rows marks gases) seed.z seed.kept seed.used seed.row words.old events.old }
+    requires accepted { Accepted (board_at tables gases) (length gas.now) }
+    requires zone_fits { ZoneFits (board_at tables gases) seed.z seed.kept seed.used seed.row words.old events.old }
     requires tests_le_allowance { seed.tests ≤ settings.allowance }
-    ensures { let b = board_at rows.entry marks.entry gases in Begins (turf_count b) (link_count b) seed.z seed.kept seed.used
+    ensures { let b = board_at tables.entry gases in Begins (turf_count b) (link_count b) seed.z seed.kept seed.used
         (λ found owner es. fill b gas.now settings.limit settings.allowance seed.z seed.row found owner es seed.tests) result
         words.old words.new events.old events.new }
 {
-    let ids = rows[IDS];
-    let neighbours = rows[NEIGHBOURS];
+    let layout = Layout {
+        turfs: tables.ids.len(),
+        links: tables.neighbours.len(),
+    };
     let slot = Slot {
         z: seed.z,
         kept: seed.kept,
     };
-    let mut t = start(seed, ids.len(), neighbours.len(), words);
+    let mut t = start(seed, layout, words);
+    // A while: the queue grows while it is worked through.
     while goes_on(t) {
-        t = pop(t, slot, settings, rows, marks, gases, gas, words, events);
+        t = pop(t, slot, settings, tables, gases, gas, words, events);
     }
     t
 }

@@ -12,6 +12,7 @@ use lib.Dec.{ltb}
 use lib.ListN.{length, get_or, set, take, drop, length-set, length-drop}
 use lib.Seq.{ext_get_or, take-take, length-take-le, get_or-set_same, get_or-set_other, take-suc-set, drop-set-add}
 use borrow.Author.Tests.{lt-ltb, le-ltb}
+use Rattle.std.specs.List.{CopiedTo, SameBelow, SameFrom}
 use Rattle.basics.specs.Loops.{keep, cons_if, up_from}
 use Rattle.basics.proofs.Loops.{keep_append, up-append}
 use Rattle.basics.proofs.Parts.{take-alike, drop-alike, part-front, drop-later}
@@ -32,25 +33,6 @@ pub record Moved (p count live i : ℕ) (ws ws' : List ℕ) : Type 0 where
   pub down : (j : ℕ) → p ≤ j → j < i → get_or ws' (live + j) 0 ≡ get_or ws (live + (j + 1)) 0
 
 module _ (p count live : ℕ) (ws : List ℕ) where
-  pub moved_none : p < count → Moved p count live p ws ws
-  moved_none h = record { low = omega arith; high = h; size = refl; same = λ j q. refl; down = λ j l u. absurd (omega arith) }
-
-  pub moved_next : (i : ℕ) (ws' : List ℕ) → Moved p count live i ws ws' → live + count ≤ length ws → i + 1 < count → Moved p count live (i + 1) ws (set ws' (live + i) (get_or ws' (live + (i + 1)) 0))
-  moved_next i ws' m l h = record {
-    low = omega (arith, m.low);
-    high = h;
-    size = length-set ws' (live + i) (get_or ws' (live + (i + 1)) 0) ∙ m.size;
-    same = λ j q. get_or-set_other ws' (live + i) j (get_or ws' (live + (i + 1)) 0) 0 (elim q [ inl x ↦ λ e. omega (arith, m.low) | inr x ↦ λ e. omega arith ])
-        ∙ m.same j (elim q [ inl x ↦ inl x | inr x ↦ inr (omega arith) ]);
-    down = λ j x y. go j x y (ℕ_discrete j i);
-  }
-    where
-      go : (j : ℕ) → p ≤ j → j < i + 1 → Dec (j ≡ i) → get_or (set ws' (live + i) (get_or ws' (live + (i + 1)) 0)) (live + j) 0 ≡ get_or ws (live + (j + 1)) 0
-      go j x y (yes e) =
-          ap (λ (k : ℕ). get_or (set ws' (live + i) (get_or ws' (live + (i + 1)) 0)) (live + k) 0) e ∙ get_or-set_same ws' (live + i) (get_or ws' (live + (i + 1)) 0) 0 (omega (arith, m.size))
-          ∙ m.same (live + (i + 1)) (inr (omega arith)) ∙ ap (λ (k : ℕ). get_or ws (live + (k + 1)) 0) (sym e)
-      go j x y (no e) = get_or-set_other ws' (live + i) (live + j) (get_or ws' (live + (i + 1)) 0) 0 (λ q. e (omega (arith, q))) ∙ m.down j x (omega (arith, e))
-
   pub moved_end : (i : ℕ) (ws' : List ℕ) → Moved p count live i ws ws' → live + count ≤ length ws → count ≤ i + 1 → TakenOut p count live ws ws'
   moved_end i ws' m l h = record {
     size = m.size;
@@ -74,6 +56,18 @@ module _ (p count live : ℕ) (ws : List ℕ) where
       each : (j : ℕ) → j < count - 1 → Dec (j < p) → get_or (live_in live (count - 1) ws') j 0 ≡ get_or (without p old) j 0
       each j x (yes q) = live_in-at live (count - 1) ws' j x ∙ m.same (live + j) (inl (omega arith)) ∙ sym (without-low p old inside j q ∙ live_in-at live count ws j (omega arith))
       each j x (no q) = live_in-at live (count - 1) ws' j x ∙ m.down j (omega arith) (omega arith) ∙ sym (without-high p old inside j (omega arith) ∙ live_in-at live count ws (j + 1) (omega arith))
+
+-- what stands behind the place p was copied down by one
+pub copied_out : (p count live : ℕ) (ws ws' : List ℕ) → p < count → live + count ≤ length ws → length ws' ≡ length ws
+    → CopiedTo ws ws' (live + p + 1) (live + p) (live + count - (live + p + 1)) × SameBelow ws ws' (live + p) × SameFrom ws ws' (live + p + (live + count - (live + p + 1)))
+    → TakenOut p count live ws ws'
+copied_out p count live ws ws' h l s by = moved_end p count live ws (count - 1) ws' (record {
+  low = omega arith;
+  high = omega arith;
+  size = s;
+  same = λ j q. elim q [ inl x ↦ by.1 j 0 x | inr x ↦ by.2 j 0 (omega arith) ];
+  down = λ j x y. by.0 (live + j) 0 (omega arith) (omega arith) ∙ ap (λ (k : ℕ). get_or ws k 0) (omega arith);
+}) l (omega arith)
 
 -- ---- what it leaves
 
@@ -117,10 +111,6 @@ module _ (n e z p count : ℕ) (ws : List ℕ) (l : Laid n e ws z) (h : (p < cou
 module _ (n e z live : ℕ) (ws : List ℕ) (l : Laid n e ws z) (at : ℕ) (ea : at ≡ turns_at n e + z) where
   stored : Beside n e ws (set ws at 0)
   stored = subst (λ (i : ℕ). Beside n e ws (set ws i 0)) (sym ea) (beside-next n e ws z 0 l.below)
-
-  -- the size is read after the store
-  pub stored-laid : Laid n e (set ws at 0) z
-  stored-laid = laid_beside n e stored z l
 
   pub starts_none : (r : ℕ) → r ≡ node_count_of n e (set ws at 0) z → r ≡ 0 → StartsZone n e z live live ws (set ws at 0)
   starts_none r x q =
@@ -186,6 +176,3 @@ module _ (n e : ℕ) (ws : List ℕ) where
               none = λ j i. none-now j i (ℕ_discrete j z);
               live = live-next n e live ws' z 0 h ∙ s.live ∙ sym (one_more z false x ∙ append-nil (keep has (up_from 0 z)));
             })
-
-pub started_end : {n e z live : ℕ} {ws ws' : List ℕ} (zones : ℕ) → Started n e z live ws ws' → z ≤ zones → zones ≤ z → Started n e zones live ws ws'
-started_end {n} {e} {z} {live} {ws} {ws'} zones s h l = let x : z ≡ zones = omega arith in subst (λ (k : ℕ). Started n e k live ws ws') x s

@@ -11,8 +11,7 @@ use lib.Seq.{get_or-take, get_or-drop}
 use lib.Ieee.{Float, nan, inf, fin, lt, is_nan, of_bits}
 use borrow.Author.Tests.{eq-eqb, ne_eqb}
 use Rattle.basics.specs.Floats.{0f}
-use Rattle.basics.specs.declared.Spot.{Spot}
-use Rattle.basics.specs.declared.Spot.TheVariants.{At, Nowhere}
+use Rattle.std.specs.Prelude.{Option, Some, None}
 use Rattle.basics.specs.Lists.{Found}
 use Rattle.rules_board.specs.Board.{Board, mix_of}
 use Rattle.rules_mixture.specs.Mixture.{move_air, total, total_mix, amounts, sum}
@@ -32,7 +31,7 @@ back_below e k z w h l = go (get_or (take e (drop e w)) k 0) (subst (λ (p : ℕ
     go : (p : ℕ) → p ≤ e → Found (λ j. j < e) (owned_by (take e w) z p)
     go p l' = pick (ℕ_discrete p 0)
       where
-        mine : (t : Bool) → p - 1 < e → Found (λ j. j < e) (cond t (At (p - 1)) Nowhere)
+        mine : (t : Bool) → p - 1 < e → Found (λ j. j < e) (cond t (Some (p - 1)) None)
         mine true q = q
         mine false q = tt
 
@@ -40,15 +39,8 @@ back_below e k z w h l = go (get_or (take e (drop e w)) k 0) (subst (λ (p : ℕ
         pick (yes i) = rw (eq-eqb p 0 i) tt
         pick (no i) = rw (ne_eqb p 0 i) (mine (eqb (get_or (take e w) (p - 1) 0) (z + 1)) (omega (arith, i)))
 
-pub back_fits : (e k z : ℕ) (w : List ℕ) (f : List Float) (s : Spot) → s ≡ back_link (take e (drop e w)) (take e w) z k → k < e → get_or w (e + k) 0 ≤ e → e ≤ length f → Found (λ j. j < length f) s
+pub back_fits : (e k z : ℕ) (w : List ℕ) (f : List Float) (s : Option ℕ) → s ≡ back_link (take e (drop e w)) (take e w) z k → k < e → get_or w (e + k) 0 ≤ e → e ≤ length f → Found (λ j. j < length f) s
 back_fits e k z w f s q h l m = found-more e (length f) s m (subst (Found (λ j. j < e)) (sym q) (back_below e k z w h l))
-
-module _ (b : Board) (r a : ℕ) (x : Float) (gas : List Float) where
-  pub share_same : mix_of b r ≡ mix_of b a → gas ≡ shared b r a x gas
-  share_same e = sym (rw (eq-eqb (mix_of b r) (mix_of b a) e))
-
-  pub share_moved : (gas' : List Float) → (mix_of b r ≡ mix_of b a → ⊥) → gas' ≡ move_air b (mix_of b r) (mix_of b a) x gas → gas' ≡ shared b r a x gas
-  share_moved gas' ne e = e ∙ sym (rw (ne_eqb (mix_of b r) (mix_of b a) ne))
 
 -- the total of a turf is that of its mixture, on any board of as many gases
 pub has_total : (b c : Board) (r : ℕ) (gas : List Float) (x : Float) → c.gases ≡ b.gases → x ≡ total b gas r → x ≡ total_mix c gas (mix_of b r)
@@ -76,20 +68,6 @@ lift_length words z up k f = go (eqb (get_or words k 0) (z + 1))
 
 pub zero-length : (words : List ℕ) (z k : ℕ) (f : List Float) → length (zero_at words z k f) ≡ length f
 zero-length words z k f = store_length (eqb (get_or words k 0) (z + 1)) f k 0f
-
--- the first place from k on that passes: none up to i, or i is the one
-pub next_here : (p : ℕ → Bool) (k to i : ℕ) → k ≤ i → i < to → ((j : ℕ) → k ≤ j → j < i → p j ≡ false) → p i ≡ true → Next p k to i
-next_here p k to i l h n t = record { low = l; high = omega arith; none = n; here = λ q. t }
-
-pub none_more : (p : ℕ → Bool) (k i : ℕ) → ((j : ℕ) → k ≤ j → j < i → p j ≡ false) → p i ≡ false → (j : ℕ) → k ≤ j → j < i + 1 → p j ≡ false
-none_more p k i n t j l h = go (ℕ_discrete j i)
-  where
-    go : Dec (j ≡ i) → p j ≡ false
-    go (yes e) = ap p e ∙ t
-    go (no e) = n j l (omega (arith, e))
-
-pub next-none : (p : ℕ → Bool) (k to i : ℕ) → k ≤ to → i ≤ to → to ≤ i → ((j : ℕ) → k ≤ j → j < i → p j ≡ false) → Next p k to to
-next-none p k to i l h h' n = record { low = l; high = omega arith; none = λ j a q. n j a (omega arith); here = λ q. absurd (omega arith) }
 
 -- a record of kind 3 has 20 bytes
 pub pressure_size : (z : ℕ) (x : Float) (i j : ℕ) → length (encode (Pressure z x i j)) ≡ 20

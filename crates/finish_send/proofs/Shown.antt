@@ -12,8 +12,7 @@ use Rattle.basics.specs.Regions.{cut}
 use Rattle.basics.proofs.Regions.{cut-set, cut-get}
 use Rattle.basics.specs.Loops.{snoc}
 use Rattle.basics.specs.Floats.{0f}
-use Rattle.basics.specs.declared.Spot.{Spot}
-use Rattle.basics.specs.declared.Spot.TheVariants.{At, Nowhere}
+use Rattle.std.specs.Prelude.{Option, Some, None}
 use Rattle.basics.specs.Lists.{Found}
 use Rattle.rules_board.specs.Board.{Board, turf_count, link_count, mixture_count, mix_of, id_of, end}
 use Rattle.rules_mixture.specs.Mixture.{move_air}
@@ -52,12 +51,12 @@ module _ (b : Board) (f : List Float) (k : ℕ) (h : k < link_count b) where
 
 -- ---- a weight set to 0
 
-cut-alter : (b : Board) (s : Spot) (f : List Float) → Found (λ k. k < link_count b) s
+cut-alter : (b : Board) (s : Option ℕ) (f : List Float) → Found (λ k. k < link_count b) s
     → cut (floats_of b) (alter s (λ y. 0f) f) ≡ set (cut (floats_of b) f) 0 (alter s (λ y. 0f) (weight_on b f))
-cut-alter b (At k) f h = cut-set (floats_of b) f 0 k 0f k (omega arith) h (omega arith)
-cut-alter b Nowhere f h = refl
+cut-alter b (Some k) f h = cut-set (floats_of b) f 0 k 0f k (omega arith) h (omega arith)
+cut-alter b None f h = refl
 
-module _ (b : Board) (s : Spot) (f f' : List Float) (h : Found (λ k. k < link_count b) s) (e : f' ≡ alter s (λ y. 0f) f) where
+module _ (b : Board) (s : Option ℕ) (f f' : List Float) (h : Found (λ k. k < link_count b) s) (e : f' ≡ alter s (λ y. 0f) f) where
   cuts : cut (floats_of b) f' ≡ set (cut (floats_of b) f) 0 (alter s (λ y. 0f) (weight_on b f))
   cuts = ap (cut (floats_of b)) e ∙ cut-alter b s f h
 
@@ -120,7 +119,7 @@ shared-fits b r a x gas f h l = go (eqb (mix_of b r) (mix_of b a))
 module _ (b : Board) (words : List ℕ) (z r k : ℕ) (a a' : FinishAreas) (ready : FinishFits b words a.gas a.floats) (row : r < turf_count b) (i : InRow b.starts r k) (below : k < link_count b)
     (x : Float)
     (s : Sends b r k z x words a a') where
-  abbrev back : Spot
+  abbrev back : Option ℕ
   back = back_link (reverse_in (link_count b) words) (owner_in (link_count b) words) z k
 
   back_in : Found (λ j. j < link_count b) back
@@ -150,7 +149,7 @@ module _ (b : Board) (words : List ℕ) (z r k : ℕ) (a a' : FinishAreas) (read
   unfolding send
   sent_shows h v = record {
     gas = s.air ∙ ap (shared b r (end b k) x) v.gas;
-    weight = sent_weight ∙ ap₂ (λ (o : Spot) (w : List Float). alter o (λ y. 0f) w)
+    weight = sent_weight ∙ ap₂ (λ (o : Option ℕ) (w : List Float). alter o (λ y. 0f) w)
         (sym (edge-back b (turf_count b) ready.linked (owner_in (link_count b) words) z (reverse_in (link_count b) words) ready.reverse r k row i)) v.weight;
     lifted = sent_lifted ∙ v.lifted;
     events = written-more (Pressure z x (id_of b r) (id_of b (end b k))) v.events s.event;

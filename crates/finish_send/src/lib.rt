@@ -13,9 +13,9 @@ ghost use Rattle.turfs.specs.Tables.{board_at};
 ghost use Rattle.finish_send.specs.Areas.{finish_areas};
 ghost use Rattle.finish_send.specs.Sending.{on_side, is_marked, Next, lift_at, zero_at, shared, MoveFits, SendFits, Sends, Going, SentOver};
 
-use basics::Spot;
 use rules_events::Event;
-use turfs::{IDS, IMMUTABLE, MIXTURES, Marks, NEIGHBOURS, Rows};
+use scratch::Layout;
+use turfs::LentTables;
 
 // The turf in hand: its row, its zone, and the board's number of gases.
 #[derive(Clone, Copy)]
@@ -62,10 +62,7 @@ fn marked(k: usize, zone: u32, base: usize, above: bool, words: &[u32], floats: 
     requires k_in_bounds_2 { base + k < length floats.now }
     ensures { result ≡ is_marked words.now floats.now zone base above k }
 {
-    if words[k] != zone + 1 {
-        return false;
-    }
-    side(above, floats[base + k])
+    words[k] == zone + 1 && side(above, floats[base + k])
 }
 
 // The first such link from k on, and `to` where there is none.
@@ -84,12 +81,10 @@ pub fn next_edge(
     requires to_in_bounds_2 { base + to ≤ length floats.now }
     ensures { Next (is_marked words.now floats.now zone base above) k to result }
 {
-    let mut i = k;
-    while i < to {
+    for i in k..to {
         if marked(i, zone, base, above, words, floats) {
             return i;
         }
-        i += 1;
     }
     to
 }
@@ -101,11 +96,10 @@ fn lift_at(k: usize, zone: u32, up: usize, words: &[u32], floats: &mut [f32])
     requires k_in_bounds_2 { up + k < length floats.old }
     ensures { floats.new ≡ lift_at words.now zone up k floats.old }
 {
-    if words[k] != zone + 1 {
-        return;
+    if words[k] == zone + 1 {
+        floats[up + k] = floats[k];
+        floats[k] = 0.0;
     }
-    floats[up + k] = floats[k];
-    floats[k] = 0.0;
 }
 
 // Lifts the weights of the zone's edges from one link up to another.
@@ -116,10 +110,8 @@ pub fn lift(from: usize, to: usize, zone: u32, up: usize, words: &[u32], floats:
     requires to_in_bounds_2 { up + to ≤ length floats.old }
     ensures { floats.new ≡ run (lift_at words.now zone up) (up_from from (to - from)) floats.old }
 {
-    let mut k = from;
-    while k < to {
+    for k in from..to {
         lift_at(k, zone, up, words, floats);
-        k += 1;
     }
 }
 
@@ -130,10 +122,9 @@ fn clear_own(k: usize, zone: u32, words: &[u32], floats: &mut [f32])
     requires k_in_bounds_2 { k < length floats.old }
     ensures { floats.new ≡ zero_at words.now zone k floats.old }
 {
-    if words[k] != zone + 1 {
-        return;
+    if words[k] == zone + 1 {
+        floats[k] = 0.0;
     }
-    floats[k] = 0.0;
 }
 
 // 0 left in the weights of the zone's edges from one link up to another.
@@ -144,45 +135,42 @@ pub fn clear_weights(from: usize, to: usize, zone: u32, words: &[u32], floats: &
     requires to_in_bounds_2 { to ≤ length floats.old }
     ensures { floats.new ≡ run (zero_at words.now zone) (up_from from (to - from)) floats.old }
 {
-    let mut k = from;
-    while k < to {
+    for k in from..to {
         clear_own(k, zone, words, floats);
-        k += 1;
     }
 }
 
 // 0 left in the weight of a link.
-fn clear_at(spot: Spot, floats: &mut [f32])
+fn clear_at(spot: Option<usize>, floats: &mut [f32])
     requires { Found (λ k. k < length floats.old) spot }
     ensures { floats.new ≡ alter spot (λ y. 0f) floats.old }
 {
-    if let Spot::At(k) = spot {
+    if let Some(k) = spot {
         floats[k] = 0.0;
     }
 }
 
 // The load moves from the turf to the row `to` where the mixtures differ.
-fn move_between(turf: Turf, load: Load, to: usize, rows: &Rows, marks: &Marks, gas: &mut [f32])
-    requires move_fits { MoveFits (board_at rows marks turf.gases) turf.row to gas.old }
-    requires has_value { load.has ≡ total (board_at rows marks turf.gases) gas.old turf.row }
-    ensures { gas.new ≡ shared (board_at rows.entry marks.entry turf.gases) turf.row to load.amount gas.old }
+fn move_between(turf: Turf, load: Load, to: usize, tables: &LentTables, gas: &mut [f32])
+    requires move_fits { MoveFits (board_at tables turf.gases) turf.row to gas.old }
+    requires has_value { load.has ≡ total (board_at tables turf.gases) gas.old turf.row }
+    ensures { gas.new ≡ shared (board_at tables.entry turf.gases) turf.row to load.amount gas.old }
 {
-    let mixtures = rows[MIXTURES];
+    let mixtures = tables.mixtures;
     let row = turf.row;
     let giver = mixtures[row] as usize;
     let taker = mixtures[to] as usize;
-    if giver == taker {
-        return;
+    if giver != taker {
+        mixture_moves::move_air(
+            tables.immutable,
+            turf.gases,
+            gas,
+            giver,
+            taker,
+            load.has,
+            load.amount,
+        );
     }
-    mixture_moves::move_air(
-        marks[IMMUTABLE],
-        turf.gases,
-        gas,
-        giver,
-        taker,
-        load.has,
-        load.amount,
-    );
 }
 
 // The load goes over its link: the reverse is cleared, the air moves, and the record is written.
@@ -190,25 +178,28 @@ fn send(
     turf: Turf,
     load: Load,
     used: usize,
-    rows: &Rows,
-    marks: &Marks,
+    tables: &LentTables,
     gas: &mut [f32],
     words: &[u32],
     floats: &mut [f32],
     events: &mut [u8],
 ) -> usize
-    requires fact { let b = board_at rows marks turf.gases in SendFits b turf.row load.link turf.zone load.amount words.now (finish_areas gas.old floats.old events.old used) }
-    requires has_value { load.has ≡ total (board_at rows marks turf.gases) gas.old turf.row }
-    ensures { let b = board_at rows.entry marks.entry turf.gases in Sends b turf.row load.link turf.zone load.amount words.now (finish_areas gas.old floats.old events.old used) (finish_areas gas.new floats.new events.new result) }
+    requires fact { let b = board_at tables turf.gases in SendFits b turf.row load.link turf.zone load.amount words.now (finish_areas gas.old floats.old events.old used) }
+    requires has_value { load.has ≡ total (board_at tables turf.gases) gas.old turf.row }
+    ensures { let b = board_at tables.entry turf.gases in Sends b turf.row load.link turf.zone load.amount words.now (finish_areas gas.old floats.old events.old used) (finish_areas gas.new floats.new events.new result) }
 {
-    let ids = rows[IDS];
-    let neighbours = rows[NEIGHBOURS];
+    let ids = tables.ids;
+    let neighbours = tables.neighbours;
     let row = turf.row;
     let k = load.link;
     let to = neighbours[k] as usize;
-    let back = plan_edges::back_link(k, turf.zone, neighbours.len(), words);
+    let layout = Layout {
+        turfs: ids.len(),
+        links: neighbours.len(),
+    };
+    let back = plan_edges::back_link(k, turf.zone, layout, words);
     clear_at(back, floats);
-    move_between(turf, load, to, rows, marks, gas);
+    move_between(turf, load, to, tables, gas);
     let record = Event::Pressure {
         zone: turf.zone,
         amount: load.amount,
@@ -222,7 +213,7 @@ fn send(
 fn is_short(stop: bool, load: Load) -> bool
     ensures { result ≡ stop && lt load.has load.amount }
 {
-    if stop { load.has < load.amount } else { false }
+    stop && load.has < load.amount
 }
 
 // Sends what was lifted above 0 over the turf's links, edge by edge; with `stop`, only until the turf's total is below the amount.
@@ -230,33 +221,35 @@ pub fn send_edges(
     turf: Turf,
     links: Span,
     used: usize,
-    rows: &Rows,
-    marks: &Marks,
+    tables: &LentTables,
     gas: &mut [f32],
     words: &[u32],
     floats: &mut [f32],
     events: &mut [u8],
 ) -> Sent
-    requires { Going (board_at rows marks turf.gases) words.now turf.zone turf.row links.from links.to (finish_areas gas.old floats.old events.old used) }
-    ensures { let b = board_at rows.entry marks.entry turf.gases in SentOver b words.now turf links (finish_areas gas.old floats.old events.old used) result.at (finish_areas gas.new floats.new events.new result.used) }
+    requires { Going (board_at tables turf.gases) words.now turf.zone turf.row links.from links.to (finish_areas gas.old floats.old events.old used) }
+    ensures { let b = board_at tables.entry turf.gases in SentOver b words.now turf links (finish_areas gas.old floats.old events.old used) result.at (finish_areas gas.new floats.new events.new result.used) }
 {
     let zone = turf.zone;
-    let to = links.to;
-    let from = links.from;
-    let stop = links.stop;
-    let up = scratch::lifted_at(rows[IDS].len(), rows[NEIGHBOURS].len());
+    let Span { from, to, stop } = links;
+    let layout = Layout {
+        turfs: tables.ids.len(),
+        links: tables.neighbours.len(),
+    };
+    let up = layout.lifted_at();
     let mut now = used;
     let mut k = next_edge(from, to, zone, up, true, words, floats);
+    // A while: it goes from one edge to the next, past the links between.
     while k < to {
         let load = Load {
             link: k,
             amount: floats[up + k],
-            has: mixture::total(rows[MIXTURES], turf.gases, gas, turf.row),
+            has: mixture::total(tables.mixtures, turf.gases, gas, turf.row),
         };
         if is_short(stop, load) {
             return Sent { at: k, used: now };
         }
-        now = send(turf, load, now, rows, marks, gas, words, floats, events);
+        now = send(turf, load, now, tables, gas, words, floats, events);
         k = next_edge(k + 1, to, zone, up, true, words, floats);
     }
     Sent { at: to, used: now }

@@ -8,7 +8,8 @@ ghost use Rattle.finish_zones.specs.Zones.{Laid, AllLaid, ZoneOpen, Live};
 ghost use Rattle.finish_turns.specs.Turning.{TurnsFit, Nexts, TurnOf, ByTurns, ZoneDone, Planned, FinishesAll};
 
 use finish_send::Turf;
-use turfs::{IDS, Marks, NEIGHBOURS, Rows};
+use scratch::Layout;
+use turfs::LentTables;
 
 // What a turn leaves: unfinished zones, bytes written.
 #[derive(Clone, Copy)]
@@ -21,27 +22,28 @@ pub struct Left {
 fn finish_next(
     zone: usize,
     used: usize,
-    rows: &Rows,
-    marks: &Marks,
+    tables: &LentTables,
     gases: usize,
     gas: &mut [f32],
     words: &mut [u32],
     floats: &mut [f32],
     events: &mut [u8],
 ) -> usize
-    requires turns_fit { TurnsFit (board_at rows marks gases) words.old (finish_areas gas.old floats.old events.old used) }
-    requires fact { let b = board_at rows marks gases in ZoneOpen (turf_count b) (link_count b) words.old zone }
-    ensures { Nexts (board_at rows.entry marks.entry gases) zone words.old words.new (finish_areas gas.old floats.old events.old used) (finish_areas gas.new floats.new events.new result) }
+    requires turns_fit { TurnsFit (board_at tables gases) words.old (finish_areas gas.old floats.old events.old used) }
+    requires fact { let b = board_at tables gases in ZoneOpen (turf_count b) (link_count b) words.old zone }
+    ensures { Nexts (board_at tables.entry gases) zone words.old words.new (finish_areas gas.old floats.old events.old used) (finish_areas gas.new floats.new events.new result) }
 {
-    let n = rows[IDS].len();
-    let e = rows[NEIGHBOURS].len();
+    let layout = Layout {
+        turfs: tables.ids.len(),
+        links: tables.neighbours.len(),
+    };
     let turf = Turf {
-        row: finish_zones::next_row(zone, n, e, words),
+        row: finish_zones::next_row(zone, layout, words),
         zone: zone as u32,
         gases,
     };
-    let now = finish_turf::finalize_eq(turf, used, rows, marks, gas, words, floats, events);
-    finish_zones::count_turn(zone, n, e, words);
+    let now = finish_turf::finalize_eq(turf, used, tables, gas, words, floats, events);
+    finish_zones::count_turn(zone, layout, words);
     now
 }
 
@@ -49,28 +51,27 @@ fn finish_next(
 fn turn(
     c: u32,
     left: Left,
-    rows: &Rows,
-    marks: &Marks,
+    tables: &LentTables,
     gases: usize,
     gas: &mut [f32],
     words: &mut [u32],
     floats: &mut [f32],
     events: &mut [u8],
 ) -> Left
-    requires turns_fit { TurnsFit (board_at rows marks gases) words.old (finish_areas gas.old floats.old events.old left.used) }
-    requires fact { let b = board_at rows marks gases in Live (turf_count b) (link_count b) left.live words.old }
-    ensures { let b = board_at rows.entry marks.entry gases in TurnOf b c left.live result.live
+    requires turns_fit { TurnsFit (board_at tables gases) words.old (finish_areas gas.old floats.old events.old left.used) }
+    requires fact { let b = board_at tables gases in Live (turf_count b) (link_count b) left.live words.old }
+    ensures { let b = board_at tables.entry gases in TurnOf b c left.live result.live
         words.old words.new (finish_areas gas.old floats.old events.old left.used) (finish_areas gas.new floats.new events.new result.used) }
 {
-    let n = rows[IDS].len();
-    let e = rows[NEIGHBOURS].len();
+    let layout = Layout {
+        turfs: tables.ids.len(),
+        links: tables.neighbours.len(),
+    };
     let count = left.live;
     let p = c as usize % count;
-    let zone = finish_zones::zone_at(p, count, n, e, words);
-    let used = finish_next(
-        zone, left.used, rows, marks, gases, gas, words, floats, events,
-    );
-    let live = finish_live::settle(zone, p, count, n, e, words);
+    let zone = finish_zones::zone_at(p, count, layout, words);
+    let used = finish_next(zone, left.used, tables, gases, gas, words, floats, events);
+    let live = finish_live::settle(zone, p, count, layout, words);
     Left { live, used }
 }
 
@@ -79,60 +80,56 @@ fn by_turns(
     zones: usize,
     turns: &[u32],
     used: usize,
-    rows: &Rows,
-    marks: &Marks,
+    tables: &LentTables,
     gases: usize,
     gas: &mut [f32],
     words: &mut [u32],
     floats: &mut [f32],
     events: &mut [u8],
 ) -> usize
-    requires turns_fit { TurnsFit (board_at rows marks gases) words.old (finish_areas gas.old floats.old events.old used) }
-    requires fact { let b = board_at rows marks gases in AllLaid (turf_count b) (link_count b) zones words.old }
-    ensures { ByTurns (board_at rows.entry marks.entry gases) zones turns.now words.old words.new (finish_areas gas.old floats.old events.old used) (finish_areas gas.new floats.new events.new result) }
+    requires turns_fit { TurnsFit (board_at tables gases) words.old (finish_areas gas.old floats.old events.old used) }
+    requires fact { let b = board_at tables gases in AllLaid (turf_count b) (link_count b) zones words.old }
+    ensures { ByTurns (board_at tables.entry gases) zones turns.now words.old words.new (finish_areas gas.old floats.old events.old used) (finish_areas gas.new floats.new events.new result) }
 {
-    let mut live = finish_live::start(zones, rows[IDS].len(), rows[NEIGHBOURS].len(), words);
-    let mut now = used;
-    let mut i = 0;
-    while i < turns.len() {
-        if live == 0 {
-            return now;
+    let layout = Layout {
+        turfs: tables.ids.len(),
+        links: tables.neighbours.len(),
+    };
+    let live = finish_live::start(zones, layout, words);
+    let mut left = Left { live, used };
+    for &c in turns {
+        if left.live == 0 {
+            return left.used;
         }
-        let left = Left { live, used: now };
-        let t = turn(
-            turns[i], left, rows, marks, gases, gas, words, floats, events,
-        );
-        live = t.live;
-        now = t.used;
-        i += 1;
+        left = turn(c, left, tables, gases, gas, words, floats, events);
     }
-    now
+    left.used
 }
 
 // The nodes that a zone has left.
 fn finish_zone(
     zone: usize,
     used: usize,
-    rows: &Rows,
-    marks: &Marks,
+    tables: &LentTables,
     gases: usize,
     gas: &mut [f32],
     words: &mut [u32],
     floats: &mut [f32],
     events: &mut [u8],
 ) -> usize
-    requires turns_fit { TurnsFit (board_at rows marks gases) words.old (finish_areas gas.old floats.old events.old used) }
-    requires fact { let b = board_at rows marks gases in Laid (turf_count b) (link_count b) words.old zone }
-    ensures { ZoneDone (board_at rows.entry marks.entry gases) zone words.old words.new (finish_areas gas.old floats.old events.old used) (finish_areas gas.new floats.new events.new result) }
+    requires turns_fit { TurnsFit (board_at tables gases) words.old (finish_areas gas.old floats.old events.old used) }
+    requires fact { let b = board_at tables gases in Laid (turf_count b) (link_count b) words.old zone }
+    ensures { ZoneDone (board_at tables.entry gases) zone words.old words.new (finish_areas gas.old floats.old events.old used) (finish_areas gas.new floats.new events.new result) }
 {
-    let n = rows[IDS].len();
-    let e = rows[NEIGHBOURS].len();
-    let size = finish_zones::size_of(zone, n, e, words);
-    let mut i = finish_zones::turns_of(zone, n, e, words);
+    let layout = Layout {
+        turfs: tables.ids.len(),
+        links: tables.neighbours.len(),
+    };
+    let size = finish_zones::size_of(zone, layout, words);
+    let had = finish_zones::turns_of(zone, layout, words);
     let mut now = used;
-    while i < size {
-        now = finish_next(zone, now, rows, marks, gases, gas, words, floats, events);
-        i += 1;
+    for _ in had..size {
+        now = finish_next(zone, now, tables, gases, gas, words, floats, events);
     }
     now
 }
@@ -142,24 +139,21 @@ pub fn finish_all(
     zones: usize,
     turns: &[u32],
     used: usize,
-    rows: &Rows,
-    marks: &Marks,
+    tables: &LentTables,
     gases: usize,
     gas: &mut [f32],
     words: &mut [u32],
     floats: &mut [f32],
     events: &mut [u8],
 ) -> usize
-    requires { Planned (board_at rows marks gases) zones words.old (finish_areas gas.old floats.old events.old used) }
-    ensures { FinishesAll (board_at rows.entry marks.entry gases) zones turns.now words.old words.new (finish_areas gas.old floats.old events.old used) (finish_areas gas.new floats.new events.new result) }
+    requires { Planned (board_at tables gases) zones words.old (finish_areas gas.old floats.old events.old used) }
+    ensures { FinishesAll (board_at tables.entry gases) zones turns.now words.old words.new (finish_areas gas.old floats.old events.old used) (finish_areas gas.new floats.new events.new result) }
 {
     let mut now = by_turns(
-        zones, turns, used, rows, marks, gases, gas, words, floats, events,
+        zones, turns, used, tables, gases, gas, words, floats, events,
     );
-    let mut z = 0;
-    while z < zones {
-        now = finish_zone(z, now, rows, marks, gases, gas, words, floats, events);
-        z += 1;
+    for z in 0..zones {
+        now = finish_zone(z, now, tables, gases, gas, words, floats, events);
     }
     now
 }

@@ -115,6 +115,3 @@ module _ (n e : ℕ) {ws : List ℕ} {z : ℕ} (o : ZoneOpen n e ws z) (first tu
 
   pub row_is : get_or ws place 0 ≡ get_or (zone_nodes n e ws z) (turns_of n e ws z) 0
   row_is = ap (λ (i : ℕ). get_or ws i 0) (omega (arith, from_is, had_is, en)) ∙ node_at n e o.laid (turns_of n e ws z) o.some
-
-  pub row_small : get_or ws place 0 < n
-  row_small = subst (λ (x : ℕ). x < n) (sym row_is) (All-get_or (λ r. r < n) (zone_nodes n e ws z) (turns_of n e ws z) 0 o.laid.rows (omega (arith, nodes-length n e o.laid, o.some)))

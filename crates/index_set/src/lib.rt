@@ -10,12 +10,8 @@ pub fn contains(a: u32, count: usize, n: usize, queue: usize, places: usize, wor
     requires { HoldsSet n count queue places words.now × (a < n) }
     ensures { result ≡ member a (take count (array n queue words.now)) }
 {
-    let p = words[places + a as usize] as usize;
-    if p < count {
-        words[queue + p] == a
-    } else {
-        false
-    }
+    let place = words[places + a as usize] as usize;
+    place < count && words[queue + place] == a
 }
 
 // The row a joins the `count` rows of the set.

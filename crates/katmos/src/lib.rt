@@ -11,6 +11,7 @@ ghost use Rattle.call_answers.specs.Answers.{Answers, ReadAnswers, WriteAnswers,
 
 use rules_depressurize::Breach;
 use rules_fill::Settings;
+use turfs::LentTables;
 
 // Evens out the gas of the rooms around the hot ones: number, cancelled, processed, tests, zones, apart, bytes.
 #[unsafe(no_mangle)]
@@ -39,18 +40,26 @@ pub extern "C" fn katmos_equalize<'a>(
         Answers equalize_numbers b (equalize_result b (ask_of hot.now threshold limit allowance) turns.now
         (lent amounts.old events.old words.old floats.old)) result answer.new (lent amounts.new events.new words.new floats.new) }
 {
-    let rows = [ids, mixtures, starts, neighbours];
-    let marks = [flags, planetary, link_flags, immutable];
+    let tables = LentTables {
+        ids,
+        flags,
+        planetary,
+        mixtures,
+        starts,
+        neighbours,
+        link_flags,
+        immutable,
+    };
     let settings = Settings {
         threshold,
         limit,
         allowance,
     };
     let a = call_equalize::equalize(
-        hot, turns, settings, &rows, &marks, gases, amounts, words, floats, events,
+        hot, turns, settings, &tables, gases, amounts, words, floats, events,
     );
     *answer = call_answers::equalize_numbers(a);
-    a.number
+    answer[0]
 }
 
 // The planet walk from the turf `id`: number, bytes.
@@ -76,13 +85,21 @@ pub extern "C" fn katmos_planet_walk<'a>(
     ensures { let b = board ids.now flags.now planetary.now mixtures.now starts.now neighbours.now link_flags.now immutable.now gases in
         Answers planet_numbers b (planet_result b limit id (lent amounts.now events.old words.old floats.old)) result answer.new (lent amounts.now events.new words.new floats.new) }
 {
-    let rows = [ids, mixtures, starts, neighbours];
-    let marks = [flags, planetary, link_flags, immutable];
+    let tables = LentTables {
+        ids,
+        flags,
+        planetary,
+        mixtures,
+        starts,
+        neighbours,
+        link_flags,
+        immutable,
+    };
     let a = call_planet_walk::planet_walk(
-        id, limit, &rows, &marks, gases, amounts, words, floats, events,
+        id, limit, &tables, gases, amounts, words, floats, events,
     );
     *answer = call_answers::planet_numbers(a);
-    a.number
+    answer[0]
 }
 
 // Depressurizes from the turf `id`; kind 7 is as in the Rust where `arrows` is 0, and else leads towards space. Number, outcome, bytes.
@@ -109,14 +126,20 @@ pub extern "C" fn katmos_depressurize<'a>(
     ensures { let b = board ids.now flags.now planetary.now mixtures.now starts.now neighbours.now link_flags.now immutable.now gases in
         Answers depressurize_numbers b (depressurize_result b (breach_of id limit arrows) (lent amounts.old events.old words.old floats.old)) result answer.new (lent amounts.new events.new words.new floats.new) }
 {
-    let rows = [ids, mixtures, starts, neighbours];
-    let marks = [flags, planetary, link_flags, immutable];
+    let tables = LentTables {
+        ids,
+        flags,
+        planetary,
+        mixtures,
+        starts,
+        neighbours,
+        link_flags,
+        immutable,
+    };
     let breach = Breach { id, limit, arrows };
-    let a = call_depressurize::depressurize(
-        breach, &rows, &marks, gases, amounts, words, floats, events,
-    );
+    let a = call_depressurize::depressurize(breach, &tables, gases, amounts, words, floats, events);
     *answer = call_answers::depressurize_numbers(a);
-    a.number
+    answer[0]
 }
 
 // The record at an offset: number, kind, next, four fields; kind 0 is the end, an amount is its bits.

@@ -14,8 +14,7 @@ use lib.Ieee.Bits.{is_true}
 use borrow.Author.Tests.{eq-eqb, ne_eqb}
 use Rattle.basics.specs.Loops.{run, times, member}
 use Rattle.basics.specs.Floats.{0f, ◌+f◌}
-use Rattle.basics.specs.declared.Spot.{Spot}
-use Rattle.basics.specs.declared.Spot.TheVariants.{At, Nowhere}
+use Rattle.std.specs.Prelude.{Option, Some, None}
 use Rattle.basics.specs.Lists.{All, Found}
 use Rattle.basics.proofs.Loops.{All-imp, All-get_or, run-append, run-keeps, run-still, times-still, cond_both}
 use Rattle.basics.proofs.Tests.{differ}
@@ -288,10 +287,10 @@ module _ (b : Board) {n : ℕ} (h : Accepted b n) (gas : List Float) (id limit a
       (cond_both AllOut (eqb (length w.space) 0) _ (way_back b arrows gas o) none
       (way-leads b h arrows out gas o (outward-outed b h limit w.space w.events line).line (outward-led b h limit w.space w.events space) (outward-plain b limit w.space w.events plain)))
 
-  row_out : (o : Spot) → Found (λ r. r < turf_count b) o → AllOut (from_row b gas (breach_of id limit arrows) o)
+  row_out : (o : Option ℕ) → Found (λ r. r < turf_count b) o → AllOut (from_row b gas (breach_of id limit arrows) o)
   unfolding from_row
-  row_out Nowhere f = tt
-  row_out (At r) f = let q = walk-begun b limit r in walk-out (walk b (visit_space b limit) r) q.plain q.space (space-walk b h limit r f).space
+  row_out None f = tt
+  row_out (Some r) f = let q = walk-begun b limit r in walk-out (walk b (visit_space b limit) r) q.plain q.space (space-walk b h limit r f).space
 
 -- Towards space every arrow leads out.
 pub arrows_lead : (b : Board) {n : ℕ} → Accepted b n → (gas : List Float) (id limit arrows : ℕ) → arrows ≢ 0

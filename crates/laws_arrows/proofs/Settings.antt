@@ -9,8 +9,7 @@ use lib.ListN.{length, get_or, set, replicate}
 use lib.Ieee.{Float, nan}
 use Rattle.basics.specs.Loops.{run}
 use Rattle.basics.specs.Floats.{0f, ◌+f◌}
-use Rattle.basics.specs.declared.Spot.{Spot}
-use Rattle.basics.specs.declared.Spot.TheVariants.{At, Nowhere}
+use Rattle.std.specs.Prelude.{Option, Some, None}
 use Rattle.basics.specs.Lists.{All}
 use Rattle.basics.proofs.Loops.{All-any, run-both}
 use Rattle.basics.proofs.Lists.{map-append}
@@ -129,10 +128,10 @@ module _ (b : Board) (arrows : ℕ) where
         go false true = still 0
         go false false = way-looped gas o (outward-plain b limit w.space w.events q)
 
-    row-looped : (o : Spot) → from_row b gas (breach_of id limit 0) o ≡ looped (from_row b gas (breach_of id limit arrows) o)
+    row-looped : (o : Option ℕ) → from_row b gas (breach_of id limit 0) o ≡ looped (from_row b gas (breach_of id limit arrows) o)
     unfolding from_row
-    row-looped Nowhere = refl
-    row-looped (At r) = walk-looped (walk b (visit_space b limit) r) (walk-begun b limit r).plain
+    row-looped None = refl
+    row-looped (Some r) = walk-looped (walk b (visit_space b limit) r) (walk-begun b limit r).plain
 
     -- The setting changes the arrows alone.
     pub settings_agree : depressurize b gas (breach_of id limit 0) ≡ looped (depressurize b gas (breach_of id limit arrows))

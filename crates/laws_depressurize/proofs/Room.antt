@@ -15,8 +15,7 @@ use lib.Ieee.{Float, nan}
 use borrow.Author.Tests.{le-ltb}
 use Rattle.basics.specs.Loops.{run, member, snoc}
 use Rattle.basics.specs.Floats.{0f, ◌+f◌}
-use Rattle.basics.specs.declared.Spot.{Spot}
-use Rattle.basics.specs.declared.Spot.TheVariants.{At, Nowhere}
+use Rattle.std.specs.Prelude.{Option, Some, None}
 use Rattle.basics.specs.Lists.{All, Found, one, count}
 use Rattle.basics.proofs.Loops.{All-any, All-imp, All-get_or, times-rests, cond_both}
 use Rattle.basics.proofs.Lists.{All-snoc, All-front, apart_snoc, apart-at, not_member, count-append, count-reverse, count_none, count-length, replicate-at}
@@ -223,10 +222,10 @@ module _ (b : Board) {n : ℕ} (h : Accepted b n) (limit : ℕ) where
         cond_both Fits w.planet _ (cond (eqb (length w.space) 0) _ (way_back b arrows gas o)) few
         (cond_both Fits (eqb (length w.space) 0) _ (way_back b arrows gas o) few (omega (arith, back-bytes arrows gas w.space w.events o g, q.bytes)))
 
-    row_room : (id : ℕ) (o : Spot) → Found (λ r. r < turf_count b) o → size (from_row b gas (breach_of id limit arrows) o).events ≤ depressurize_room b
+    row_room : (id : ℕ) (o : Option ℕ) → Found (λ r. r < turf_count b) o → size (from_row b gas (breach_of id limit arrows) o).events ≤ depressurize_room b
     unfolding from_row encode_all
-    row_room id Nowhere f = omega arith
-    row_room id (At r) f = walk-room id (walk b (visit_space b limit) r) (space-walk r f)
+    row_room id None f = omega arith
+    row_room id (Some r) f = walk-room id (walk b (visit_space b limit) r) (space-walk r f)
 
 -- the events of a call take no more than the room that it asks for
 pub depressurize-room : (b : Board) {n : ℕ} → Accepted b n → (gas : List Float) (q : Breach) → size (depressurize b gas q).events ≤ depressurize_room b

@@ -6,8 +6,7 @@ use Prim.Native.Nat.{ℕ, ◌<◌}
 use lib.Dec.{T, eqb, eqb→eq}
 use lib.ListN.{get_or}
 use lib.Ieee.{Float}
-use Rattle.basics.specs.declared.Spot.{Spot}
-use Rattle.basics.specs.declared.Spot.TheVariants.{At, Nowhere}
+use Rattle.std.specs.Prelude.{Option, Some, None}
 use Rattle.basics.specs.Lists.{Found}
 use Rattle.basics.proofs.Loops.{All-any, run-keeps}
 use Rattle.rules_board.specs.Board.{Board, turf_count, enabled, row_of}
@@ -29,10 +28,10 @@ module _ (b : Board) (gas : List Float) (q : Ask) where
   not_passed false on rest e = absurd (subst T e tt)
 
   module _ (Q : Filled → Type 0) (keeps : (r : ℕ) (s : Filled) → Starts r s → Q s → Q (fill_from b gas q r s)) where
-    row_keeps : (o : Spot) (s : Filled) → Found (λ r. r < turf_count b) o → s.cancelled ≡ false → Q s → Q (hot_row b gas q o s)
+    row_keeps : (o : Option ℕ) (s : Filled) → Found (λ r. r < turf_count b) o → s.cancelled ≡ false → Q s → Q (hot_row b gas q o s)
     unfolding hot_row passed_over
-    row_keeps Nowhere s f c h = h
-    row_keeps (At r) s f c h = go (passed_over b gas q r s.found) refl
+    row_keeps None s f c h = h
+    row_keeps (Some r) s f c h = go (passed_over b gas q r s.found) refl
       where
         go : (t : Bool) → passed_over b gas q r s.found ≡ t → Q (cond t s (fill_from b gas q r s))
         go true e = h

@@ -12,8 +12,7 @@ use lib.ListN.{length}
 use lib.Ieee.{Float}
 use borrow.Author.Tests.{ltb-true, ltb-false}
 use Rattle.basics.specs.Loops.{run}
-use Rattle.basics.specs.declared.Spot.{Spot}
-use Rattle.basics.specs.declared.Spot.TheVariants.{At, Nowhere}
+use Rattle.std.specs.Prelude.{Option, Some, None}
 use Rattle.rules_board.specs.Board.{Board, row_of}
 use Rattle.turfs.specs.Tables.{Accepted}
 use Rattle.rules_fill.specs.Fill.{Fill}
@@ -29,10 +28,10 @@ module _ (b : Board) (gas : List Float) (q : Ask) where
   pops-append [] us = omega arith
   pops-append (t ∷ ts) us = omega (arith, pops-append ts us)
 
-  row-tests : (o : Spot) (s : Filled) → (hot_row b gas q o s).tests ≡ s.tests + pops_of (fill_at b gas q o s)
+  row-tests : (o : Option ℕ) (s : Filled) → (hot_row b gas q o s).tests ≡ s.tests + pops_of (fill_at b gas q o s)
   unfolding hot_row fill_at pops_of fill_from after_fill
-  row-tests Nowhere s = omega arith
-  row-tests (At r) s = go (passed_over b gas q r s.found)
+  row-tests None s = omega arith
+  row-tests (Some r) s = go (passed_over b gas q r s.found)
     where
       go : (t : Bool) → (cond t s (fill_from b gas q r s)).tests ≡ s.tests + pops_of (cond t [] (fill_of b gas q r s ∷ []))
       go true = omega arith

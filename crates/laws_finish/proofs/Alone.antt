@@ -11,8 +11,7 @@ use lib.Seq.{get_or-set_other}
 use lib.Ieee.{Float, nan, lt}
 use Rattle.basics.specs.Loops.{run, keep}
 use Rattle.basics.specs.Floats.{0f}
-use Rattle.basics.specs.declared.Spot.{Spot}
-use Rattle.basics.specs.declared.Spot.TheVariants.{At, Nowhere}
+use Rattle.std.specs.Prelude.{Option, Some, None}
 use Rattle.basics.specs.Lists.{All, Found}
 use Rattle.basics.proofs.Loops.{All-map, All-imp, All-any, keep_all, map-like, run-both, run-keeps, cond_both, first_passes, and_left, set-like}
 use Rattle.rules_board.specs.Board.{Board, mixture_count, id_of, mix_of, immutable_mix, end, links_of}
@@ -68,9 +67,9 @@ module _ (b : Board) (owner : List ℕ) (z : ℕ) (In : ℕ → Type 0)
     pub logs : (y : ℕ) → y ≢ z → records y t.events ≡ records y s.events
     pub rest : others t.events ≡ others s.events
 
-  alter-beside : (o : Spot) (f : Float → Float) (w : List Float) → Found Own o → (k : ℕ) → get_or owner k 0 ≢ z + 1 → get_or (alter o f w) k nan ≡ get_or w k nan
-  alter-beside (At j) f w own k h = get_or-set_other w j k (f (get_or w j nan)) nan (λ e. h (ap (λ (x : ℕ). get_or owner x 0) e ∙ own))
-  alter-beside Nowhere f w own k h = refl
+  alter-beside : (o : Option ℕ) (f : Float → Float) (w : List Float) → Found Own o → (k : ℕ) → get_or owner k 0 ≢ z + 1 → get_or (alter o f w) k nan ≡ get_or w k nan
+  alter-beside (Some j) f w own k h = get_or-set_other w j k (f (get_or w j nan)) nan (λ e. h (ap (λ (x : ℕ). get_or owner x 0) e ∙ own))
+  alter-beside None f w own k h = refl
 
   send-beside : (s₀ : Done) (r : ℕ) (p : Pair) (s : Done) → In (mix_of b r) → There p → Beside s₀ s → Beside s₀ (send b owner z r p s)
   unfolding send
@@ -130,9 +129,9 @@ module _ (b : Board) (owner : List ℕ) (z : ℕ) (In : ℕ → Type 0)
     pub weights : (k : ℕ) → get_or owner k 0 ≡ z + 1 → get_or s.weight k nan ≡ get_or t.weight k nan
     pub logs : records z s.events ≡ records z t.events
 
-  alter-like : (o : Spot) (w v : List Float) (k : ℕ) → length w ≡ length v → get_or w k nan ≡ get_or v k nan → get_or (alter o (λ x. 0f) w) k nan ≡ get_or (alter o (λ x. 0f) v) k nan
-  alter-like (At j) w v k l e = set-like w v j k 0f nan l e
-  alter-like Nowhere w v k l e = e
+  alter-like : (o : Option ℕ) (w v : List Float) (k : ℕ) → length w ≡ length v → get_or w k nan ≡ get_or v k nan → get_or (alter o (λ x. 0f) w) k nan ≡ get_or (alter o (λ x. 0f) v) k nan
+  alter-like (Some j) w v k l e = set-like w v j k 0f nan l e
+  alter-like None w v k l e = e
 
   send-alike : (r : ℕ) (p : Pair) (s t : Done) → In (mix_of b r) → There p → Alike s t → Alike (send b owner z r p s) (send b owner z r p t)
   unfolding send

@@ -13,8 +13,7 @@ use lib.Seq.{get_or-set_same, get_or-set_other, set_out}
 use lib.Ieee.{Float, nan, lt, of_bits}
 use Rattle.basics.specs.Loops.{run, keep, cons_if, member}
 use Rattle.basics.specs.Floats.{0f}
-use Rattle.basics.specs.declared.Spot.{Spot}
-use Rattle.basics.specs.declared.Spot.TheVariants.{At, Nowhere}
+use Rattle.std.specs.Prelude.{Option, Some, None}
 use Rattle.basics.specs.Lists.{All, one, count}
 use Rattle.basics.proofs.Loops.{All-any, run-keeps}
 use Rattle.basics.proofs.Lists.{or_cases, Apart, keep_apart}
@@ -57,9 +56,9 @@ pub lift_below : (ks : List ℕ) (w w₀ : List Float) → Below w w₀ → Belo
 unfolding zero_lifted
 lift_below ks w w₀ h = run-keeps (λ k. Unit {0}) (λ v. Below v w₀) (λ k v. set v k 0f) (λ k v u i j e. set_below v k j (i j e)) ks w (All-any _ (λ k. tt) ks) h
 
-pub alter-below : (o : Spot) (w w₀ : List Float) → Below w w₀ → Below (alter o (λ x. 0f) w) w₀
-alter-below (At k) w w₀ h = λ j e. set_below w k j (h j e)
-alter-below Nowhere w w₀ h = h
+pub alter-below : (o : Option ℕ) (w w₀ : List Float) → Below w w₀ → Below (alter o (λ x. 0f) w) w₀
+alter-below (Some k) w w₀ h = λ j e. set_below w k j (h j e)
+alter-below None w w₀ h = h
 
 pub lift_zero : (ks : List ℕ) (w : List Float) (k : ℕ) → T (member k ks) → above (get_or (zero_lifted ks w) k nan) ≡ false
 unfolding zero_lifted run member
@@ -96,9 +95,9 @@ pub lift_less : (ks : List ℕ) (w : List Float) → pending (zero_lifted ks w) 
 unfolding zero_lifted
 lift_less ks w = run-keeps (λ k. Unit {0}) (λ v. pending v ≤ pending w) (λ k v. set v k 0f) (λ k v u h. le_trans (set-less v k) h) ks w (All-any _ (λ k. tt) ks) (le_refl (pending w))
 
-pub alter-less : (o : Spot) (w : List Float) → pending (alter o (λ x. 0f) w) ≤ pending w
-alter-less (At k) w = set-less w k
-alter-less Nowhere w = le_refl (pending w)
+pub alter-less : (o : Option ℕ) (w : List Float) → pending (alter o (λ x. 0f) w) ≤ pending w
+alter-less (Some k) w = set-less w k
+alter-less None w = le_refl (pending w)
 
 other_count : (w : List Float) (k : ℕ) (ks : List ℕ) → All (λ j. j ≢ k) ks → count (above_at (set w k 0f)) ks ≡ count (above_at w) ks
 unfolding count

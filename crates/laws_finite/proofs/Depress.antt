@@ -9,8 +9,7 @@ use lib.ListN.{get_or-replicate, length, get_or, set, replicate, length-replicat
 use lib.Ieee.{Float, nan}
 use Rattle.basics.specs.Loops.{run, every, member}
 use Rattle.basics.specs.Floats.{0f}
-use Rattle.basics.specs.declared.Spot.{Spot}
-use Rattle.basics.specs.declared.Spot.TheVariants.{At, Nowhere}
+use Rattle.std.specs.Prelude.{Option, Some, None}
 use Rattle.basics.specs.Lists.{All, Found}
 use Rattle.basics.proofs.Loops.{All-any, All-imp, All-get_or, run-keeps, cond_both}
 use Rattle.basics.proofs.Lists.{All-append, All-snoc, replicate-at, All-back}
@@ -101,10 +100,10 @@ module _ (b : Board) {n : ℕ} (h : Accepted b n) (ids : (r : ℕ) → Word (id_
         cond_both Fine w.planet _ (cond (eqb (length w.space) 0) _ (way_back b arrows gas o)) (record { events = t; gas = amounts })
         (cond_both Fine (eqb (length w.space) 0) _ (way_back b arrows gas o) (record { events = t; gas = amounts }) f)
 
-    row_fine : (id : ℕ) (o : Spot) → Found (λ r. r < turf_count b) o → Fine (from_row b gas (breach_of id limit arrows) o)
+    row_fine : (id : ℕ) (o : Option ℕ) → Found (λ r. r < turf_count b) o → Fine (from_row b gas (breach_of id limit arrows) o)
     unfolding from_row
-    row_fine id Nowhere f = record { events = tt; gas = amounts }
-    row_fine id (At r) f = walk_fine id (walk b (visit_space b limit) r) (walk-told b ids limit r) (space-walk b h limit r f).space
+    row_fine id None f = record { events = tt; gas = amounts }
+    row_fine id (Some r) f = walk_fine id (walk b (visit_space b limit) r) (walk-told b ids limit r) (space-walk b h limit r f).space
 
 module _ (b : Board) {n : ℕ} (h : Accepted b n) (ids : (r : ℕ) → Word (id_of b r)) (gas : List Float) (e : every amount_fits gas ≡ true) (q : Breach) where
   depressurize-fine : Fine (depressurize b gas q)

@@ -6,8 +6,7 @@ use lib.Ieee.{Float, nan, binary32}
 use lib.Ieee.Fits.{add-fits, sub-fits}
 use Rattle.basics.specs.Loops.{up_from}
 use Rattle.basics.specs.Floats.{0f}
-use Rattle.basics.specs.declared.Spot.{Spot}
-use Rattle.basics.specs.declared.Spot.TheVariants.{At, Nowhere}
+use Rattle.std.specs.Prelude.{Option, Some, None}
 use Rattle.basics.specs.Lists.{All}
 use Rattle.basics.proofs.Loops.{All-any, run-keeps}
 use Rattle.rules_board.specs.Board.{Board, link_count}
@@ -18,9 +17,9 @@ use Rattle.laws_plan.proofs.Sizes.{plan-keep}
 use Rattle.laws_finite.proofs.EachKind.{Fit, zero-fit}
 use Rattle.laws_finite.proofs.Lists.{All-set, replicate-all}
 
-alter-fit : (o : Spot) (f : Float → Float) (w : List Float) → ((y : Float) → Fit (f y)) → All Fit w → All Fit (alter o f w)
-alter-fit (At k) f w g a = All-set Fit w k (f (get_or w k nan)) (λ l. g (get_or w k nan)) a
-alter-fit Nowhere f w g a = a
+alter-fit : (o : Option ℕ) (f : Float → Float) (w : List Float) → ((y : Float) → Fit (f y)) → All Fit w → All Fit (alter o f w)
+alter-fit (Some k) f w g a = All-set Fit w k (f (get_or w k nan)) (λ l. g (get_or w k nan)) a
+alter-fit None f w g a = a
 
 plan-fit : (b : Board) (owner : List ℕ) (z : ℕ) (gas : List Float) (nodes : List ℕ) (moles : Float) (s : Plan) → All Fit s.weight → All Fit (planned_zone b owner z gas nodes moles s).weight
 plan-fit = plan-keep (All Fit) (λ o x w h. alter-fit o _ w (λ y. add-fits binary32 y x) h) (λ o x w h. alter-fit o _ w (λ y. sub-fits binary32 y x) h)

@@ -7,8 +7,7 @@ use lib.ListN.{length, get_or, set, length-set}
 use lib.Ieee.{Float, nan}
 use Rattle.basics.specs.Loops.{every, keep}
 use Rattle.basics.specs.Floats.{0f}
-use Rattle.basics.specs.declared.Spot.{Spot}
-use Rattle.basics.specs.declared.Spot.TheVariants.{At, Nowhere}
+use Rattle.std.specs.Prelude.{Option, Some, None}
 use Rattle.basics.specs.Lists.{All}
 use Rattle.basics.proofs.Loops.{All-any, All-imp, All-map, All-get_or, run-keeps}
 use Rattle.basics.proofs.Lists.{All-keep, All-both, All-each}
@@ -42,9 +41,9 @@ module _ (b : Board) where
   unfolding zero_lifted
   lift_sendable ks w q = run-keeps (λ k. Unit {0}) Sendable (λ k v. set v k 0f) (λ k v u i. set-sendable v k i) ks w (All-any _ (λ k. tt) ks) q
 
-  pub alter-sendable : (o : Spot) (w : List Float) → Sendable w → Sendable (alter o (λ x. 0f) w)
-  alter-sendable (At k) w q = set-sendable w k q
-  alter-sendable Nowhere w q = q
+  pub alter-sendable : (o : Option ℕ) (w : List Float) → Sendable w → Sendable (alter o (λ x. 0f) w)
+  alter-sendable (Some k) w q = set-sendable w k q
+  alter-sendable None w q = q
 
   pub pairs-amount : {n : ℕ} → Accepted b n → (owner : List ℕ) (z r : ℕ) (w : List Float) → Sendable w → All (λ p. Amount p.amount) (pairs b owner z r w)
   unfolding pairs edges_of

@@ -5,8 +5,7 @@ use Prim.Native.Nat.{ℕ}
 use lib.Dec.{leb}
 use lib.ListN.{get_or}
 use Rattle.basics.specs.Loops.{member, snoc}
-use Rattle.basics.specs.declared.Spot.{Spot}
-use Rattle.basics.specs.declared.Spot.TheVariants.{At, Nowhere}
+use Rattle.std.specs.Prelude.{Option, Some, None}
 use Rattle.basics.specs.Lists.{All}
 use Rattle.basics.proofs.Loops.{All-any, run-keeps, cond_both}
 use Rattle.basics.proofs.Lists.{All-snoc}
@@ -52,10 +51,10 @@ module _ (b : Board) (ids : (r : ℕ) → Word (id_of b r)) (limit : ℕ) where
       let met = s.planet || planetary b r in
       cond_both Told (immutable b r) (mark met true s) (spread b limit r (mark met (not met) s)) q (spread-told r (mark met (not met) s) q)
 
-  from_told : (o : Spot) → All Readable (planet_from b limit o)
+  from_told : (o : Option ℕ) → All Readable (planet_from b limit o)
   unfolding planet_from
-  from_told Nowhere = tt
-  from_told (At r) = walk-keeps b (visit_planet b limit) Told (λ s l q. planet-told (get_or s.queue s.walked 0) (advance s) q) r tt
+  from_told None = tt
+  from_told (Some r) = walk-keeps b (visit_planet b limit) Told (λ s l q. planet-told (get_or s.queue s.walked 0) (advance s) q) r tt
 
   pub planet-walk_readable : (id : ℕ) → All Readable (planet_walk b limit id)
   unfolding planet_walk

@@ -11,8 +11,7 @@ use lib.ListN.{length, get_or, set, length-set}
 use lib.Seq.{get_or-set_same, get_or-set_other}
 use lib.Ieee.{Float, nan}
 use Rattle.basics.specs.Floats.{◌+f◌, ◌-f◌}
-use Rattle.basics.specs.declared.Spot.{Spot}
-use Rattle.basics.specs.declared.Spot.TheVariants.{At, Nowhere}
+use Rattle.std.specs.Prelude.{Option, Some, None}
 use Rattle.basics.specs.Lists.{Found}
 use Rattle.basics.proofs.Loops.{first_passes, and_left}
 use Rattle.rules_board.specs.Board.{Board, end, links_of}
@@ -42,10 +41,10 @@ module _ (owner : List ℕ) (z : ℕ) where
   pub weighed_more : (t d top : ℕ) (w : List Float) → Weighed t top w → Weighed (t + d) top w
   weighed_more t d top w q k l = let i = q k l in record { before = i.before; here = λ e. capped_more 84 (omega arith) t d (i.here e); after = i.after }
 
-  alter-weighed : (o : Spot) (f : Float → Float) (t top : ℕ) (w : List Float) → Found (λ k. get_or owner k 0 ≡ z + 1) o
+  alter-weighed : (o : Option ℕ) (f : Float → Float) (t top : ℕ) (w : List Float) → Found (λ k. get_or owner k 0 ≡ z + 1) o
       → ((y : Float) → Capped 84 t y → Capped 84 (t + 1) (f y)) → Weighed t top w → Weighed (t + 1) top (alter o f w)
-  alter-weighed Nowhere f t top w e g q = weighed_more t 1 top w q
-  alter-weighed (At i) f t top w e g q = λ k l.
+  alter-weighed None f t top w e g q = weighed_more t 1 top w q
+  alter-weighed (Some i) f t top w e g q = λ k l.
       set_keeps (λ j x. Held (t + 1) top j x) w i (f (get_or w i nan)) nan
       (λ m. record { before = λ a. absurd (omega arith); here = λ a. g (get_or w i nan) ((q i m).here e); after = λ a. absurd (omega arith) })
       (λ j n m. weighed_more t 1 top w q j m) k (subst (λ n. k < n) (length-set w i (f (get_or w i nan))) l)

@@ -8,8 +8,7 @@ use lib.ListN.{length, get_or, length-set}
 use lib.Ieee.{Float, nan, ne}
 use Rattle.basics.specs.Loops.{run, member}
 use Rattle.basics.specs.Floats.{0f, ◌+f◌, ◌-f◌, ◌/f◌}
-use Rattle.basics.specs.declared.Spot.{Spot}
-use Rattle.basics.specs.declared.Spot.TheVariants.{At, Nowhere}
+use Rattle.std.specs.Prelude.{Option, Some, None}
 use Rattle.basics.proofs.Loops.{All-any, run-keeps, times-keeps, cond_both}
 use Rattle.rules_board.specs.Board.{Board, turf_count, end}
 use Rattle.rules_plan.specs.Edges.{alter, adjust, edge, edges_of}
@@ -18,13 +17,13 @@ use Rattle.rules_plan.specs.declared.Side.{Side}
 use Rattle.rules_plan.specs.declared.Side.TheVariants.{Giving, Taking}
 use Rattle.rules_plan.specs.Worked as worked  -- checked before the laws
 
-pub alter-size : (o : Spot) (f : Float → Float) (w : List Float) → length (alter o f w) ≡ length w
-alter-size (At k) f w = length-set w k (f (get_or w k nan))
-alter-size Nowhere f w = refl
+pub alter-size : (o : Option ℕ) (f : Float → Float) (w : List Float) → length (alter o f w) ≡ length w
+alter-size (Some k) f w = length-set w k (f (get_or w k nan))
+alter-size None f w = refl
 
 -- planning alters a weight by a sum or a difference, so it keeps what these keep of the weights
-module _ (Q : List Float → Type 0) (gains : (o : Spot) (x : Float) (w : List Float) → Q w → Q (alter o (λ y. y +f x) w))
-    (loses : (o : Spot) (x : Float) (w : List Float) → Q w → Q (alter o (λ y. y -f x) w)) (b : Board) (owner : List ℕ) (z : ℕ) where
+module _ (Q : List Float → Type 0) (gains : (o : Option ℕ) (x : Float) (w : List Float) → Q w → Q (alter o (λ y. y +f x) w))
+    (loses : (o : Option ℕ) (x : Float) (w : List Float) → Q w → Q (alter o (λ y. y -f x) w)) (b : Board) (owner : List ℕ) (z : ℕ) where
   abbrev Keeps : Plan → Type 0
   Keeps s = Q s.weight
 

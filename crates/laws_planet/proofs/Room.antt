@@ -5,8 +5,7 @@ use Prim.Native.Nat.{ℕ, ◌+◌, ◌*◌, ◌≤◌, ◌<◌}
 use native.Mathlib.Nat.{le_trans}
 use native.Mathlib.Omega.{arith}
 use lib.ListN.{length, get_or}
-use Rattle.basics.specs.declared.Spot.{Spot}
-use Rattle.basics.specs.declared.Spot.TheVariants.{At, Nowhere}
+use Rattle.std.specs.Prelude.{Option, Some, None}
 use Rattle.basics.specs.Lists.{Found}
 use Rattle.basics.proofs.Loops.{cond_both}
 use Rattle.rules_board.specs.Board.{Board, turf_count, planetary, immutable, row_of}
@@ -48,10 +47,10 @@ module _ (b : Board) {n : ℕ} (h : Accepted b n) (limit : ℕ) where
   pub planet-rests : (r : ℕ) → r < turf_count b → going (walk b (visit_planet b limit) r) ≡ false
   planet-rests r i = walk-rests b (visit_planet b limit) (λ q s. visit-place b limit q Planet s) r (line-short b (walk b (visit_planet b limit) r).queue (planet-walked r i).line)
 
-  from-room : (o : Spot) → Found (λ r. r < turf_count b) o → size (planet_from b limit o) ≤ planet_room b
+  from-room : (o : Option ℕ) → Found (λ r. r < turf_count b) o → size (planet_from b limit o) ≤ planet_room b
   unfolding planet_from encode_all
-  from-room Nowhere f = omega arith
-  from-room (At r) f =
+  from-room None f = omega arith
+  from-room (Some r) f =
       let w = walk b (visit_planet b limit) r in
       let q = planet-walked r f in
       omega (arith, q.bytes, line-short b w.queue q.line)

@@ -1,7 +1,7 @@
 -- The first requirement that fails gives the number; where none does, every one holds. Assumes nothing.
-use mathlib.Core.Path.{◌≡◌, refl}
+use mathlib.Core.Path.{◌≡◌, refl, ◌∙◌}
 use mathlib.Core.List.{List, [], ◌∷◌}
-use mathlib.Core.Bool.{Bool, true, false, ◌&&◌}
+use mathlib.Core.Bool.{Bool, true, false, cond, ◌&&◌, and-true}
 use Prim.Native.Nat.{ℕ, zero, suc, ◌+◌, ◌*◌, ◌<◌}
 use native.Mathlib.Omega.{arith}
 use lib.Dec.{leb}
@@ -12,7 +12,7 @@ use Rattle.basics.specs.Loops.{every, all_of}
 use Rattle.basics.specs.Floats.{0f}
 use Rattle.basics.proofs.Tests.{each}
 use Rattle.rules_board.specs.Board.{Board, board}
-use Rattle.rules_board.specs.Refuse.{sizes_fit, tables_fit, ids_fit, links_fit}
+use Rattle.rules_board.specs.Refuse.{sizes_fit, tables_fit, ids_fit, links_fit, row_fits}
 use Rattle.turfs.specs.Tables.{Small}
 use Rattle.turfs.proofs.Tables.{amounts-of, tables-of}
 use Rattle.rules_mixture.specs.Mixture.{amount_fits}
@@ -94,6 +94,18 @@ sizes-one a false d = refl
 pub same_tests : (b : Board) (l : Lent) (room : ℕ) (t : ExtraTests) (x : Extra) → Tests x t → first_failed (tests b l room t) ≡ refusal b l room x
 unfolding refusal
 same_tests b l room t x e = rw (e.sizes, e.threshold, e.hot, sizes-one (sizes_fit b) (leb (length x.hot) 4096) (leb (length x.turns) 65536))
+
+-- The number by the answers of the tests: of the sizes, the tables, the ids, the links, the amounts and the areas. The links and the areas are
+-- tested with no gases.
+abbrev pub number : Bool → Bool → Bool → Bool → Bool → Bool → ExtraTests → ℕ
+number sizes fit ids links amounts room x =
+    cond (sizes && x.sizes) (cond fit (cond ids (cond links (cond (amounts && x.threshold) (cond x.hot (cond room 0 7) 6) 5) 4) 3) 2) 1
+
+pub refusal-is : (b : Board) (l : Lent) (room : ℕ) (t : ExtraTests) (n : ℕ)
+    → n ≡ number (sizes_fit b) (tables_fit b (length l.gas)) (ids_fit b) (links_fit (bare b)) (every amount_fits l.gas) (areas (bare b) l room) t
+    → (x : Extra) → Tests x t → n ≡ refusal b l room x
+unfolding first_failed all_of links_fit row_fits words_room floats_room
+refusal-is b l room t n e x a = e ∙ (rw (and-true t.sizes, and-true t.threshold) at (same_tests b l room t x a))
 
 -- ---- a call that is not refused
 

@@ -1,5 +1,5 @@
 -- What the code of a call hands to the refusals, and what it knows once none was met.
-use Rattle.std.specs.Prelude.{◌≡◌, List, ◌&&◌, ℕ, ◌≤◌, leb, length, Float}
+use Rattle.std.specs.Prelude.{◌≡◌, List, ◌&&◌, ℕ, ◌≤◌, leb, length, Float, Result, Ok, Err}
 use Rattle.std.specs.Borrow.{Bor}
 use Rattle.basics.specs.Floats.{finite_sign_clear}
 use Rattle.rules_board.specs.Board.{Board}
@@ -7,6 +7,8 @@ use Rattle.rules_board.specs.Refuse.{ascending}
 use Rattle.mixture.specs.Accepted.{GasAccepted}
 use Rattle.rules_lent.specs.Lent.{Lent, Extra, words_room, floats_room}
 use Rattle.lent.specs.declared.ExtraTests.{ExtraTests}
+use Rattle.lent.specs.declared.Refusal.{Refusal}
+use Rattle.lent.specs.declared.Refusal.TheVariants.{Sizes, Tables, Ids, Links, Amounts, Hot, Areas}
 
 -- the areas, in the order of the C interface
 abbrev pub lent : List Float → List ℕ → List ℕ → List Float → Lent
@@ -21,6 +23,21 @@ pub record Tests (x : Extra) (t : ExtraTests) : Type 0 where
   pub sizes : t.sizes ≡ (leb (length x.hot) 4096 && leb (length x.turns) 65536)
   pub threshold : t.threshold ≡ finite_sign_clear x.threshold
   pub hot : t.hot ≡ ascending x.hot
+
+-- the number of a refusal
+abbrev pub number_of : Refusal → ℕ
+number_of Sizes = 1
+number_of Tables = 2
+number_of Ids = 3
+number_of Links = 4
+number_of Amounts = 5
+number_of Hot = 6
+number_of Areas = 7
+
+-- the number that a call answers: 0 where it was accepted
+abbrev pub refusal_number : {A : Type 0} → Result A Refusal → ℕ
+refusal_number (Ok a) = 0
+refusal_number (Err r) = number_of r
 
 -- a call that is not refused
 pub record Given (b : Board) (l : Lent) (room : ℕ) : Type 0 where

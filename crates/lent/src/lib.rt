@@ -5,10 +5,30 @@ ghost use Rattle.std.specs.Prelude.{◌≡◌};
 ghost use Rattle.turfs.specs.Tables.{board_at};
 ghost use Rattle.rules_lent.specs.Lent.{Extra, no_extra, refusal};
 ghost use Rattle.lent_room.specs.Areas.{room_of};
-ghost use Rattle.lent.specs.Given.{lent, Tests};
+ghost use Rattle.lent.specs.Given.{lent, Tests, number_of, refusal_number};
 
 use lent_room::Room;
-use turfs::{IDS, Marks, Rows};
+use turfs::LentTables;
+
+// Why a call is refused, in the order of the tests; each has its number.
+#[derive(Clone, Copy, PartialEq, Eq, Debug)]
+pub enum Refusal {
+    Sizes = 1,
+    Tables = 2,
+    Ids = 3,
+    Links = 4,
+    Amounts = 5,
+    Hot = 6,
+    Areas = 7,
+}
+
+impl From<Refusal> for u32 {
+    ghost from_gives = { λ r n. n ≡ number_of r };
+
+    fn from(r: Refusal) -> u32 {
+        r as u32
+    }
+}
 
 // What only equalize is lent, and tests itself: the sizes of the hot ids and of the turns, the threshold, the order of the hot ids.
 #[derive(Clone, Copy)]
@@ -31,10 +51,9 @@ impl ExtraTests {
     }
 }
 
-// The number of the first refusal that is met; 0 where none is.
-pub fn refusal(
-    rows: &Rows,
-    marks: &Marks,
+// Accepts what a call is lent, or answers the first refusal that is met.
+pub fn accept(
+    tables: &LentTables,
     gases: u32,
     gas: &[f32],
     words: &[u32],
@@ -42,36 +61,25 @@ pub fn refusal(
     events: &[u8],
     room: Room,
     extra: ExtraTests,
-) -> u32
-    ensures { let b = board_at rows.entry marks.entry gases in
-        ((x : Extra) → Tests x extra → result ≡ refusal b (lent gas.now events.now words.now floats.now) (room_of b room) x) }
+) -> Result<(), Refusal>
+    ensures { let b = board_at tables.entry gases in
+        ((x : Extra) → Tests x extra → refusal_number result ≡ refusal b (lent gas.now events.now words.now floats.now) (room_of b room) x) }
 {
-    if !turfs::refuse::sizes_fit(rows, marks, gases) {
-        return 1;
+    if !turfs::refuse::sizes_fit(tables, gases) || !extra.sizes {
+        Err(Refusal::Sizes)
+    } else if !turfs::refuse::tables_fit(tables, gases, gas.len()) {
+        Err(Refusal::Tables)
+    } else if !turfs::refuse::ascending(tables.ids) {
+        Err(Refusal::Ids)
+    } else if !turfs::refuse::links_fit(tables) {
+        Err(Refusal::Links)
+    } else if !mixture::amounts_fit(gas) || !extra.threshold {
+        Err(Refusal::Amounts)
+    } else if !extra.hot {
+        Err(Refusal::Hot)
+    } else if !lent_room::areas_fit(tables, room, words.len(), floats.len(), events.len()) {
+        Err(Refusal::Areas)
+    } else {
+        Ok(())
     }
-    if !extra.sizes {
-        return 1;
-    }
-    if !turfs::refuse::tables_fit(rows, marks, gases, gas.len()) {
-        return 2;
-    }
-    if !turfs::refuse::ascending(rows[IDS]) {
-        return 3;
-    }
-    if !turfs::refuse::links_fit(rows, marks) {
-        return 4;
-    }
-    if !mixture::amounts_fit(gas) {
-        return 5;
-    }
-    if !extra.threshold {
-        return 5;
-    }
-    if !extra.hot {
-        return 6;
-    }
-    if !lent_room::areas_fit(rows, marks, room, words.len(), floats.len(), events.len()) {
-        return 7;
-    }
-    0
 }

@@ -4,8 +4,6 @@
 use std::io;
 use std::io::Write;
 
-const BETWEEN: [u8; 3] = [b'-', b'-', 10];
-
 // An event of each kind: an id of ten digits, an amount with every hex digit among them.
 const KINDS: [u8; 100] = [
     8, 0, 1, 0, 1, 0, 0, 0, 8, 0, 2, 0, 255, 255, 255, 255, 20, 0, 3, 0, 0, 0, 0, 0, 0, 0, 0, 0x41,
@@ -39,24 +37,27 @@ const TORN: [u8; 19] = [8, 0, 2, 0, 5, 0, 0, 0, 12, 0, 4, 0, 1, 0, 0, 0, 2, 0, 0
 
 const HEAD: [u8; 11] = [8, 0, 2, 0, 5, 0, 0, 0, 12, 0, 4];
 
-// Lists an input, and a line behind it.
-fn show<W: Write>(out: &mut W, input: &[u8]) -> io::Result<()> {
-    listing::print(out, input)?;
-    out.write_all(&BETWEEN)
-}
-
-// Each input in turn.
+// Each input in turn, and a line behind it.
 fn main(rt: HostRuntime) -> io::Result<()> {
     let mut out = io::writer(&rt);
-    show(&mut out, &KINDS)?;
-    show(&mut out, &PRESSURE)?;
-    show(&mut out, &UNKNOWN)?;
-    show(&mut out, &UNFIT)?;
-    show(&mut out, &INFINITE)?;
-    show(&mut out, &NAN)?;
-    show(&mut out, &TORN)?;
-    show(&mut out, &HEAD)?;
-    show(&mut out, &KINDS[..0])?;
-    show(&mut out, &[0u8; 65_536])?;
-    show(&mut out, &[0u8; 65_537])
+    let whole = [0u8; 65_536];
+    let too_long = [0u8; 65_537];
+    let inputs: [&[u8]; 11] = [
+        &KINDS,
+        &PRESSURE,
+        &UNKNOWN,
+        &UNFIT,
+        &INFINITE,
+        &NAN,
+        &TORN,
+        &HEAD,
+        &[],
+        &whole,
+        &too_long,
+    ];
+    for input in inputs {
+        listing::print(&mut out, input)?;
+        writeln!(out, "--")?;
+    }
+    Ok(())
 }

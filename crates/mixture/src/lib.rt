@@ -10,19 +10,19 @@ ghost use Rattle.rules_mixture.specs.Mixture.{sum, total, total_mix, amount_fits
 ghost use Rattle.mixture.specs.Held.{HoldsGas};
 
 // The sum of the amounts from the left.
+#[tactic(auto, unfolding(rules_mixture::specs::Mixture::sum, basics::specs::Loops::run))]
 fn sum(amounts: &[f32]) -> f32
     ensures { result ≡ sum amounts.now }
 {
     let mut total = 0.0;
-    let mut i = 0;
-    while i < amounts.len() {
-        total = total + amounts[i];
-        i += 1;
+    for &x in amounts {
+        total += x;
     }
     total
 }
 
 // The total of a mixture.
+#[tactic(auto, unfolding(rules_mixture::specs::Mixture::total_mix, rules_mixture::specs::Mixture::amounts))]
 pub fn total_mix(gases: usize, gas: &[f32], mix: usize) -> f32
     requires { HoldsGas gas.now gases mix }
     ensures { (b : Board) → b.gases ≡ gases → result ≡ total_mix b gas.now mix }
@@ -33,6 +33,7 @@ pub fn total_mix(gases: usize, gas: &[f32], mix: usize) -> f32
 }
 
 // The total of a turf.
+#[tactic(auto, unfolding(rules_mixture::specs::Mixture::total))]
 pub fn total(mixtures: &[u32], gases: usize, gas: &[f32], row: usize) -> f32
     requires { (row < length mixtures.now) × HoldsGas gas.now gases (get_or mixtures.now row 0) }
     ensures { (b : Board) → b.mixtures ≡ mixtures.now → b.gases ≡ gases → result ≡ total b gas.now row }
@@ -44,34 +45,20 @@ pub fn total(mixtures: &[u32], gases: usize, gas: &[f32], row: usize) -> f32
 pub fn finite_sign_clear(x: f32) -> bool
     ensures { result ≡ finite_sign_clear x }
 {
-    if x < f32::from_bits(0x7f80_0000) {
-        f32::to_bits(x) < 0x8000_0000
-    } else {
-        false
-    }
+    x < f32::INFINITY && x.to_bits() < 0x8000_0000
 }
 
 // An amount within its range.
+#[tactic(auto, unfolding(rules_mixture::specs::Mixture::amount_fits))]
 fn amount_fits(x: f32) -> bool
     ensures { result ≡ amount_fits x }
 {
-    if x <= 1099511627776.0 {
-        finite_sign_clear(x)
-    } else {
-        false
-    }
+    x <= 1099511627776.0 && finite_sign_clear(x)
 }
 
 // Refusal 5 of the amounts.
 pub fn amounts_fit(gas: &[f32]) -> bool
     ensures { result ≡ every amount_fits gas.now }
 {
-    let mut i = 0;
-    while i < gas.len() {
-        if !amount_fits(gas[i]) {
-            return false;
-        }
-        i += 1;
-    }
-    true
+    gas.iter().all(|&x| amount_fits(x))
 }

@@ -2,6 +2,7 @@
 -- Assumes nothing.
 use Prim.Native.Nat.{ℕ, zero, suc, ◌+◌, ◌*◌, ◌≤◌, ◌<◌}
 use native.Mathlib.Omega.{arith}
+use native.Mathlib.Numerals.{add-one}
 use native.Mathlib.Nat.{not-suc-le-zero, le_of_suc-le-suc}
 use native.Mathlib.Decide.{dec_lt}
 use mathlib.Core.Path.{◌≡◌, refl, ap, ap₂, sym, ◌∙◌, subst}
@@ -85,26 +86,6 @@ module _ (w : List Float) (g giver : ℕ) (goes : Float) where
   abbrev kept : List Float
   kept = scale (1f -f goes) (part g giver w)
 
-  -- the first i amounts are what stays of them
-  abbrev pub staying : ℕ → List Float
-  staying i = stored w g giver kept i
-
-  module _ (h : HoldsGas w g giver) where
-    kept-length : length kept ≡ g
-    kept-length = scale-length (1f -f goes) (part g giver w) ∙ part_length g w giver h
-
-    pub staying_next : (v : List Float) (i : ℕ) → i < g → v ≡ staying i
-        → set v (giver * g + i) (get_or v (giver * g + i) nan *f (1f -f goes)) ≡ staying (i + 1)
-    staying_next v i k e =
-        let l = part_length g w giver h in
-        rw e (stored_next w g giver kept h kept-length i _ k
-        (ap (λ (x : Float). x *f (1f -f goes)) (stored_at w g giver kept h kept-length i giver k ∙ sym (part_at w g giver i k))
-        ∙ sym (scale_at (1f -f goes) (part g giver w) i (omega arith))))
-
-    pub staying_all : (b : Board) → b.gases ≡ g → immutable_mix b giver ≡ false → staying g ≡ removed b giver goes w
-    unfolding amounts
-    staying_all b e i = stored-all w g giver kept h kept-length b e i ∙ rw e
-
   module _ (taker : ℕ) where
     abbrev got : List Float
     got = plus (part g taker w) (scale goes (part g giver w))
@@ -133,6 +114,33 @@ module _ (w : List Float) (g giver : ℕ) (goes : Float) where
       pub joining_all : (b : Board) → b.gases ≡ g → immutable_mix b taker ≡ false → joining g ≡ merged b giver taker goes w
       unfolding amounts
       joining_all b e i = stored-all w g taker got ht got_length b e i ∙ rw e
+
+-- ---- a removal where the amounts stand, one after the other
+
+scaled_suc : (q : Float) (xs : List Float) (i : ℕ) → i < length xs → set (scale q (take i xs) ++ drop i xs) i (get_or (scale q (take i xs) ++ drop i xs) i nan *f q) ≡ scale q (take (suc i) xs) ++ drop (suc i) xs
+unfolding scale
+scaled_suc q [] i h = absurd (not-suc-le-zero h)
+scaled_suc q (x ∷ xs) zero h = refl
+scaled_suc q (x ∷ xs) (suc i) h = ap (λ (r : List Float). (x *f q) ∷ r) (scaled_suc q xs i (le_of_suc-le-suc h))
+
+pub scaled_next : (q : Float) (xs v : List Float) (i : ℕ) → i < length xs → v ≡ scale q (take i xs) ++ drop i xs → set v i (get_or v i nan *f q) ≡ scale q (take (i + 1) xs) ++ drop (i + 1) xs
+scaled_next q xs v i h e = rw (e, add-one i) (scaled_suc q xs i h)
+
+scaled_all : (q : Float) (xs : List Float) (i : ℕ) → length xs ≤ i → scale q (take i xs) ++ drop i xs ≡ scale q xs
+unfolding scale
+scaled_all q [] zero h = refl
+scaled_all q [] (suc i) h = refl
+scaled_all q (x ∷ xs) zero h = absurd (not-suc-le-zero h)
+scaled_all q (x ∷ xs) (suc i) h = ap (λ (r : List Float). (x *f q) ∷ r) (scaled_all q xs i (le_of_suc-le-suc h))
+
+-- the mixture's part came back scaled
+pub scaled : (b : Board) (m : ℕ) (w : List Float) (q : Float) (g k i : ℕ) (ys : List Float) → b.gases ≡ g → immutable_mix b m ≡ false → k ≡ g
+    → length (take k (drop (m * g) w)) ≤ i → ys ≡ scale q (take i (take k (drop (m * g) w))) ++ drop i (take k (drop (m * g) w))
+    → take (m * g) w ++ (ys ++ drop k (drop (m * g) w)) ≡ change b m (scale q (amounts b w m)) w
+unfolding change amounts
+scaled b m w q g k i ys e t r h y =
+    let new : ys ≡ scale q (take k (drop (m * g) w)) = y ∙ scaled_all q (take k (drop (m * g) w)) i h in
+    rw (t, e, new, r, drop-drop g (m * g) w)
 
 -- ---- stores that lie apart
 

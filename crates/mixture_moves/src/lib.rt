@@ -8,6 +8,7 @@ ghost use Rattle.mixture.specs.Held.{HoldsGas};
 ghost use Rattle.mixture_moves.specs.Moves.{merged, removed};
 
 // The ratio of a removal: at 1 or more it is 1.
+#[tactic(auto, unfolding(rules_mixture::specs::Mixture::ratio))]
 fn ratio(amount: f32, total: f32) -> f32
     ensures { result ≡ ratio amount total }
 {
@@ -26,11 +27,8 @@ fn merge(immutable: &[u8], gases: usize, gas: &mut [f32], giver: usize, taker: u
     }
     let from = giver * gases;
     let to = taker * gases;
-    let mut i = 0;
-    while i < gases {
-        let at = to + i;
-        gas[at] = gas[at] + gas[from + i] * goes;
-        i += 1;
+    for i in 0..gases {
+        gas[to + i] += gas[from + i] * goes;
     }
 }
 
@@ -44,11 +42,8 @@ fn remove(immutable: &[u8], gases: usize, gas: &mut [f32], giver: usize, goes: f
     }
     let stays = 1.0 - goes;
     let from = giver * gases;
-    let mut i = 0;
-    while i < gases {
-        let at = from + i;
-        gas[at] = gas[at] * stays;
-        i += 1;
+    for x in &mut gas[from..from + gases] {
+        *x *= stays;
     }
 }
 
@@ -83,6 +78,5 @@ pub fn clear_air(immutable: &[u8], gases: usize, gas: &mut [f32], mix: usize)
         return;
     }
     let from = mix * gases;
-    let to = from + gases;
-    basics::clear_floats(&mut gas[from..to], gases);
+    basics::clear_floats(&mut gas[from..from + gases], gases);
 }

@@ -10,8 +10,7 @@ use lib.Ieee.{Float, nan, ne}
 use borrow.Author.Tests.{eq-eqb, ne_eqb}
 use Rattle.basics.specs.Floats.{0f, ◌+f◌}
 use Rattle.basics.specs.Loops.{run}
-use Rattle.basics.specs.declared.Spot.{Spot}
-use Rattle.basics.specs.declared.Spot.TheVariants.{At}
+use Rattle.std.specs.Prelude.{Option, Some}
 use Rattle.basics.specs.Lists.{Found}
 use Rattle.basics.proofs.Loops.{run-back, run-back_end}
 use Rattle.scratch.specs.Layout.{plan_words, reverse_at, via_at, queue_at, amount_at}
@@ -29,7 +28,7 @@ use Rattle.plan_trade.specs.Steps.{hand_on, drain_via}
 
 -- ---- one turf
 
-module _ (n e r d : ℕ) (there back : Spot) (w : List ℕ) (f f' : List Float) (h : PlanFits n e (area w f)) (hr : r < n) (hd : d < n)
+module _ (n e r d : ℕ) (there back : Option ℕ) (w : List ℕ) (f f' : List Float) (h : PlanFits n e (area w f)) (hr : r < n) (hd : d < n)
     (ht : Found (λ k. k < e) there) (hb : Found (λ k. k < e) back) where
   handed_at : f' ≡ adjust_at there back (get_or f (amount_at r e) nan) f
       → PlanDoes n e (λ o p. hand_on there back r d p) (area w f) (area w (set (set f' (amount_at d e) (get_or f' (amount_at d e) nan +f get_or f (amount_at r e) nan)) (amount_at r e) 0f))
@@ -61,8 +60,8 @@ module _ (n e z r : ℕ) (i : MonstermosInfo) (w : List ℕ) (f : List Float) (e
   unfolding drain_via
   drained_still t d = does-none _ h (simp (rw ei at t, eq-eqb _ _ (rw ei at d)))
 
-  drained_by : {B : Area} (k : ℕ) (there : Spot) → k ≡ get_or (plan_view n e (area w f)).via r 0 → there ≡ back_link (plan_view n e (area w f)).reverse (plan_view n e (area w f)).owner z k
-      → ne i.amount 0f ≡ true → (i.direction ≡ 0 → ⊥) → PlanDoes n e (λ o p. hand_on there (At k) r (i.direction - 1) p) (area w f) B → Drains B
+  drained_by : {B : Area} (k : ℕ) (there : Option ℕ) → k ≡ get_or (plan_view n e (area w f)).via r 0 → there ≡ back_link (plan_view n e (area w f)).reverse (plan_view n e (area w f)).owner z k
+      → ne i.amount 0f ≡ true → (i.direction ≡ 0 → ⊥) → PlanDoes n e (λ o p. hand_on there (Some k) r (i.direction - 1) p) (area w f) B → Drains B
   unfolding drain_via
   drained_by k there ek et t d q = does-as q (rw (et, ek, ei) (simp (rw ei at t, ne_eqb _ _ (rw ei at d))))
 
@@ -83,13 +82,13 @@ module _ (n e z r : ℕ) (i : MonstermosInfo) (w : List ℕ) (f : List Float) (e
     pub back_p : get_or w (reverse_at (get_or w at 0) e) 0 ≤ e
     back_p = rw (via-is, reverse-at n e (get_or (plan_view n e (area w f)).via r 0) w f within.1.0) within.1.1
 
-    module _ (there : Spot) (et : there ≡ back_link (reverse_in e w) (owner_in e w) z (get_or w at 0)) where
+    module _ (there : Option ℕ) (et : there ≡ back_link (reverse_in e w) (owner_in e w) z (get_or w at 0)) where
       pub back-there : Found (λ j. j < e) there
       back-there =
           back_found (reverse_in e w) (owner_in e w) z (get_or w at 0) e there et
           (rw (get_or-take e (drop e w) (get_or w at 0) 0 back-k, get_or-drop e w (get_or w at 0) 0) back_p)
 
-      pub drained : {B : Area} → ne i.amount 0f ≡ true → PlanDoes n e (λ o p. hand_on there (At (get_or w at 0)) r (i.direction - 1) p) (area w f) B → Drains B
+      pub drained : {B : Area} → ne i.amount 0f ≡ true → PlanDoes n e (λ o p. hand_on there (Some (get_or w at 0)) r (i.direction - 1) p) (area w f) B → Drains B
       unfolding plan_view
       drained t q = drained_by (get_or w at 0) there via-is et t some q
 

@@ -11,8 +11,7 @@ use lib.Seq.{set-get_or}
 use lib.Ieee.{Float, lt, of_int, binary32}
 use Rattle.basics.specs.Floats.{0f, ◌+f◌, ◌-f◌, ◌/f◌}
 use Rattle.basics.specs.Loops.{run, keep, up_from}
-use Rattle.basics.specs.declared.Spot.{Spot}
-use Rattle.basics.specs.declared.Spot.TheVariants.{At}
+use Rattle.std.specs.Prelude.{Option, Some}
 use Rattle.basics.specs.Lists.{All}
 use Rattle.basics.proofs.Loops.{run-both, run-keep}
 use Rattle.scratch.specs.View.{owner_in, fast_in}
@@ -73,13 +72,13 @@ module _ (b : Board) (o : List ℕ) (z r : ℕ) where
     step x k s i = go (eqb (get_or o k 0) (z + 1)) refl
       where
         go : (c : Bool) → eqb (get_or o k 0) (z + 1) ≡ c
-            → cond c (cond (eqb (get_or s.fast (end b k) 0) 0) (move_at (At k) (back_link rev o z k) r x (end b k) s) s) s
+            → cond c (cond (eqb (get_or s.fast (end b k) 0) 0) (move_at (Some k) (back_link rev o z k) r x (end b k) s) s) s
             ≡ cond c (cond (eqb (get_or s.fast (end b k) 0) 0) (fast_move b o z r x (end b k) s) s) s
         go false c = refl
         go true c =
             let own : get_or o k 0 ≡ z + 1 = lib.Dec.eqb→eq _ _ (subst lib.Dec.T (sym c) tt) in
             ap (λ (p : Plan). cond (eqb (get_or s.fast (end b k) 0) 0) p s)
-            (sym (ap₂ (λ (p q : Spot). move_at p q r x (end b k) s) (edge-there b n t o z r k h i own) (edge-back b n t o z rev v r k h i)) ∙ move_is b o z r x (end b k) s)
+            (sym (ap₂ (λ (p q : Option ℕ). move_at p q r x (end b k) s) (edge-there b n t o z r k h i own) (edge-back b n t o z rev v r k h i)) ∙ move_is b o z r x (end b k) s)
 
     -- so that a mark may be looked at when its link's turn comes
     moves : (x : Float) (p : Plan) → run (λ k s. fast_via rev z r x o k (end b k) s) (links_of b r) p

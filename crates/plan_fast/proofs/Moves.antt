@@ -1,5 +1,5 @@
 -- One move of the fast pass: what the code adds is what the definition stores, but for numbers that stay. Assumes nothing.
-use Prim.Native.Nat.{ℕ, ◌+◌, ◌-◌, ◌≤◌, ◌<◌}
+use Prim.Native.Nat.{ℕ, ◌+◌, ◌≤◌, ◌<◌}
 use native.Mathlib.Omega.{arith}
 use mathlib.Core.Path.{◌≡◌, refl, ap, ◌∙◌, sym}
 use mathlib.Core.List.{List}
@@ -10,8 +10,7 @@ use lib.Seq.{get_or-take}
 use lib.Ieee.{Float, nan}
 use borrow.Author.Tests.{eq-eqb, ne_eqb}
 use Rattle.basics.specs.Floats.{◌+f◌, ◌-f◌}
-use Rattle.basics.specs.declared.Spot.{Spot}
-use Rattle.basics.specs.declared.Spot.TheVariants.{At}
+use Rattle.std.specs.Prelude.{Option, Some}
 use Rattle.basics.specs.Lists.{Found}
 use Rattle.basics.proofs.Regions.{cut-get}
 use Rattle.scratch.specs.Layout.{plan_words, reverse_at, fast_at, delta_at}
@@ -23,7 +22,7 @@ use Rattle.plan_edges.proofs.Weights.{back_found}
 use Rattle.plan_state.proofs.Adjusts.{adjusted}
 use Rattle.plan_fast.specs.Steps.{tally_step, move_at, fast_via}
 
-module _ (n e r a : ℕ) (there back : Spot) (x : Float) (w : List ℕ) (f f' : List Float) (h : PlanFits n e (area w f)) (hr : r < n) (ha : a < n)
+module _ (n e r a : ℕ) (there back : Option ℕ) (x : Float) (w : List ℕ) (f f' : List Float) (h : PlanFits n e (area w f)) (hr : r < n) (ha : a < n)
     (ht : Found (λ k. k < e) there) (hb : Found (λ k. k < e) back) (s : f' ≡ adjust_at there back x f) where
   moved_at : PlanDoes n e (λ o p. move_at there back r x a p) (area w f)
       (area w (set (set f' (delta_at r e) (get_or f' (delta_at r e) nan -f x)) (delta_at a e) (get_or (set f' (delta_at r e) (get_or f' (delta_at r e) nan -f x)) (delta_at a e) nan +f x)))
@@ -93,7 +92,7 @@ module _ (n e z r k a : ℕ) (x : Float) (w : List ℕ) (f : List Float) (h : Pl
     pub fast-p : get_or w (reverse_at k e) 0 ≤ e
     fast-p = rw (reverse-at n e k w f hk) hp
 
-    module _ (back : Spot) (eb : back ≡ back_link (reverse_in e w) (owner_in e w) z k) where
+    module _ (back : Option ℕ) (eb : back ≡ back_link (reverse_in e w) (owner_in e w) z k) where
       pub fast-back : Found (λ j. j < e) back
       unfolding plan_view
       fast-back = back_found (reverse_in e w) (owner_in e w) z k e back eb hp
@@ -102,17 +101,12 @@ module _ (n e z r k a : ℕ) (x : Float) (w : List ℕ) (f : List Float) (h : Pl
       unfolding plan_view
       there = eb
 
-      pub fast-more : get_or w k 0 ≡ z + 1 → (at : ℕ) → at ≡ fast_at a n e → get_or w at 0 ≡ 0 → {B : Area} → PlanDoes n e (λ o p. move_at (At k) back r x a p) (area w f) B → Steps B
+      pub fast-more : get_or w k 0 ≡ z + 1 → (at : ℕ) → at ≡ fast_at a n e → get_or w at 0 ≡ 0 → {B : Area} → PlanDoes n e (λ o p. move_at (Some k) back r x a p) (area w f) B → Steps B
       unfolding fast_via
       fast-more o at ea m d =
           does-as d
           (simp (eq-eqb _ _ (sym (owner_at n e k w f hk) ∙ o), eq-eqb _ _ (sym (fast-is at ea) ∙ m))
-          (ap (λ (b : Spot). move_at (At k) b r x a (plan_view n e (area w f)).plan) there))
-
--- the reverses stand in the words, which a move leaves
-pub reverse-same : (n e : ℕ) (w : List ℕ) (f f' : List Float) → (plan_view n e (area w f)).reverse ≡ (plan_view n e (area w f')).reverse
-unfolding plan_view
-reverse-same n e w f f' = refl
+          (ap (λ (b : Option ℕ). move_at (Some k) b r x a (plan_view n e (area w f)).plan) there))
 
 pub fast-same : (n e z r k a : ℕ) (x : Float) (w : List ℕ) (f f' : List Float) {A B : Area} → PlanDoes n e (λ o p. fast_via (plan_view n e (area w f)).reverse z r x o k a p) A B
     → PlanDoes n e (λ o p. fast_via (plan_view n e (area w f')).reverse z r x o k a p) A B

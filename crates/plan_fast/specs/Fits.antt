@@ -25,15 +25,15 @@ pub record EligibleFits (from to z n e : ℕ) (neighbours words : List ℕ) : Ty
 
 -- a giver's share over its link k
 pub record FastLinkFits (share : Share) (k : ℕ) (neighbours : List ℕ) (a : Area) : Type 0 where
-  pub fit : PlanFits share.n share.e a
+  pub fit : PlanFits share.layout.turfs share.layout.links a
   pub zone : share.z < 4096
-  pub ends : Ends share.n share.e share.r (k + 1) neighbours
-  pub back : get_or (plan_view share.n share.e a).reverse k 0 ≤ share.e
+  pub ends : Ends share.layout.turfs share.layout.links share.r (k + 1) neighbours
+  pub back : get_or (plan_view share.layout.turfs share.layout.links a).reverse k 0 ≤ share.layout.links
 
 -- the same over its links from one up to another
 pub record FastRowFits (share : Share) (from to : ℕ) (neighbours : List ℕ) (a : Area) : Type 0 where
-  pub fit : PlanFits share.n share.e a
+  pub fit : PlanFits share.layout.turfs share.layout.links a
   pub zone : share.z < 4096
-  pub ends : Ends share.n share.e share.r to neighbours
+  pub ends : Ends share.layout.turfs share.layout.links share.r to neighbours
   pub rise : from ≤ to
-  pub back : (k : ℕ) → from ≤ k → k < to → get_or (plan_view share.n share.e a).reverse k 0 ≤ share.e
+  pub back : (k : ℕ) → from ≤ k → k < to → get_or (plan_view share.layout.turfs share.layout.links a).reverse k 0 ≤ share.layout.links

@@ -1,9 +1,7 @@
 -- The steps of the fast pass as the code takes them: by link, and only what changes is stored.
-use Rattle.std.specs.Prelude.{ℕ, ◌+◌, List, eqb, get_or, set, Float, if◌then◌else◌}
+use Rattle.std.specs.Prelude.{ℕ, ◌+◌, List, eqb, get_or, set, Float, if◌then◌else◌, Option, Some}
 use Rattle.std.specs.Float.{nan}
 use Rattle.basics.specs.Floats.{◌+f◌, ◌-f◌}
-use Rattle.basics.specs.declared.Spot.{Spot}
-use Rattle.basics.specs.declared.Spot.TheVariants.{At}
 use Rattle.rules_plan.specs.Plan.{Plan}
 use Rattle.plan_edges.specs.Steps.{back_link, adjust_at}
 use Rattle.plan_fast.specs.declared.Share.{Share}
@@ -13,7 +11,7 @@ unfoldable pub tally_step : List ℕ → List ℕ → ℕ → ℕ → ℕ → �
 tally_step o fast z k a c = if eqb (get_or o k 0) (z + 1) then (if eqb (get_or fast a 0) 0 then c + 1 else c) else c
 
 -- `fast_move` with both edges at hand
-unfoldable pub move_at : Spot → Spot → ℕ → Float → ℕ → Plan → Plan
+unfoldable pub move_at : Option ℕ → Option ℕ → ℕ → Float → ℕ → Plan → Plan
 move_at there back r x a s =
     let less = set s.delta r (get_or s.delta r nan -f x) in
     record {
@@ -27,7 +25,7 @@ move_at there back r x a s =
 -- the move over the link k to the row a, if it is an eligible one
 unfoldable pub fast_via : List ℕ → ℕ → ℕ → Float → List ℕ → ℕ → ℕ → Plan → Plan
 fast_via reverse z r x o k a s =
-    if eqb (get_or o k 0) (z + 1) then (if eqb (get_or s.fast a 0) 0 then move_at (At k) (back_link reverse o z k) r x a s else s) else s
+    if eqb (get_or o k 0) (z + 1) then (if eqb (get_or s.fast a 0) 0 then move_at (Some k) (back_link reverse o z k) r x a s else s) else s
 
 -- the link k of a giver that shares
 abbrev pub share_over : Share → List ℕ → List ℕ → List ℕ → ℕ → Plan → Plan

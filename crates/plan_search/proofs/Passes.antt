@@ -26,11 +26,6 @@ sought-then {n} {e} {c' = c'} {h = h} k {a} {b} p q s = record {
       ∙ s _ _;
 }
 
--- a step that leaves all as it is
-pub passes_still : {side : Side} {n e z r from to : ℕ} {neighbours : List ℕ} {count c : ℕ} {f : ℕ → List ℕ → Seek → Seek} {A B C : Area}
-    → Passes side n e f z r from to neighbours count c A B → C ≡ B → Passes side n e f z r from to neighbours count c A C
-passes_still {side} {n} {e} {z} {r} {from} {to} {neighbours} {count} {c} {f} {A} p q = subst (λ (x : Area). Passes side n e f z r from to neighbours count c A x) (sym q) p
-
 module _ (side : Side) (r : ℕ) (neighbours : List ℕ) (z n e at to count : ℕ) where
   -- the links from `at` up to k
   abbrev pub PassUpTo : ℕ → ℕ → Area → Area → Type 0

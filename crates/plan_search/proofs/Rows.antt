@@ -75,18 +75,18 @@ run-between f i j e s h l =
 -- ---- the loop over a row's links: those from i on are left, and the turf in hand isn't settled
 
 pub record Row (h : Hand) (r from to : ℕ) (neighbours : List ℕ) (count first c f i : ℕ) (a a' : Area) : Type 0 where
-  pub on : Onward h.n h.e (along_all h r neighbours i to) (along_all h r neighbours from to) count c a a'
-  pub met : KeepsMet h.n h.e h.z r from to neighbours count c a a'
-  pub idle : KeepsIdle h.n h.e count first c f a a'
+  pub on : Onward h.layout.turfs h.layout.links (along_all h r neighbours i to) (along_all h r neighbours from to) count c a a'
+  pub met : KeepsMet h.layout.turfs h.layout.links h.z r from to neighbours count c a a'
+  pub idle : KeepsIdle h.layout.turfs h.layout.links count first c f a a'
   pub unsettled : Unsettled h a'
 
 module _ {h : Hand} {r from to : ℕ} {neighbours : List ℕ} where
-  pub row-start : {count first : ℕ} {A : Area} → Seeking h.n h.e count A → Unsettled h A → Row h r from to neighbours count first count first from A A
+  pub row-start : {count first : ℕ} {A : Area} → Seeking h.layout.turfs h.layout.links count A → Unsettled h A → Row h r from to neighbours count first count first from A A
   row-start s t = record { on = onward-start s (λ o u. refl); met = keeps-none; idle = idle-none; unsettled = t }
 
   -- the links up to j, with nothing to trade
-  pub row-passes : {count first c c' f i j : ℕ} {A B C : Area} → Row h r from to neighbours count first c f i A B → h.g < h.n → from ≤ i → i ≤ j → j ≤ to
-      → Passes h.side h.n h.e (λ b o s. run (along h.side b r neighbours h.z o) (up_from i (j - i)) s) h.z r i to neighbours c c' B C
+  pub row-passes : {count first c c' f i j : ℕ} {A B C : Area} → Row h r from to neighbours count first c f i A B → h.g < h.layout.turfs → from ≤ i → i ≤ j → j ≤ to
+      → Passes h.side h.layout.turfs h.layout.links (λ b o s. run (along h.side b r neighbours h.z o) (up_from i (j - i)) s) h.z r i to neighbours c c' B C
       → Row h r from to neighbours count first c' f j A C
   row-passes {i = i} {j = j} t hg k l m p = record {
     on = onward-next _ _ t.on (p.sought h.g hg t.unsettled) (λ o s. run-between (along h.side h.g r neighbours h.z o) i j to s l m);
@@ -127,12 +127,12 @@ along-settled side g r neighbours z n e count w f hg t xs o looked =
 
 -- a link that settles the turf in hand ends the row
 pub row_settled : {h : Hand} {r from to : ℕ} {neighbours : List ℕ} {count first c c' f f' i : ℕ} {A B : Area} (w : List ℕ) (fs : List Float) → Row h r from to neighbours count first c f i A B → from ≤ i → i < to
-    → SearchGoes h r i (i + 1) neighbours (λ o s. along h.side h.g r neighbours h.z o i s) c f c' f' B (area w fs) → h.g < h.n
-    → settled h.side (get_or fs (delta_at h.g h.e) nan) ≡ true → SearchGoes h r from to neighbours (along_all h r neighbours from to) count first c' f' A (area w fs)
+    → SearchGoes h r i (i + 1) neighbours (λ o s. along h.side h.g r neighbours h.z o i s) c f c' f' B (area w fs) → h.g < h.layout.turfs
+    → settled h.side (get_or fs (delta_at h.g h.layout.links) nan) ≡ true → SearchGoes h r from to neighbours (along_all h r neighbours from to) count first c' f' A (area w fs)
 row_settled {h} {r} {from} {to} {neighbours} {c' = c'} {i = i} w fs t k l d hg u = record {
   sought = onward-end {f = along_all h r neighbours (i + 1) to}
       (onward-next _ (along_all h r neighbours (i + 1) to) t.on d.sought (λ o s. run_up (along h.side h.g r neighbours h.z o) i to s l))
-      (λ o looked. along-settled h.side h.g r neighbours h.z h.n h.e c' w fs hg u (up_from (i + 1) (to - (i + 1))) o looked);
+      (λ o looked. along-settled h.side h.g r neighbours h.z h.layout.turfs h.layout.links c' w fs hg u (up_from (i + 1) (to - (i + 1))) o looked);
   met = keeps_then t.met (keeps-within k (omega arith) d.met);
   idle = idle_then t.idle d.idle;
 }

@@ -46,9 +46,6 @@ pub record Trail (n e : ℕ) (F : List ℕ → Seek → Seek) (count count' look
   pub rest : Leaves n e a a'
   pub on : times (F (plan_view n e a).owner) (n - looked) (seek_of (plan_view n e a') count' looked) ≡ times (F (plan_view n e a).owner) n (seek_of (plan_view n e a) count 0)
 
-pub trail_start : {n e count : ℕ} (F : List ℕ → Seek → Seek) {a : Area} → Seeking n e count a → Trail n e F count count 0 a a
-trail_start F h = record { seeking = h; rest = leaves_none; on = rw sub-zero }
-
 pub trail_next : {n e count count' count'' looked : ℕ} (F h : List ℕ → Seek → Seek) {a a' a'' : Area} → Trail n e F count count' looked a a' → Sought n e h count' count'' a' a''
     → looked < n → ((o : List ℕ) → (let t = h o (seek_of (plan_view n e a') count' looked) in record { queue = t.queue; looked = t.looked + 1; plan = t.plan }) ≡ F o (seek_of (plan_view n e a') count' looked))
     → Trail n e F count count'' (looked + 1) a a''

@@ -12,8 +12,7 @@ use lib.Ieee.{Float, nan, ne}
 use Rattle.basics.specs.Floats.{0f, ◌+f◌}
 use Rattle.basics.specs.Loops.{run, times, member}
 use Rattle.basics.specs.Regions.{cut}
-use Rattle.basics.specs.declared.Spot.{Spot}
-use Rattle.basics.specs.declared.Spot.TheVariants.{At}
+use Rattle.std.specs.Prelude.{Option, Some}
 use Rattle.basics.specs.Lists.{All}
 use Rattle.basics.proofs.Loops.{run-both}
 use Rattle.basics.proofs.Lists.{All-back, All-each}
@@ -55,19 +54,19 @@ module _ (b : Board) (n : ℕ) (t : Linked n b.starts b.neighbours) (rev via o d
   Way r = (d : ℕ) → get_or dirs r 0 ≡ d + 1 → LeadsOver n b.starts b.neighbours d (get_or via r 0) r × (get_or o (get_or via r 0) 0 ≡ z + 1)
 
   via-edges : (r d : ℕ) (s : Plan) → LeadsOver n b.starts b.neighbours d (get_or via r 0) r → get_or o (get_or via r 0) 0 ≡ z + 1
-      → hand_on (back_link rev o z (get_or via r 0)) (At (get_or via r 0)) r d s ≡ drain_to b o z r d s
+      → hand_on (back_link rev o z (get_or via r 0)) (Some (get_or via r 0)) r d s ≡ drain_to b o z r d s
   via-edges r d s l w =
       let k : ℕ = get_or via r 0 in
-      let there : edge b o z d r ≡ At k = ap (edge b o z d) (sym l.ends) ∙ edge-there b n t o z d k l.row l.link w in
+      let there : edge b o z d r ≡ Some k = ap (edge b o z d) (sym l.ends) ∙ edge-there b n t o z d k l.row l.link w in
       let back : edge b o z r d ≡ back_link rev o z k = ap (λ (x : ℕ). edge b o z x d) (sym l.ends) ∙ edge-back b n t o z rev v d k l.row l.link in
-      sym (ap₂ (λ (x y : Spot). hand_on x y r d s) back there) ∙ hand-is b o z r d s
+      sym (ap₂ (λ (x y : Option ℕ). hand_on x y r d s) back there) ∙ hand-is b o z r d s
 
   step : (r : ℕ) (s : Plan) → s.direction ≡ dirs → Way r → drain_via rev via z o r s ≡ drain b o z r s
   unfolding drain_via drain
   step r s q w = go (ne (load s r).amount 0f) (get_or s.direction r 0) refl
     where
       go : (m : Bool) (x : ℕ) → get_or s.direction r 0 ≡ x
-          → cond (m && not (eqb (get_or s.direction r 0) 0)) (hand_on (back_link rev o z (get_or via r 0)) (At (get_or via r 0)) r (get_or s.direction r 0 - 1) s) s
+          → cond (m && not (eqb (get_or s.direction r 0) 0)) (hand_on (back_link rev o z (get_or via r 0)) (Some (get_or via r 0)) r (get_or s.direction r 0 - 1) s) s
           ≡ cond (m && not (eqb (get_or s.direction r 0) 0)) (drain_to b o z r (get_or s.direction r 0 - 1) s) s
       go false x e = refl
       go true zero e = rw e

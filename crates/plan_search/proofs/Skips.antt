@@ -12,7 +12,7 @@ use lib.Seq.{get_or-take, get_or-drop, get_or-set_other, length-take-le}
 use lib.Ieee.{Float, nan, ne}
 use borrow.Author.Tests.{ne_eqb}
 use Rattle.basics.specs.Floats.{0f, ◌+f◌}
-use Rattle.basics.specs.declared.Spot.TheVariants.{At}
+use Rattle.std.specs.Prelude.{Some}
 use Rattle.plan_edges.specs.Steps.{back_link}
 use Rattle.basics.specs.Loops.{run}
 use Rattle.basics.specs.Lists.{All}
@@ -48,7 +48,7 @@ module _ (rev via : List ℕ) (z : ℕ) (o : List ℕ) where
   unfolding drain_via hand_on
   keeps-direction r s = go (ne (load s r).amount 0f && not (eqb (load s r).direction 0))
     where
-      go : (c : Bool) → (cond c (hand_on (back_link rev o z (get_or via r 0)) (At (get_or via r 0)) r ((load s r).direction - 1) s) s).direction ≡ s.direction
+      go : (c : Bool) → (cond c (hand_on (back_link rev o z (get_or via r 0)) (Some (get_or via r 0)) r ((load s r).direction - 1) s) s).direction ≡ s.direction
       go true = refl
       go false = refl
 
@@ -62,7 +62,7 @@ module _ (rev via : List ℕ) (z : ℕ) (o : List ℕ) where
   keeps-amount b r s h k = go (ne (load s r).amount 0f) (get_or s.direction r 0) refl
     where
       go : (c : Bool) (x : ℕ) → get_or s.direction r 0 ≡ x
-          → get_or (cond (c && not (eqb x 0)) (hand_on (back_link rev o z (get_or via r 0)) (At (get_or via r 0)) r (x - 1) s) s).amount b nan ≡ get_or s.amount b nan
+          → get_or (cond (c && not (eqb x 0)) (hand_on (back_link rev o z (get_or via r 0)) (Some (get_or via r 0)) r (x - 1) s) s).amount b nan ≡ get_or s.amount b nan
       go false x e = refl
       go true zero e = refl
       go true (suc d) e =

@@ -18,7 +18,7 @@ use plan_state::{load, store};
 use plan_tests::settled;
 use plan_trade::{Hand, Reach, least, pass_link, seek_link};
 use rules_plan::MonstermosInfo;
-use turfs::{Marks, NEIGHBOURS, Rows, STARTS};
+use turfs::{LentTables, Links};
 
 // How many rows the queue has, and the link that a pass came to.
 #[derive(Clone, Copy)]
@@ -39,23 +39,20 @@ fn pass_links(
     floats: &mut [f32],
 ) -> Pass
     requires searching { Searching hand count (area words.old floats.old) }
-    requires ends { Ends hand.n hand.e r to neighbours.now }
+    requires ends { Ends hand.layout.turfs hand.layout.links r to neighbours.now }
     requires at_le_to { at ≤ to }
     ensures at_le_at { at ≤ result.at }
     ensures at_le_to_2 { result.at ≤ to }
     ensures fact { let ends = neighbours.now in PassesBy hand (λ g o s. run (along hand.side g r ends hand.z o) (up_from at (result.at - at)) s) r at to ends count result.count (area words.old floats.old) (area words.new floats.new) }
 {
     let mut c = count;
-    let mut k = at;
-    while k < to {
-        let p = pass_link(hand, r, k, c, neighbours, words, floats);
-        if p.wants {
+    for k in at..to {
+        let Some(passed) = pass_link(hand, r, k, c, neighbours, words, floats) else {
             return Pass { count: c, at: k };
-        }
-        c = p.count;
-        k += 1;
+        };
+        c = passed;
     }
-    Pass { count: c, at: k }
+    Pass { count: c, at: to }
 }
 
 // The links of the turf r from `from` up to `to`.
@@ -75,6 +72,7 @@ fn seek_row(
     let mut c = reach.count;
     let mut f = reach.first;
     let mut k = from;
+    // A while: one turn may go over many links.
     while k < to {
         let pass = pass_links(hand, r, k, to, c, neighbours, words, floats);
         c = pass.count;
@@ -106,9 +104,7 @@ fn seek_turf(
     requires { SeekTurfFits hand r reach.count starts.now neighbours.now (area words.old floats.old) }
     ensures { GoesTurf hand r starts.now neighbours.now reach.count reach.first result.count result.first (area words.old floats.old) (area words.new floats.new) }
 {
-    let row = r as usize;
-    let from = starts[row] as usize;
-    let to = starts[row + 1] as usize;
+    let Links { from, to } = turfs::links_of(starts, r as usize);
     seek_row(hand, r, from, to, reach, neighbours, words, floats)
 }
 
@@ -123,43 +119,38 @@ pub struct Sweep {
 // The search from the turf in hand, which is at the queue's start.
 fn seek(
     hand: Hand,
-    rows: &Rows,
-    marks: &Marks,
+    tables: &LentTables,
     gases: usize,
     words: &mut [u32],
     floats: &mut [f32],
 ) -> Sweep
-    requires { SeekFits (board_at rows marks gases) hand (area words.old floats.old) }
-    ensures fact { let b = board_at rows.entry marks.entry gases in Searched hand.n hand.e (λ o s. times (seek_next b o hand.z hand.side hand.g) hand.n s) 1 result.count result.looked (area words.old floats.old) (area words.new floats.new) }
-    ensures fact_2 { let b = board_at rows.entry marks.entry gases in AllMet hand.n hand.z b.starts b.neighbours (plan_view hand.n hand.e (area words.new floats.new)) result.count }
-    ensures idle { Idle (plan_view hand.n hand.e (area words.new floats.new)) result.count result.first }
+    requires { SeekFits (board_at tables gases) hand (area words.old floats.old) }
+    ensures fact { let b = board_at tables.entry gases in Searched hand.layout.turfs hand.layout.links (λ o s. times (seek_next b o hand.z hand.side hand.g) hand.layout.turfs s) 1 result.count result.looked (area words.old floats.old) (area words.new floats.new) }
+    ensures fact_2 { let b = board_at tables.entry gases in AllMet hand.layout.turfs hand.z b.starts b.neighbours (plan_view hand.layout.turfs hand.layout.links (area words.new floats.new)) result.count }
+    ensures idle { Idle (plan_view hand.layout.turfs hand.layout.links (area words.new floats.new)) result.count result.first }
 {
-    let side = hand.side;
-    let g = hand.g;
-    let n = hand.n;
-    let e = hand.e;
-    let starts = rows[STARTS];
-    let neighbours = rows[NEIGHBOURS];
-    let queue = scratch::queue_at(n, e);
-    let own = scratch::delta_at(g, e);
-    let mut count = 1;
-    let mut first = n;
+    let Hand {
+        side,
+        g,
+        layout,
+        ..
+    } = hand;
+    let starts = tables.starts;
+    let neighbours = tables.neighbours;
+    let queue = layout.queue_at();
+    let own = layout.delta_at(g);
+    let mut reach = Reach {
+        count: 1,
+        first: layout.turfs,
+    };
     let mut looked = 0;
-    while looked < count {
-        if settled(side, floats[own]) {
-            return Sweep {
-                count,
-                first,
-                looked,
-            };
-        }
-        let here = Reach { count, first };
+    // A while: the queue grows while it is worked through.
+    while looked < reach.count && !settled(side, floats[own]) {
         let r = words[queue + looked];
-        let reach = seek_turf(hand, r, here, starts, neighbours, words, floats);
-        count = reach.count;
-        first = reach.first;
+        reach = seek_turf(hand, r, reach, starts, neighbours, words, floats);
         looked += 1;
     }
+    let Reach { count, first } = reach;
     Sweep {
         count,
         first,
@@ -168,35 +159,24 @@ fn seek(
 }
 
 // One giver gives, or one taker takes.
-pub fn serve(
-    hand: Hand,
-    rows: &Rows,
-    marks: &Marks,
-    gases: usize,
-    words: &mut [u32],
-    floats: &mut [f32],
-)
-    requires planning { Planning (board_at rows marks gases) hand.n hand.e hand.z (area words.old floats.old) }
-    requires g_lt_n { hand.g < hand.n }
-    ensures { let b = board_at rows.entry marks.entry gases in Serves hand.n hand.e (λ o p. serve b o hand.z hand.side hand.g p) (area words.old floats.old) (area words.new floats.new) }
+pub fn serve(hand: Hand, tables: &LentTables, gases: usize, words: &mut [u32], floats: &mut [f32])
+    requires planning { Planning (board_at tables gases) hand.layout.turfs hand.layout.links hand.z (area words.old floats.old) }
+    requires g_lt_n { hand.g < hand.layout.turfs }
+    ensures { let b = board_at tables.entry gases in Serves hand.layout.turfs hand.layout.links (λ o p. serve b o hand.z hand.side hand.g p) (area words.old floats.old) (area words.new floats.new) }
 {
-    let g = hand.g;
-    let z = hand.z;
-    let n = hand.n;
-    let e = hand.e;
-    let i = load(g, n, e, words, floats);
+    let Hand { g, z, layout, .. } = hand;
+    let i = load(g, layout, words, floats);
     let start = MonstermosInfo {
-        delta: i.delta,
         amount: 0.0,
         direction: 0,
-        fast: i.fast,
+        ..i
     };
-    store(g, start, n, e, words, floats);
-    let queue = scratch::queue_at(n, e);
-    let places = scratch::places_at(n, e);
+    store(g, start, layout, words, floats);
+    let queue = layout.queue_at();
+    let places = layout.places_at();
     insert(g as u32, 0, queue, places, words);
-    let sweep = seek(hand, rows, marks, gases, words, floats);
+    let sweep = seek(hand, tables, gases, words, floats);
     let first = least(sweep.first, sweep.count);
-    drain(first, sweep.count, z, n, e, words, floats);
-    drain(0, least(first, sweep.looked), z, n, e, words, floats);
+    drain(first, sweep.count, z, layout, words, floats);
+    drain(0, least(first, sweep.looked), z, layout, words, floats);
 }

@@ -7,8 +7,7 @@ use lib.ListN.{length, get_or, set}
 use lib.Ieee.{Float, nan}
 use Rattle.basics.specs.Floats.{◌+f◌, ◌-f◌}
 use Rattle.basics.specs.Regions.{cut, region}
-use Rattle.basics.specs.declared.Spot.{Spot}
-use Rattle.basics.specs.declared.Spot.TheVariants.{At, Nowhere}
+use Rattle.std.specs.Prelude.{Option, Some, None}
 use Rattle.basics.specs.Lists.{Found}
 use Rattle.basics.proofs.Regions.{cut-set, cut-get}
 use Rattle.scratch.specs.Layout.{plan_words, plan_floats}
@@ -19,14 +18,14 @@ use Rattle.plan_edges.proofs.Weights.{adjust-length}
 use Rattle.plan_state.specs.Held.{area, plan_view_in, plan_view, PlanFits, PlanDoes}
 
 -- one weight that is altered
-cut-alter : (n e : ℕ) (s : Spot) (f : Float → Float) (w : List Float) → Found (λ k. k < e) s
+cut-alter : (n e : ℕ) (s : Option ℕ) (f : Float → Float) (w : List Float) → Found (λ k. k < e) s
     → cut (plan_floats n e) (alter s f w) ≡ set (cut (plan_floats n e) w) 0 (alter s f (region (plan_floats n e) 0 w))
-cut-alter n e (At k) f w h =
+cut-alter n e (Some k) f w h =
     cut-set (plan_floats n e) w 0 k (f (get_or w k nan)) k (omega arith) h (omega arith)
     ∙ ap (λ (x : Float). set (cut (plan_floats n e) w) 0 (set (region (plan_floats n e) 0 w) k (f x))) (cut-get (plan_floats n e) w nan 0 k k (omega arith) h (omega arith))
-cut-alter n e Nowhere f w h = refl
+cut-alter n e None f w h = refl
 
-pub adjusted : (n e : ℕ) (there back : Spot) (x : Float) (w : List ℕ) (f f' : List Float) → Found (λ k. k < e) there → Found (λ k. k < e) back
+pub adjusted : (n e : ℕ) (there back : Option ℕ) (x : Float) (w : List ℕ) (f f' : List Float) → Found (λ k. k < e) there → Found (λ k. k < e) back
     → f' ≡ adjust_at there back x f → PlanFits n e (area w f)
     → PlanDoes n e (λ o p. reweigh (adjust_at there back x) p) (area w f) (area w f')
 unfolding plan_view adjust_at

@@ -8,8 +8,7 @@ use mathlib.Core.Bool.{Bool, true, false, ◌&&◌, cond}
 use lib.Dec.{T, eqb, eqb→eq}
 use lib.ListN.{length, get_or}
 use borrow.Author.Tests.{eq-eqb, ne_eqb}
-use Rattle.basics.specs.declared.Spot.{Spot}
-use Rattle.basics.specs.declared.Spot.TheVariants.{At, Nowhere}
+use Rattle.std.specs.Prelude.{Option, Some, None}
 use Rattle.basics.specs.Lists.{Found}
 use Rattle.basics.proofs.Loops.{first_found, first_passes}
 use Rattle.rules_board.specs.Board.{Board, end, links_of}
@@ -35,7 +34,7 @@ module _ (b : Board) (n : ℕ) (t : Linked n b.starts b.neighbours) (owner : Lis
   link-end r k h i = t.rows k (link-below r k h i)
 
   -- the edge that a link of the zone is
-  pub edge-there : (r k : ℕ) → r < n → InRow b.starts r k → get_or owner k 0 ≡ z + 1 → edge b owner z r (end b k) ≡ At k
+  pub edge-there : (r k : ℕ) → r < n → InRow b.starts r k → get_or owner k 0 ≡ z + 1 → edge b owner z r (end b k) ≡ Some k
   unfolding edge links_of
   edge-there r k h i o =
       let q = in_row r k h i in
@@ -61,25 +60,25 @@ module _ (b : Board) (n : ℕ) (t : Linked n b.starts b.neighbours) (owner : Lis
     found = both (reverse_of b r k) (first_found (InRow b.starts (end b k)) (λ j. eqb (end b j) r) _ (up-all (InRow b.starts (end b k)) _ _ (λ j l m. of_row (end b k) j (link-end r k h i) l m)))
         (first_passes (λ j. end b j ≡ r) (λ j. eqb (end b j) r) _ (λ j s. eqb→eq (end b j) r s))
       where
-        both : (s : Spot) → Found (InRow b.starts (end b k)) s → Found (λ j. end b j ≡ r) s → Found Back s
-        both (At j) x y = (x, y)
-        both Nowhere x y = tt
+        both : (s : Option ℕ) → Found (InRow b.starts (end b k)) s → Found (λ j. end b j ≡ r) s → Found Back s
+        both (Some j) x y = (x, y)
+        both None x y = tt
 
     -- the word for a link's reverse is a place among the links, or 0
     pub reverse-within : get_or reverse k 0 ≤ length b.neighbours
     reverse-within = rw (v.at r k h i) (go (reverse_of b r k) found)
       where
-        go : (s : Spot) → Found Back s → word_for s ≤ length b.neighbours
-        go (At j) f = omega (arith, link-below (end b k) j (link-end r k h i) f.0)
-        go Nowhere f = omega arith
+        go : (s : Option ℕ) → Found Back s → word_for s ≤ length b.neighbours
+        go (Some j) f = omega (arith, link-below (end b k) j (link-end r k h i) f.0)
+        go None f = omega arith
 
-    none : reverse_of b r k ≡ Nowhere → edge b owner z (end b k) r ≡ Nowhere
+    none : reverse_of b r k ≡ None → edge b owner z (end b k) r ≡ None
     unfolding reverse_of edge links_of
     none e =
         first-none (λ j. owned b owner z j && eqb (end b j) r) _ _
         (λ j l m. right-false (owned b owner z j) (eqb (end b j) r) (first-nowhere (λ j. eqb (end b j) r) _ _ e j l m))
 
-    one : (j : ℕ) → Back j → edge b owner z (end b k) r ≡ cond (owned b owner z j) (At j) Nowhere
+    one : (j : ℕ) → Back j → edge b owner z (end b k) r ≡ cond (owned b owner z j) (Some j) None
     unfolding edge links_of
     one j f = go (owned b owner z j) refl
       where
@@ -93,7 +92,7 @@ module _ (b : Board) (n : ℕ) (t : Linked n b.starts b.neighbours) (owner : Lis
                 ap (λ (x : Bool). x && eqb (end b m) r) (ap (owned b owner z) q ∙ o)
             pick (no d) = right-false (owned b owner z m) (eqb (end b m) r) (ne_eqb _ _ d)
 
-        go : (s : Bool) → owned b owner z j ≡ s → edge b owner z (end b k) r ≡ cond s (At j) Nowhere
+        go : (s : Bool) → owned b owner z j ≡ s → edge b owner z (end b k) r ≡ cond s (Some j) None
         go true o =
             ap (edge b owner z (end b k)) (sym f.1) ∙ edge-there (end b k) j (link-end r k h i) f.0 (eqb→eq _ _ (subst T (sym o) tt))
         go false o = first-none (λ m. owned b owner z m && eqb (end b m) r) _ _ (other o)
@@ -103,8 +102,8 @@ module _ (b : Board) (n : ℕ) (t : Linked n b.starts b.neighbours) (owner : Lis
     unfolding back_link
     edge-back = go (reverse_of b r k) refl found ∙ sym (ap (owned_by owner z) (v.at r k h i))
       where
-        go : (s : Spot) → reverse_of b r k ≡ s → Found Back s → edge b owner z (end b k) r ≡ owned_by owner z (word_for s)
-        go (At j) e f =
+        go : (s : Option ℕ) → reverse_of b r k ≡ s → Found Back s → edge b owner z (end b k) r ≡ owned_by owner z (word_for s)
+        go (Some j) e f =
             let q : j + 1 - 1 ≡ j = omega arith in
             one j f ∙ sym (rw (ne_eqb (j + 1) 0 (λ x. omega arith), q))
-        go Nowhere e f = none e
+        go None e f = none e

@@ -22,9 +22,6 @@ pub record Onto (n e : ℕ) (f f₀ : List ℕ → Plan → Plan) (a a' : Area) 
   pub fit : PlanFits n e a'
   pub on : on_plan f (plan_view n e a') ≡ on_plan f₀ (plan_view n e a)
 
-pub onto_start : {n e : ℕ} (f : List ℕ → Plan → Plan) {a : Area} → PlanFits n e a → Onto n e f f a a
-onto_start f h = record { fit = h; on = refl }
-
 pub onto_next : {n e : ℕ} {f f₀ : List ℕ → Plan → Plan} {a a' a'' : Area} (h f' : List ℕ → Plan → Plan) → Onto n e f f₀ a a' → PlanDoes n e h a' a''
     → ((o : List ℕ) (p : Plan) → f o p ≡ f' o (h o p)) → Onto n e f' f₀ a a''
 onto_next {n} {e} {a' = a'} h f' b d s = record {

@@ -1,5 +1,5 @@
 -- How the two work areas hold the planning state, and what a function of planning promises of them.
-use Rattle.std.specs.Prelude.{ℕ, ◌+◌, ◌-◌, ◌≤◌, ◌<◌, ◌≡◌, List, [], length, get_or, take, drop, Float}
+use Rattle.std.specs.Prelude.{ℕ, ◌+◌, ◌-◌, ◌≤◌, ◌<◌, ◌≡◌, List, [], length, get_or, take, drop, Float, Option}
 use Rattle.std.specs.Borrow.{Bor}
 use Rattle.basics.specs.Regions.{cut}
 use Rattle.scratch.specs.Layout.{plan_words, plan_floats, found_at, lifted_at}
@@ -10,7 +10,6 @@ use Rattle.reverse_links.specs.Reverse.{Linked, Reverses}
 use Rattle.plan_state.specs.Pairs.{firsts, seconds}
 use Rattle.plan_state.specs.declared.ZoneAt.{ZoneAt}
 use Rattle.basics.specs.Lists.{Found}
-use Rattle.basics.specs.declared.Spot.{Spot}
 
 -- everything that a function of planning may change, before or after it
 pub record Area : Type 0 where
@@ -127,10 +126,10 @@ pub record Nodes (n e first count : ℕ) (a : Area) : Type 0 where
 
 -- the nodes of the zone in hand
 abbrev pub nodes_in_hand : ZoneAt → Area → List ℕ
-nodes_in_hand zone a = nodes_of zone.n zone.e (plan_view zone.n zone.e a) zone.first zone.count
+nodes_in_hand zone a = nodes_of zone.layout.turfs zone.layout.links (plan_view zone.layout.turfs zone.layout.links a) zone.first zone.count
 
 -- what a move from the turf r to the turf d is asked, over the edge there and the one back
-pub record EdgeMoveFits (n e r d : ℕ) (s t : Spot) (a : Area) : Type 0 where
+pub record EdgeMoveFits (n e r d : ℕ) (s t : Option ℕ) (a : Area) : Type 0 where
   pub fit : PlanFits n e a
   pub row : r < n
   pub to : d < n

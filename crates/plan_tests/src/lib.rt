@@ -71,10 +71,5 @@ pub fn log2(n: u32) -> u32
 pub fn marked(i: MonstermosInfo) -> MonstermosInfo
     ensures { result ≡ marked i }
 {
-    MonstermosInfo {
-        delta: i.delta,
-        amount: i.amount,
-        direction: i.direction,
-        fast: 1,
-    }
+    MonstermosInfo { fast: 1, ..i }
 }

@@ -1,5 +1,5 @@
 -- One link of a search: a new row joins the queue with its place and its link, and is met. Assumes nothing.
-use Prim.Native.Nat.{ℕ, ◌+◌, ◌-◌, ◌≤◌, ◌<◌}
+use Prim.Native.Nat.{ℕ, ◌+◌, ◌≤◌, ◌<◌}
 use native.Mathlib.Omega.{arith}
 use native.Mathlib.Decide.{ℕ_discrete}
 use mathlib.Core.Path.{◌≡◌, refl, ap, ◌∙◌, sym, subst}
@@ -175,14 +175,6 @@ module _ (side : Side) (g r k a z n e count : ℕ) (w : List ℕ) (f : List Floa
           push-view : plan_view n e (area (set w' at k) f) ≡ pushed
           unfolding pushed
           push-view = rw ev (via-view n e a w' f ha k ∙ ap (λ (v : PlanView). paired v v.plan.direction (set v.via a k) v.plan.delta v.plan.amount) line_view)
-
-          pub push-fit : PlanFits n e (area (set w' at k) f)
-          push-fit = record {
-            words = rw s (simp length-set h.fit.words);
-            floats = h.fit.floats;
-            turfs = h.fit.turfs;
-            links = h.fit.links;
-          }
 
           module _ {A : Area} (d : PlanDoes n e (λ o p. meet side g r a p) (area (set w' at k) f) A) where
             after : plan_view n e A ≡ on_plan (λ o p. meet side g r a p) pushed

@@ -1,10 +1,8 @@
 -- The steps of a search as the code takes them: by link, and only what changes is stored.
-use Rattle.std.specs.Prelude.{ℕ, ◌+◌, ◌-◌, List, not, ◌&&◌, eqb, ltb, get_or, set, if◌then◌else◌}
+use Rattle.std.specs.Prelude.{ℕ, ◌+◌, ◌-◌, List, not, ◌&&◌, eqb, ltb, get_or, set, if◌then◌else◌, Option, Some}
 use Rattle.std.specs.Float.{nan}
 use Rattle.std.specs.Float.Ieee.{ne}
 use Rattle.basics.specs.Floats.{0f, ◌+f◌, ◌-f◌}
-use Rattle.basics.specs.declared.Spot.{Spot}
-use Rattle.basics.specs.declared.Spot.TheVariants.{At}
 use Rattle.rules_plan.specs.Plan.{Plan, Seek, load, with_delta, wants, more, seek_to}
 use Rattle.rules_plan.specs.declared.MonstermosInfo.{MonstermosInfo}
 use Rattle.rules_plan.specs.declared.Side.{Side}
@@ -41,7 +39,7 @@ unfoldable pub along : Side → ℕ → ℕ → List ℕ → ℕ → List ℕ �
 along side g r neighbours z o k s = if eqb (get_or o k 0) (z + 1) then seek_to side g r (get_or neighbours k 0) s else s
 
 -- `drain_to` with both edges at hand
-unfoldable pub hand_on : Spot → Spot → ℕ → ℕ → Plan → Plan
+unfoldable pub hand_on : Option ℕ → Option ℕ → ℕ → ℕ → Plan → Plan
 hand_on there back r d s =
     let x = get_or s.amount r nan in
     record {
@@ -57,4 +55,4 @@ unfoldable pub drain_via : List ℕ → List ℕ → ℕ → List ℕ → ℕ �
 drain_via reverse via z o r s =
     let k = get_or via r 0 in
     let i = load s r in
-    if ne i.amount 0f && not (eqb i.direction 0) then hand_on (back_link reverse o z k) (At k) r (i.direction - 1) s else s
+    if ne i.amount 0f && not (eqb i.direction 0) then hand_on (back_link reverse o z k) (Some k) r (i.direction - 1) s else s

@@ -5,8 +5,8 @@ use native.Mathlib.Numerals.{add-one}
 use mathlib.Core.Path.{◌≡◌, refl, ap, ◌∙◌, sym}
 use mathlib.Core.List.{List, [], ◌∷◌}
 use mathlib.Core.Bool.{Bool, true, false, not, cond}
-use lib.ListN.{length, get_or, drop, drop_of_length-le}
-use lib.Seq.{drop-cons}
+use lib.ListN.{length, get_or, take, drop, drop_of_length-le, length-drop}
+use lib.Seq.{drop-cons, get_or-take, get_or-drop, length-take-le}
 use lib.Ieee.{Float, nan}
 use Rattle.basics.specs.Loops.{keep, cons_if}
 use Rattle.scratch.specs.Layout.{delta_at}
@@ -45,6 +45,14 @@ chosen-all (x ∷ xs) s =
     go : (t : Bool) (ys zs : List ℕ) → length ys + length zs ≡ length xs → length (cons_if t x ys) + length (cons_if (not t) x zs) ≡ suc (length xs)
     go true ys zs h = omega arith
     go false ys zs h = omega arith
+
+-- the `count` words from `first` on, as a slice
+module _ (first count : ℕ) (w : List ℕ) where
+  pub part-at : (i : ℕ) → i < count → get_or (take (first + count - first) (drop first w)) i 0 ≡ get_or w (first + i) 0
+  part-at i l = get_or-take (first + count - first) (drop first w) i 0 (omega arith) ∙ get_or-drop first w i 0
+
+  pub part-length : first + count ≤ length w → length (take (first + count - first) (drop first w)) ≡ count
+  part-length h = let k : first + count - first ≡ count = omega arith in length-take-le (first + count - first) (drop first w) (omega (arith, length-drop first w)) ∙ k
 
 module _ {n e first count : ℕ} {w : List ℕ} {f : List Float} (h : Nodes n e first count (area w f)) (i c : ℕ) where
   pub count_next : i < count → (c' : ℕ) → c' ≡ cond (picks Giving (get_or f (delta_at (get_or w (first + i) 0) e) nan)) (c + 1) c

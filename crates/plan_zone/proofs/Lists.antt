@@ -36,9 +36,6 @@ pub record Picking (n e : ℕ) (p : ℕ → Bool) (xs : List ℕ) (k i : ℕ) (a
   pub plan : (plan_view n e a').plan ≡ (plan_view n e a).plan
   pub on : take k (plan_view n e a').list ++ keep p (drop i xs) ≡ keep p xs
 
-pub picking_start : {n e : ℕ} (p : ℕ → Bool) (xs : List ℕ) {a : Area} → PlanFits n e a → Picking n e p xs 0 0 a a
-picking_start p xs h = record { fit = h; few = omega arith; frame = frame-none; plan = refl; on = refl }
-
 module _ {n e : ℕ} (p : ℕ → Bool) (xs : List ℕ) {k i : ℕ} {a : Area} {w : List ℕ} {f : List Float} (b : Picking n e p xs k i a (area w f)) (l : i < length xs) where
   next-list : keep p (drop i xs) ≡ cons_if (p (get_or xs i 0)) (get_or xs i 0) (keep p (drop (i + 1) xs))
   unfolding keep
@@ -124,9 +121,6 @@ pub record Along (n e : ℕ) (g g₀ : List ℕ → Plan → Plan) (a a' : Area)
   pub frame : Frame n e a a'
   pub list : (plan_view n e a').list ≡ (plan_view n e a).list
   pub on : g (plan_view n e a).owner (plan_view n e a').plan ≡ g₀ (plan_view n e a).owner (plan_view n e a).plan
-
-pub along-start : {n e : ℕ} (g : List ℕ → Plan → Plan) {a : Area} → PlanFits n e a → Along n e g g a a
-along-start g h = record { fit = h; frame = frame-none; list = refl; on = refl }
 
 pub along-next : {n e : ℕ} {g g₀ : List ℕ → Plan → Plan} {a a' a'' : Area} (h g' : List ℕ → Plan → Plan) → Along n e g g₀ a a' → Serves n e h a' a''
     → ((o : List ℕ) (p : Plan) → g o p ≡ g' o (h o p)) → Along n e g' g₀ a a''

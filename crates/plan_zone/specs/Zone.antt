@@ -31,10 +31,10 @@ average_of zone = zone.moles /f of_count zone.count
 
 -- what it takes to look at the delta of the turf r, with c turfs counted before it
 pub record CountFits (r c : ℕ) (zone : ZoneAt) (floats : List Float) : Type 0 where
-  pub room : delta_at r zone.e < length floats
+  pub room : delta_at r zone.layout.links < length floats
   pub count : c < 4096
-  pub row : r < zone.n
-  pub sizes : Sizes zone.n zone.e
+  pub row : r < zone.layout.turfs
+  pub sizes : Sizes zone.layout.turfs zone.layout.links
 
 -- and to put it into the list
 pub record ChooseFits (r c list : ℕ) (zone : ZoneAt) (words : List ℕ) (floats : List Float) : Type 0 where

@@ -5,6 +5,7 @@ use lent::ExtraTests;
 use lent_room::Room;
 use std::io;
 use std::io::Write;
+use turfs::LentTables;
 
 // What may differ from board A: the second turf's id, its neighbour, where its links start; the gases; the amounts; the event bytes for a turf.
 #[derive(Clone, Copy)]
@@ -31,109 +32,68 @@ fn board_a() -> Wrong {
     }
 }
 
-// The number that a call with these tables and areas of its own is answered; no turf is planetary, no link a firelock, no mixture immutable.
-fn asked<'a>(
-    ids: &'a [u32],
-    mixtures: &'a [u32],
-    starts: &'a [u32],
-    neighbours: &'a [u32],
-    flags: &'a [u8],
-    zeros: &'a [u8],
-    gases: u32,
-    gas: &[f32],
-    per_turf: u8,
-) -> u32 {
-    let rows = [ids, mixtures, starts, neighbours];
-    let marks = [flags, zeros, zeros, zeros];
-    let events = [0u8; 72];
-    let words = [7u32; 60];
-    let floats = [7.0f32; 12];
-    let room = Room {
-        per_turf,
-        per_link: 20,
-    };
-    lent::refusal(
-        &rows,
-        &marks,
-        gases,
-        gas,
-        &words,
-        &floats,
-        &events,
-        room,
-        ExtraTests::none(),
-    )
-}
-
-// The number that a board is refused with, or 0.
+// The number that a board is refused with, or 0; no turf of it is planetary, no link a firelock, no mixture immutable.
 fn number(w: Wrong) -> u32 {
     let ids = [10, w.id];
-    let flags = [2u8, 2];
     let zeros = [0u8, 0];
-    let mixtures = [0u32, 1];
-    let starts = [0, w.start, 2];
-    let neighbours = [1, w.neighbour];
+    let tables = LentTables {
+        ids: &ids,
+        flags: &[2, 2],
+        planetary: &zeros,
+        mixtures: &[0, 1],
+        starts: &[0, w.start, 2],
+        neighbours: &[1, w.neighbour],
+        link_flags: &zeros,
+        immutable: &zeros,
+    };
     let gas = [w.first, w.second];
-    asked(
-        &ids,
-        &mixtures,
-        &starts,
-        &neighbours,
-        &flags,
-        &zeros,
-        w.gases,
-        &gas,
-        w.per_turf,
-    )
-}
-
-// A line with the number.
-fn show<W: Write>(out: &mut W, n: u32) -> io::Result<()> {
-    if n < 10 {
-        let line = [48 + n as u8, 10];
-        out.write_all(&line)?;
+    let words = [7u32; 60];
+    let floats = [7.0f32; 12];
+    let events = [0u8; 72];
+    let room = Room {
+        per_turf: w.per_turf,
+        per_link: 20,
+    };
+    let extra = ExtraTests::none();
+    match lent::accept(
+        &tables, w.gases, &gas, &words, &floats, &events, room, extra,
+    ) {
+        Ok(()) => 0,
+        Err(refusal) => refusal.into(),
     }
-    Ok(())
 }
 
-// Amounts by their range: -0.0, a NaN, an infinity, a negative one, 2^40 and the next one up.
-fn amounts<W: Write>(out: &mut W) -> io::Result<()> {
-    let mut w = board_a();
-    w.second = -0.0;
-    show(out, number(w))?;
-    w.second = 0.0 / 0.0;
-    show(out, number(w))?;
-    w.second = 1.0 / 0.0;
-    show(out, number(w))?;
-    w.second = -1.0;
-    show(out, number(w))?;
-    w.second = 1099511627776.0;
-    show(out, number(w))?;
-    w.second = 1099511758848.0;
-    show(out, number(w))
-}
-
-// Board A, and what refuses it, in turn.
+// Board A, and what refuses it, in turn: sizes, ids, links and areas; then amounts by their range, the last two 2^40 and the next one up.
 fn main(rt: HostRuntime) -> io::Result<()> {
     let mut out = io::writer(&rt);
-    show(&mut out, number(board_a()))?;
-    let mut w = board_a();
-    w.gases = 0;
-    show(&mut out, number(w))?;
-    w.gases = 2;
-    show(&mut out, number(w))?;
-    let mut v = board_a();
-    v.id = 10;
-    show(&mut out, number(v))?;
-    v.neighbour = 1;
-    show(&mut out, number(v))?;
-    v.id = 20;
-    show(&mut out, number(v))?;
-    v.neighbour = 0;
-    v.start = 3;
-    show(&mut out, number(v))?;
-    v.start = 1;
-    v.per_turf = 17;
-    show(&mut out, number(v))?;
-    amounts(&mut out)
+    let a = board_a();
+    let boards = [
+        a,
+        Wrong { gases: 0, ..a },
+        Wrong { gases: 2, ..a },
+        Wrong { id: 10, ..a },
+        Wrong {
+            id: 10,
+            neighbour: 1,
+            ..a
+        },
+        Wrong { neighbour: 1, ..a },
+        Wrong { start: 3, ..a },
+        Wrong { per_turf: 17, ..a },
+    ];
+    for w in boards {
+        writeln!(out, "{}", number(w))?;
+    }
+    let amounts = [
+        -0.0,
+        f32::NAN,
+        f32::INFINITY,
+        -1.0,
+        1099511627776.0,
+        1099511758848.0,
+    ];
+    for second in amounts {
+        writeln!(out, "{}", number(Wrong { second, ..a }))?;
+    }
+    Ok(())
 }

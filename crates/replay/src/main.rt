@@ -3,103 +3,108 @@
 // printed too; the last but one expects something else than the Rust answered, and the last is torn.
 #![tactic(auto)]
 
-ghost use Rattle.std.specs.Prelude.{◌<◌, length};
+ghost use Rattle.std.specs.Prelude.{◌<◌, ◌≤◌, length, IfSome};
 
-use replay_one::replay;
 use std::io;
 use std::io::Write;
-use vectors_count::{CHANGED, TORN};
+use vectors_count::{Counts, Tried};
 
-// The counts, eight a line: a line for each call, and one for the vectors.
-fn report<W: Write>(out: &mut W, counts: &[u64; 40]) -> io::Result<()> {
-    out.write_all(b"done, refused by 1 to 7: equalize, depressurize, planet walk; then\n")?;
-    out.write_all(
-        b"vectors, those that differ, the first of these, digits changed, found, times torn, found:",
-    )?;
-    let mut k = 8;
-    while k < 39 {
-        if k % 8 == 0 {
-            out.write_all(b"\n")?;
-        }
-        let n = counts[k];
+// A line with the numbers that a call answered.
+fn report_call<W: Write>(out: &mut W, numbers: &[u64; 8]) -> io::Result<()> {
+    for n in numbers {
         write!(out, " {n}")?;
-        k += 1;
     }
-    out.write_all(b"\n")
+    writeln!(out)
+}
+
+// The counts: a line for each call, and one for the vectors.
+fn report<W: Write>(out: &mut W, counts: &Counts) -> io::Result<()> {
+    writeln!(
+        out,
+        "done, refused by 1 to 7: equalize, depressurize, planet walk; then"
+    )?;
+    writeln!(
+        out,
+        "vectors, those that differ, the first of these, digits changed, found, times torn, found:"
+    )?;
+    report_call(out, &counts.equalize)?;
+    report_call(out, &counts.depressurize)?;
+    report_call(out, &counts.planet_walk)?;
+    let first = counts.first.unwrap_or(0);
+    write!(out, " {} {} {first}", counts.vectors, counts.differ)?;
+    write!(out, " {} {}", counts.changed.all, counts.changed.found)?;
+    writeln!(out, " {} {}", counts.torn.all, counts.torn.found)
+}
+
+// Whether a vector is whole, and its call meets what it expects.
+fn meets(vector: &[u32]) -> bool {
+    replay_one::replay(vector).is_some_and(|v| v.met)
 }
 
 // Replays a vector with another number at a place, which it must notice, and puts the number back. A NaN for a NaN isn't tried: one is as good
 // as another.
-fn change(vector: &mut [u32], at: usize, n: u32, counts: &mut [u64; 40])
+fn change(vector: &mut [u32], at: usize, n: u32, changed: &mut Tried)
     requires { at < length vector.old }
 {
     let was = vector[at];
-    if vectors::nan_bits(was) {
-        if vectors::nan_bits(n) {
-            return;
-        }
-    }
-    vector[at] = n;
-    let r = replay(vector);
-    vector[at] = was;
-    vectors_count::count_tried(counts, CHANGED, !r.met);
-}
-
-// Changes each hexadecimal digit of the number at a place, in its lowest bit, if it is one of those from another place on.
-fn change_digits(vector: &mut [u32], at: usize, from: usize, counts: &mut [u64; 40])
-    requires { at < length vector.old }
-{
-    if at < from {
+    if vectors::nan_bits(was) && vectors::nan_bits(n) {
         return;
     }
+    vector[at] = n;
+    let met = meets(vector);
+    vector[at] = was;
+    changed.add(!met);
+}
+
+// Changes each hexadecimal digit of the number at a place, in its lowest bit.
+fn change_digits(vector: &mut [u32], at: usize, changed: &mut Tried)
+    requires { at < length vector.old }
+{
     let n = vector[at];
-    change(vector, at, n ^ 1, counts);
-    let mut power = 1;
-    let mut rest = n / 16;
-    while 0 < rest {
-        power = power % 0x1000_0000 * 16;
-        change(vector, at, n ^ power, counts);
-        rest = rest / 16;
+    let last = n.max(1).ilog2() / 4;
+    for digit in 0..=last {
+        change(vector, at, n ^ (1 << (4 * digit)), changed);
     }
 }
 
 // Tears a vector in front of each of its numbers, and changes each digit of those from a place on.
-fn try_all(vector: &mut [u32], from: usize, counts: &mut [u64; 40]) {
-    let mut n = 0;
-    while n < vector.len() {
-        let r = replay(&vector[..n]);
-        vectors_count::count_tried(counts, TORN, !r.met);
-        change_digits(vector, n, from, counts);
-        n += 1;
+fn try_all(vector: &mut [u32], from: usize, counts: &mut Counts) {
+    for n in 0..vector.len() {
+        let met = meets(&vector[..n]);
+        counts.torn.add(!met);
+        if from <= n {
+            change_digits(vector, n, &mut counts.changed);
+        }
     }
 }
 
 // The vector at a place with what came of it, if it is whole; it is changed and torn too. Answers the place of the next.
-fn run_at(numbers: &mut [u32], at: usize, counts: &mut [u64; 40]) -> usize
+fn run_at(numbers: &mut [u32], at: usize, counts: &mut Counts) -> Option<usize>
     requires { at < length numbers.old }
-    ensures { at < result }
+    ensures { IfSome result (λ next. (at < next) × (next ≤ length numbers.new)) }
 {
-    let r = replay(&numbers[at..]);
-    let next = vectors::past(at, r.next);
-    if numbers.len() < next {
-        return next;
-    }
-    vectors_count::tally(counts, r.call, r.number);
-    vectors_count::count_vector(counts, r.met);
-    try_all(&mut numbers[at..next], r.expected, counts);
-    next
+    let v = replay_one::replay(&numbers[at..])?;
+    let next = at + v.next;
+    counts.tally(v.call, v.number);
+    counts.add(v.met);
+    try_all(&mut numbers[at..next], v.expected, counts);
+    Some(next)
 }
 
 // Replays every vector, changes and tears each, and prints what came of it; at one that isn't whole it stops.
 fn run<W: Write>(out: &mut W, numbers: &mut [u32]) -> io::Result<()> {
-    let mut counts = [0u64; 40];
+    let mut counts = Counts::default();
     let mut at = 0;
+    // A while: a vector is as long as it says.
     while at < numbers.len() {
-        at = run_at(numbers, at, &mut counts);
+        let Some(next) = run_at(numbers, at, &mut counts) else {
+            break;
+        };
+        at = next;
     }
     report(out, &counts)?;
-    if numbers.len() < at {
-        out.write_all(b"the next vector is torn\n")?;
+    if at < numbers.len() {
+        writeln!(out, "the next vector is torn")?;
     }
     Ok(())
 }
@@ -110,7 +115,7 @@ fn main(rt: HostRuntime) -> io::Result<()> {
     let n = vectors_text::read(&mut rt.reader(), &mut numbers)?;
     let mut out = io::writer(&rt);
     if 140_000 < n {
-        return out.write_all(b"too long\n");
+        return writeln!(out, "too long");
     }
     run(&mut out, &mut numbers[..n])
 }

@@ -1,14 +1,14 @@
 -- What comes of a vector that is replayed.
-use Rattle.std.specs.Prelude.{List, ℕ, Float}
+use Rattle.std.specs.Prelude.{List, Option, ℕ, Float}
 use Rattle.vectors_same.specs.Same.{CellsHeld}
-use Rattle.vectors_same.specs.declared.Answer.{Answer}
 use Rattle.vectors_same.specs.declared.Vector.{Vector}
 
 -- what a call answered and left was looked at
-pub record Looked (numbers : List ℕ) (r : Vector) : Type 0 where
+pub record Looked (numbers : List ℕ) (r : Option Vector) : Type 0 where
   pub gas : List Float
   pub words : List ℕ
   pub floats : List Float
   pub events : List ℕ
-  pub answer : Answer
-  pub held : CellsHeld numbers gas words floats events answer r
+  pub answer : List ℕ
+  pub due : ℕ
+  pub held : CellsHeld numbers gas words floats events answer due r

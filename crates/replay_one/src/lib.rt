@@ -1,13 +1,14 @@
 // Replays one stored vector of the public calls: lends what its case says, makes its call, and looks at every cell. The program `replay` runs it.
 #![tactic(auto)]
 
+ghost use Rattle.std.specs.Prelude.{◌<◌, ◌≤◌, length, IfSome};
 ghost use Rattle.replay_one.specs.Replayed.{Looked};
 
 use rules_depressurize::Breach;
-use rules_fill::Settings;
-use vectors_same::{Answer, Vector};
+use vectors::Call;
+use vectors_same::{Vector, held};
 
-// Equalizes as a vector asks, whose numbers are here as bytes too.
+// Equalizes as a vector asks, whose numbers are here as bytes too, and looks at every cell.
 fn equalize(
     numbers: &[u32],
     bytes: &[u8],
@@ -15,34 +16,21 @@ fn equalize(
     words: &mut [u32],
     floats: &mut [f32],
     events: &mut [u8],
-) -> Answer {
-    let rows = vectors::rows_of(numbers);
-    let marks = vectors::marks_of(numbers, bytes);
+) -> Option<Vector>
+    ensures { Looked numbers.now result }
+{
+    let tables = vectors::tables_of(numbers, bytes);
     let a = vectors::asked_of(numbers);
     let hot = vectors::part(numbers, a.hot);
     let turns = vectors::part(numbers, a.turns);
-    let settings = Settings {
-        threshold: a.threshold,
-        limit: a.limit,
-        allowance: a.allowance,
-    };
     let r = call_equalize::equalize(
-        hot, turns, settings, &rows, &marks, a.gases, gas, words, floats, events,
+        hot, turns, a.settings, &tables, a.gases, gas, words, floats, events,
     );
-    Answer {
-        count: 7,
-        number: r.number,
-        second: r.cancelled,
-        third: r.processed,
-        fourth: r.tests,
-        fifth: r.zones,
-        sixth: r.apart,
-        seventh: r.bytes,
-        due: a.due,
-    }
+    let answer = call_answers::equalize_numbers(r);
+    held(&answer, a.due, numbers, gas, words, floats, events)
 }
 
-// Depressurizes as a vector asks: behind what a walk is asked stands the setting of the arrows.
+// Depressurizes and looks likewise: behind what a walk is asked stands the setting of the arrows.
 fn depressurize(
     numbers: &[u32],
     bytes: &[u8],
@@ -50,32 +38,30 @@ fn depressurize(
     words: &mut [u32],
     floats: &mut [f32],
     events: &mut [u8],
-) -> Answer {
-    let rows = vectors::rows_of(numbers);
-    let marks = vectors::marks_of(numbers, bytes);
+) -> Option<Vector>
+    ensures { Looked numbers.now result }
+{
+    let tables = vectors::tables_of(numbers, bytes);
     let w = vectors::walk_of(numbers);
     let breach = Breach {
         id: w.id,
         limit: w.limit,
         arrows: vectors::number_at(numbers, w.due),
     };
-    let r = call_depressurize::depressurize(
-        breach, &rows, &marks, w.gases, gas, words, floats, events,
-    );
-    Answer {
-        count: 3,
-        number: r.number,
-        second: r.outcome,
-        third: r.bytes,
-        fourth: 0,
-        fifth: 0,
-        sixth: 0,
-        seventh: 0,
-        due: vectors::further(w.due, 1),
-    }
+    let r = call_depressurize::depressurize(breach, &tables, w.gases, gas, words, floats, events);
+    let answer = call_answers::depressurize_numbers(r);
+    held(
+        &answer,
+        vectors::further(w.due, 1),
+        numbers,
+        gas,
+        words,
+        floats,
+        events,
+    )
 }
 
-// Walks to a planet as a vector asks.
+// Walks to a planet and looks likewise.
 fn planet_walk(
     numbers: &[u32],
     bytes: &[u8],
@@ -83,42 +69,16 @@ fn planet_walk(
     words: &mut [u32],
     floats: &mut [f32],
     events: &mut [u8],
-) -> Answer {
-    let rows = vectors::rows_of(numbers);
-    let marks = vectors::marks_of(numbers, bytes);
+) -> Option<Vector>
+    ensures { Looked numbers.now result }
+{
+    let tables = vectors::tables_of(numbers, bytes);
     let w = vectors::walk_of(numbers);
     let r = call_planet_walk::planet_walk(
-        w.id, w.limit, &rows, &marks, w.gases, gas, words, floats, events,
+        w.id, w.limit, &tables, w.gases, gas, words, floats, events,
     );
-    Answer {
-        count: 2,
-        number: r.number,
-        second: r.bytes,
-        third: 0,
-        fourth: 0,
-        fifth: 0,
-        sixth: 0,
-        seventh: 0,
-        due: w.due,
-    }
-}
-
-// Makes the call that a vector begins with.
-fn make(
-    numbers: &[u32],
-    bytes: &[u8],
-    gas: &mut [f32],
-    words: &mut [u32],
-    floats: &mut [f32],
-    events: &mut [u8],
-) -> Answer {
-    let call = vectors::number_at(numbers, 0);
-    match call {
-        1 => equalize(numbers, bytes, gas, words, floats, events),
-        2 => depressurize(numbers, bytes, gas, words, floats, events),
-        3 => planet_walk(numbers, bytes, gas, words, floats, events),
-        _ => vectors_same::no_answer(),
-    }
+    let answer = call_answers::planet_numbers(r);
+    held(&answer, w.due, numbers, gas, words, floats, events)
 }
 
 // Fills what a vector lends, makes its call, and looks at every cell.
@@ -129,17 +89,21 @@ fn play(
     words: &mut [u32],
     floats: &mut [f32],
     events: &mut [u8],
-) -> Vector
+) -> Option<Vector>
     ensures { Looked numbers.now result }
 {
     vectors::fill(numbers, bytes, gas, words, floats, events);
-    let a = make(numbers, bytes, gas, words, floats, events);
-    vectors_same::held(a, numbers, gas, words, floats, events)
+    match vectors::call_of(numbers)? {
+        Call::Equalize => equalize(numbers, bytes, gas, words, floats, events),
+        Call::Depressurize => depressurize(numbers, bytes, gas, words, floats, events),
+        Call::PlanetWalk => planet_walk(numbers, bytes, gas, words, floats, events),
+    }
 }
 
-// Replays the vector that the numbers begin with.
-pub fn replay(numbers: &[u32]) -> Vector
-    ensures { Looked numbers.now result }
+// Replays the vector that the numbers begin with; nothing comes of one that isn't whole, or makes no call.
+pub fn replay(numbers: &[u32]) -> Option<Vector>
+    ensures looked { Looked numbers.now result }
+    ensures next { IfSome result (λ v. (0 < v.next) × (v.next ≤ length numbers.now)) }
 {
     let mut bytes = [0u8; 1_429];
     let mut gas = [0.0f32; 192];

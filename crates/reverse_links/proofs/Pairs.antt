@@ -11,8 +11,7 @@ use lib.ListN.{length, get_or, set, drop, length-set}
 use lib.Seq.{get_or-take, get_or-drop, get_or-set_same, get_or-set_other}
 use borrow.Author.Tests.{eq-eqb}
 use Rattle.basics.specs.Loops.{first, up_from}
-use Rattle.basics.specs.declared.Spot.{Spot}
-use Rattle.basics.specs.declared.Spot.TheVariants.{At, Nowhere}
+use Rattle.std.specs.Prelude.{Option, Some, None}
 use Rattle.basics.specs.Lists.{Found}
 use Rattle.scratch.specs.Layout.{reverse_at}
 use Rattle.scratch.specs.View.{reverse_in}
@@ -30,9 +29,9 @@ found-at neighbours from to s j e =
     (first_found (λ i. (from ≤ i) × (i < to)) (λ i. eqb (get_or neighbours i 0) s) (up_from from (to - from)) (up-all (λ i. (from ≤ i) × (i < to)) from (to - from) (λ i l m. (l, omega (arith, l, m)))))
     (first_passes (λ i. get_or neighbours i 0 ≡ s) (λ i. eqb (get_or neighbours i 0) s) (up_from from (to - from)) (λ i x. eqb→eq (get_or neighbours i 0) s x)) e
   where
-    go : (o : Spot) → Found (λ i. (from ≤ i) × (i < to)) o → Found (λ i. get_or neighbours i 0 ≡ s) o → word_for o ≡ j + 1 → ((from ≤ j) × (j < to)) × (get_or neighbours j 0 ≡ s)
-    go (At i) a b q = let z : i ≡ j = omega (arith, q) in subst (λ (x : ℕ). ((from ≤ x) × (x < to)) × (get_or neighbours x 0 ≡ s)) z (a, b)
-    go Nowhere a b q = absurd (omega (arith, q))
+    go : (o : Option ℕ) → Found (λ i. (from ≤ i) × (i < to)) o → Found (λ i. get_or neighbours i 0 ≡ s) o → word_for o ≡ j + 1 → ((from ≤ j) × (j < to)) × (get_or neighbours j 0 ≡ s)
+    go (Some i) a b q = let z : i ≡ j = omega (arith, q) in subst (λ (x : ℕ). ((from ≤ x) × (x < to)) × (get_or neighbours x 0 ≡ s)) z (a, b)
+    go None a b q = absurd (omega (arith, q))
 
 -- no other link there ends so
 pub found-only : (neighbours : List ℕ) (from to s j : ℕ) → from ≤ j → j < to → get_or neighbours j 0 ≡ s → ((i : ℕ) → from ≤ i → i < to → get_or neighbours i 0 ≡ s → i ≡ j)
@@ -50,10 +49,6 @@ module _ {n : ℕ} {starts neighbours : List ℕ} (t : Linked n starts neighbour
 
   rise-from : (q r : ℕ) → q ≤ r → r ≤ n → get_or starts q 0 ≤ get_or starts r 0
   rise-from q r l m = let e : q + (r - q) ≡ r = omega arith in rw e at (rise-to q (r - q) (omega arith))
-
-  -- the rows end with the last link
-  pub rows_end : (r : ℕ) → r ≤ n → n ≤ r → get_or starts r 0 ≡ length neighbours
-  rows_end r l m = let e : r ≡ n = omega arith in ap (λ (q : ℕ). get_or starts q 0) e ∙ t.all
 
   -- a link is of one turf
   row_one : (q r k : ℕ) → q < n → r < n → InRow starts q k → InRow starts r k → q ≡ r
@@ -199,9 +194,6 @@ module _ {n : ℕ} {starts neighbours : List ℕ} (t : Linked n starts neighbour
       go (no s) d = p.done q k l i (omega (arith, link-below q k l i, len)) (omega (arith, s))
       go (yes s) (no z) = p.right q k l i z
       go (yes s) (yes z) = z ∙ sym (unmet (leads_back starts neighbours q k) refl s z)
-
-pub paired_upto : {starts neighbours : List ℕ} {n e k m : ℕ} {w : List ℕ} → k ≡ m → Paired starts neighbours n e k w → Paired starts neighbours n e m w
-paired_upto {starts} {neighbours} {n} {e} {w = w} q h = subst (λ (x : ℕ). Paired starts neighbours n e x w) q h
 
 -- all links have their reverse
 pub backs_of : {starts neighbours : List ℕ} {n e : ℕ} {w : List ℕ} → Linked n starts neighbours → length neighbours ≡ e → Paired starts neighbours n e e w → Backs n starts neighbours (reverse_in e w)

@@ -1,8 +1,6 @@
 -- The reverse of a link: the link that leads back from its end. It is found once a call, so that no adjustment searches for an edge.
-use Rattle.std.specs.Prelude.{ℕ, ◌+◌, ◌≤◌, ◌<◌, ◌≡◌, List, eqb, length, get_or}
+use Rattle.std.specs.Prelude.{ℕ, ◌+◌, ◌≤◌, ◌<◌, ◌≡◌, List, eqb, length, get_or, Option, Some, None}
 use Rattle.basics.specs.Loops.{first}
-use Rattle.basics.specs.declared.Spot.{Spot}
-use Rattle.basics.specs.declared.Spot.TheVariants.{At, Nowhere}
 use Rattle.rules_board.specs.Board.{Board, end, links_of}
 
 -- k is a link of the turf r
@@ -21,13 +19,13 @@ pub record Linked (n : ℕ) (starts neighbours : List ℕ) : Type 0 where
   pub once : (r k j : ℕ) → r < n → InRow starts r k → InRow starts r j → get_or neighbours k 0 ≡ get_or neighbours j 0 → k ≡ j
 
 -- the link that leads back from the end of the link k to its turf r
-unfoldable pub reverse_of : Board → ℕ → ℕ → Spot
+unfoldable pub reverse_of : Board → ℕ → ℕ → Option ℕ
 reverse_of b r k = first (λ j. eqb (end b j) r) (links_of b (end b k))
 
 -- a search's answer as a word: the place + 1, and 0 for none
-abbrev pub word_for : Spot → ℕ
-word_for (At k) = k + 1
-word_for Nowhere = 0
+abbrev pub word_for : Option ℕ → ℕ
+word_for (Some k) = k + 1
+word_for None = 0
 
 -- the words say of each link of the board's n turfs which one leads back
 pub record Reverses (b : Board) (n : ℕ) (reverse : List ℕ) : Type 0 where

@@ -1,5 +1,5 @@
 -- What the functions that find the reverses promise of the words, place by place.
-use Rattle.std.specs.Prelude.{ℕ, ◌+◌, ◌-◌, ◌≤◌, ◌<◌, ◌≡◌, ◌≢◌, ◌⊎◌, List, eqb, length, get_or}
+use Rattle.std.specs.Prelude.{ℕ, ◌+◌, ◌-◌, ◌≤◌, ◌<◌, ◌≡◌, ◌≢◌, ◌⊎◌, List, eqb, length, get_or, Option}
 use Rattle.basics.specs.Loops.{first, up_from}
 use Rattle.scratch.specs.Layout.{reverse_at}
 use Rattle.reverse_links.specs.Reverse.{InRow, Linked, word_for}
@@ -13,9 +13,13 @@ pub record But (lo hi : ℕ) (w w' : List ℕ) : Type 0 where
   pub len : length w' ≡ length w
   pub same : (i : ℕ) → Outside lo hi i → get_or w' i 0 ≡ get_or w i 0
 
+-- the first link from `from` to `to` that ends at the turf s
+abbrev pub sought : List ℕ → ℕ → ℕ → ℕ → Option ℕ
+sought neighbours from to s = first (λ j. eqb (get_or neighbours j 0) s) (up_from from (to - from))
+
 -- the link from `from` up to `to` that ends at the row s, as a word
 abbrev pub found : List ℕ → ℕ → ℕ → ℕ → ℕ
-found neighbours from to s = word_for (first (λ j. eqb (get_or neighbours j 0) s) (up_from from (to - from)))
+found neighbours from to s = word_for (sought neighbours from to s)
 
 -- how many links the turf r has
 abbrev pub links_in : List ℕ → ℕ → ℕ

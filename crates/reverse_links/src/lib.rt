@@ -5,22 +5,22 @@
 ghost use Rattle.std.specs.Prelude.{◌≡◌, ◌+◌, ◌≤◌, ◌<◌, length, get_or};
 ghost use Rattle.scratch.specs.Layout.{reverse_at};
 ghost use Rattle.scratch.specs.View.{reverse_in};
-ghost use Rattle.reverse_links.specs.Words.{But, found, Pairing, OfRow, Paired, Backs};
+ghost use Rattle.reverse_links.specs.Words.{But, sought, Pairing, OfRow, Paired, Backs};
 
-// The first link from `from` to `to` that ends at the turf r, as a word.
-fn look_back(from: usize, to: usize, r: u32, neighbours: &[u32]) -> u32
-    requires to_in_bounds { to ≤ length neighbours.now }
-    requires to_bound { to ≤ 24576 }
-    ensures { result ≡ found neighbours.now from to r }
+use scratch::Layout;
+use turfs::Links;
+
+// The first link from `from` to `to` that ends at the turf r.
+fn look_back(from: usize, to: usize, r: u32, neighbours: &[u32]) -> Option<usize>
+    requires { to ≤ length neighbours.now }
+    ensures { result ≡ sought neighbours.now from to r }
 {
-    let mut k = from;
-    while k < to {
+    for k in from..to {
         if neighbours[k] == r {
-            return k as u32 + 1;
+            return Some(k);
         }
-        k += 1;
     }
-    0
+    None
 }
 
 // The link k of the turf r, which has `size` links: the one that leads back, unless it was found from there, or is to be since that row is longer.
@@ -30,72 +30,63 @@ fn pair(
     size: usize,
     starts: &[u32],
     neighbours: &[u32],
-    n: usize,
-    e: usize,
+    layout: Layout,
     words: &mut [u32],
 )
-    requires pairing { Pairing n e starts.now neighbours.now words.old }
-    requires of_row { OfRow n starts.now r k size }
-    requires paired { Paired starts.now neighbours.now n e k words.old }
-    ensures but { But e (reverse_at e e) words.old words.new }
-    ensures paired_2 { Paired starts.now neighbours.now n e (k + 1) words.new }
+    requires pairing { Pairing layout.turfs layout.links starts.now neighbours.now words.old }
+    requires of_row { OfRow layout.turfs starts.now r k size }
+    requires paired { Paired starts.now neighbours.now layout.turfs layout.links k words.old }
+    ensures but { But layout.links (reverse_at layout.links layout.links) words.old words.new }
+    ensures paired_2 { Paired starts.now neighbours.now layout.turfs layout.links (k + 1) words.new }
 {
-    let here = scratch::reverse_at(k, e);
+    let here = layout.reverse_at(k);
     if words[here] != 0 {
         return;
     }
-    let a = neighbours[k] as usize;
-    let from = starts[a] as usize;
-    let to = starts[a + 1] as usize;
+    let Links { from, to } = turfs::links_of(starts, neighbours[k] as usize);
     if to - from > size {
         return;
     }
-    let p = look_back(from, to, r, neighbours);
-    if p == 0 {
+    let Some(back) = look_back(from, to, r, neighbours) else {
         return;
-    }
-    let there = scratch::reverse_at(p as usize - 1, e);
-    words[here] = p;
+    };
+    let there = layout.reverse_at(back);
+    words[here] = back as u32 + 1;
     words[there] = k as u32 + 1;
 }
 
 // The links of the turf r.
-fn pair_row(r: usize, starts: &[u32], neighbours: &[u32], n: usize, e: usize, words: &mut [u32])
-    requires pairing { Pairing n e starts.now neighbours.now words.old }
-    requires r_lt_n { r < n }
-    requires paired { Paired starts.now neighbours.now n e (get_or starts.now r 0) words.old }
-    ensures but { But e (reverse_at e e) words.old words.new }
-    ensures paired_2 { Paired starts.now neighbours.now n e (get_or starts.now (r + 1) 0) words.new }
+fn pair_row(r: usize, starts: &[u32], neighbours: &[u32], layout: Layout, words: &mut [u32])
+    requires pairing { Pairing layout.turfs layout.links starts.now neighbours.now words.old }
+    requires r_lt_n { r < layout.turfs }
+    requires paired { Paired starts.now neighbours.now layout.turfs layout.links (get_or starts.now r 0) words.old }
+    ensures but { But layout.links (reverse_at layout.links layout.links) words.old words.new }
+    ensures paired_2 { Paired starts.now neighbours.now layout.turfs layout.links (get_or starts.now (r + 1) 0) words.new }
 {
-    let from = starts[r] as usize;
-    let to = starts[r + 1] as usize;
-    let mut k = from;
-    while k < to {
-        pair(k, r as u32, to - from, starts, neighbours, n, e, words);
-        k += 1;
+    let Links { from, to } = turfs::links_of(starts, r);
+    for k in from..to {
+        pair(k, r as u32, to - from, starts, neighbours, layout, words);
     }
 }
 
 // The links of all turfs, none of which has its reverse yet.
-fn pair_rows(starts: &[u32], neighbours: &[u32], n: usize, e: usize, words: &mut [u32])
-    requires pairing { Pairing n e starts.now neighbours.now words.old }
-    requires paired { Paired starts.now neighbours.now n e 0 words.old }
-    ensures but { But e (reverse_at e e) words.old words.new }
-    ensures paired_2 { Paired starts.now neighbours.now n e e words.new }
+fn pair_rows(starts: &[u32], neighbours: &[u32], layout: Layout, words: &mut [u32])
+    requires pairing { Pairing layout.turfs layout.links starts.now neighbours.now words.old }
+    requires paired { Paired starts.now neighbours.now layout.turfs layout.links 0 words.old }
+    ensures but { But layout.links (reverse_at layout.links layout.links) words.old words.new }
+    ensures paired_2 { Paired starts.now neighbours.now layout.turfs layout.links layout.links words.new }
 {
-    let mut r = 0;
-    while r < n {
-        pair_row(r, starts, neighbours, n, e, words);
-        r += 1;
+    for r in 0..layout.turfs {
+        pair_row(r, starts, neighbours, layout, words);
     }
 }
 
 // The reverses of all links.
-pub fn find_reverses(starts: &[u32], neighbours: &[u32], n: usize, e: usize, words: &mut [u32])
-    requires { Pairing n e starts.now neighbours.now words.old }
-    ensures but { But e (reverse_at e e) words.old words.new }
-    ensures backs { Backs n starts.now neighbours.now (reverse_in e words.new) }
+pub fn find_reverses(starts: &[u32], neighbours: &[u32], layout: Layout, words: &mut [u32])
+    requires { Pairing layout.turfs layout.links starts.now neighbours.now words.old }
+    ensures but { But layout.links (reverse_at layout.links layout.links) words.old words.new }
+    ensures backs { Backs layout.turfs starts.now neighbours.now (reverse_in layout.links words.new) }
 {
-    basics::clear_part(words, e, e);
-    pair_rows(starts, neighbours, n, e, words);
+    basics::clear_part(words, layout.links, layout.links);
+    pair_rows(starts, neighbours, layout, words);
 }

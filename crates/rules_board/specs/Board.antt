@@ -1,8 +1,7 @@
 -- The tables lent to a call, and what is read off them. A turf is its row, a link its place in the link list.
-use Rattle.std.specs.Prelude.{List, Bool, not, ℕ, ◌+◌, ◌-◌, eqb, length, get_or, take, drop}
+use Rattle.std.specs.Prelude.{List, Bool, not, ℕ, ◌+◌, ◌-◌, eqb, length, get_or, take, drop, Option}
 use Rattle.std.specs.Int.Bits.{bit_and}
 use Rattle.basics.specs.Loops.{up_from, first}
-use Rattle.basics.specs.declared.Spot.{Spot}
 
 -- the tables, named and ordered as the C interface has them
 pub record Board : Type 0 where
@@ -104,5 +103,5 @@ module _ (b : Board) where
   neighbours_of r = take (degree r) (drop (get_or b.starts r 0) b.neighbours)
 
   -- `get_id`: the row of an id
-  unfoldable pub row_of : ℕ → Spot
+  unfoldable pub row_of : ℕ → Option ℕ
   row_of i = first (λ r. eqb (id_of r) i) (up_from 0 turf_count)

@@ -1,9 +1,7 @@
 -- `explosively_depressurize`: the walk to space, out from space and back, as one operation, and the whole of a call.
-use Rattle.std.specs.Prelude.{List, [], ◌++◌, reverse, ℕ, ◌*◌, eqb, length, replicate, Float, if◌then◌else◌}
+use Rattle.std.specs.Prelude.{List, [], ◌++◌, reverse, ℕ, ◌*◌, eqb, length, replicate, Float, if◌then◌else◌, Option, Some, None}
 use Rattle.basics.specs.Loops.{run}
 use Rattle.basics.specs.Floats.{0f}
-use Rattle.basics.specs.declared.Spot.{Spot}
-use Rattle.basics.specs.declared.Spot.TheVariants.{At, Nowhere}
 use Rattle.rules_board.specs.Board.{Board, turf_count, row_of}
 use Rattle.rules_events.specs.Events.{encode_all}
 use Rattle.rules_events.specs.declared.Event.{Event}
@@ -13,11 +11,16 @@ use Rattle.rules_walk.specs.Visit.{visit_space}
 use Rattle.rules_out.specs.Out.{Out, outward}
 use Rattle.rules_back.specs.Back.{back}
 use Rattle.rules_depressurize.specs.declared.Breach.{Breach}
-use Rattle.rules_depressurize.specs.declared.DepressurizeAnswer.{DepressurizeAnswer}
 
 -- what is asked, in the order of the call
 abbrev pub breach_of : ℕ → ℕ → ℕ → Breach
 breach_of id limit arrows = record { id = id; limit = limit; arrows = arrows }
+
+-- what the call answers
+pub record DepressurizeAnswer : Type 0 where
+  pub number : ℕ
+  pub outcome : ℕ
+  pub bytes : ℕ
 
 -- what the operation comes to
 pub record Depressurized : Type 0 where
@@ -41,9 +44,9 @@ module _ (b : Board) where
       else way_back q.arrows gas (outward b q.limit w.space w.events)
 
   -- an unknown id: outcome 0
-  unfoldable pub from_row : List Float → Breach → Spot → Depressurized
-  from_row gas q Nowhere = record { outcome = 0; gas = gas; events = [] }
-  from_row gas q (At r) = from_walk gas q (walk b (visit_space b q.limit) r)
+  unfoldable pub from_row : List Float → Breach → Option ℕ → Depressurized
+  from_row gas q None = record { outcome = 0; gas = gas; events = [] }
+  from_row gas q (Some r) = from_walk gas q (walk b (visit_space b q.limit) r)
 
   -- from the turf that is asked
   unfoldable pub depressurize : List Float → Breach → Depressurized

@@ -1,7 +1,5 @@
 -- The clock tests of a call: one for each turf that filling pops, and two more before planning.
-use Rattle.std.specs.Prelude.{◌≡◌, ◌⊎◌, List, [], ◌∷◌, ◌++◌, ℕ, ◌+◌, ◌≤◌, length, Float, if◌then◌else◌}
-use Rattle.basics.specs.declared.Spot.{Spot}
-use Rattle.basics.specs.declared.Spot.TheVariants.{At, Nowhere}
+use Rattle.std.specs.Prelude.{◌≡◌, ◌⊎◌, List, [], ◌∷◌, ◌++◌, ℕ, ◌+◌, ◌≤◌, length, Float, if◌then◌else◌, Option, Some, None}
 use Rattle.rules_board.specs.Board.{Board, row_of}
 use Rattle.rules_fill.specs.Fill.{Fill, fill}
 use Rattle.rules_equalize.specs.Equalize.{Ask, Filled, Equalized, start_filled, passed_over, hot_id}
@@ -17,9 +15,9 @@ module _ (b : Board) (gas : List Float) (q : Ask) where
   fill_of r s = fill b gas q.limit q.allowance (length s.zones) r s.found s.owner s.events s.tests
 
   -- the fill of a row, unless it is passed over
-  unfoldable pub fill_at : Spot → Filled → List Fill
-  fill_at Nowhere s = []
-  fill_at (At r) s = if passed_over b gas q r s.found then [] else fill_of r s ∷ []
+  unfoldable pub fill_at : Option ℕ → Filled → List Fill
+  fill_at None s = []
+  fill_at (Some r) s = if passed_over b gas q r s.found then [] else fill_of r s ∷ []
 
   -- every fill of the call, in order, those of ignored zones too
   unfoldable pub all_fills : List ℕ → Filled → List Fill

@@ -1,11 +1,9 @@
 -- `equalize`: fill from the hot turfs, plan every zone, finish by turns.
-use Rattle.std.specs.Prelude.{List, [], map, Bool, true, false, not, ◌||◌, ℕ, ◌+◌, eqb, ltb, length, get_or, replicate, Float, if◌then◌else◌}
+use Rattle.std.specs.Prelude.{List, [], map, Bool, true, false, not, ◌||◌, ℕ, ◌+◌, eqb, ltb, length, get_or, replicate, Float, if◌then◌else◌, Option, Some, None}
 use Rattle.std.specs.Float.Ieee.{lt, of_bits}
 use Rattle.std.specs.Float.{binary32}
 use Rattle.basics.specs.Loops.{run, keep, every, up_from, member, snoc}
 use Rattle.basics.specs.Floats.{0f, ◌-f◌, abs}
-use Rattle.basics.specs.declared.Spot.{Spot}
-use Rattle.basics.specs.declared.Spot.TheVariants.{At, Nowhere}
 use Rattle.rules_board.specs.Board.{Board, turf_count, link_count, mixture_count, mix_of, end, enabled, immutable_mix, links_of, row_of}
 use Rattle.rules_mixture.specs.Mixture.{total}
 use Rattle.rules_fill.specs.Fill.{Fill, is_over, fill}
@@ -77,9 +75,9 @@ module _ (b : Board) (gas : List Float) (q : Ask) where
   fill_from r s = after_fill (fill b gas q.limit q.allowance (length s.zones) r s.found s.owner s.events s.tests) s
 
   -- a hot id that no turf has is passed over
-  unfoldable pub hot_row : Spot → Filled → Filled
-  hot_row Nowhere s = s
-  hot_row (At r) s = if passed_over r s.found then s else fill_from r s
+  unfoldable pub hot_row : Option ℕ → Filled → Filled
+  hot_row None s = s
+  hot_row (Some r) s = if passed_over r s.found then s else fill_from r s
 
   -- `for &cur_index_turf in high_pressure_turfs`
   unfoldable pub hot_id : ℕ → Filled → Filled

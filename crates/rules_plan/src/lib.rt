@@ -6,6 +6,7 @@
 pub struct MonstermosInfo {
     pub delta: f32,
     pub amount: f32,
+    // Words, as the lent scratch holds them: this struct's form is settled (docs/COVERAGE.md).
     pub direction: u32,
     pub fast: u32,
 }

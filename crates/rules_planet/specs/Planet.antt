@@ -1,20 +1,22 @@
 -- `planet_equalize`: the firelocks on the way from a turf, and the whole of a call.
-use Rattle.std.specs.Prelude.{List, [], ℕ, ◌*◌, eqb, length, if◌then◌else◌}
-use Rattle.basics.specs.declared.Spot.{Spot}
-use Rattle.basics.specs.declared.Spot.TheVariants.{At, Nowhere}
+use Rattle.std.specs.Prelude.{List, [], ℕ, ◌*◌, eqb, length, if◌then◌else◌, Option, Some, None}
 use Rattle.rules_board.specs.Board.{Board, turf_count, row_of}
 use Rattle.rules_events.specs.Events.{encode_all}
 use Rattle.rules_events.specs.declared.Event.{Event}
 use Rattle.rules_lent.specs.Lent.{Lent, Result, no_extra, refusal, after}
 use Rattle.rules_walk.specs.Walk.{walk}
 use Rattle.rules_walk.specs.Visit.{visit_planet}
-use Rattle.rules_planet.specs.declared.PlanetAnswer.{PlanetAnswer}
+
+-- what the call answers
+pub record PlanetAnswer : Type 0 where
+  pub number : ℕ
+  pub bytes : ℕ
 
 module _ (b : Board) where
   -- an unknown id writes none
-  unfoldable pub planet_from : ℕ → Spot → List Event
-  planet_from limit Nowhere = []
-  planet_from limit (At r) = (walk b (visit_planet b limit) r).events
+  unfoldable pub planet_from : ℕ → Option ℕ → List Event
+  planet_from limit None = []
+  planet_from limit (Some r) = (walk b (visit_planet b limit) r).events
 
   -- the events of the walk from the turf `id`
   unfoldable pub planet_walk : ℕ → ℕ → List Event

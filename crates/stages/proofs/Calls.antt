@@ -8,8 +8,10 @@ use mathlib.Core.Bool.{true, false, true≢false}
 use lib.Ieee.{Float}
 use lib.ListN.{length}
 use Rattle.rules_board.specs.Board.{Board, turf_count, link_count}
-use Rattle.rules_lent.specs.Lent.{Lent, refusal}
-use Rattle.lent.specs.Given.{lent}
+use Rattle.rules_lent.specs.Lent.{Lent}
+use Rattle.lent.specs.Given.{lent, number_of}
+use Rattle.lent.specs.declared.Refusal.{Refusal}
+use Rattle.lent.proofs.Told.{number-some}
 use Rattle.plan_all.specs.Zones.{Plannable, Zoned, PlansAll}
 use Rattle.plan_all.proofs.Asked.{plan-asks}
 use Rattle.rules_equalize.specs.Equalize.{Ask, filled_all}
@@ -24,10 +26,10 @@ use Rattle.stages.specs.Stages.{StageFills, Few, StagePlans}
 use Rattle.stages.proofs.Planning.{plan-comes}
 
 module _ (b : Board) (q : Ask) (l : Lent) where
-  module _ {number : ℕ} (r : number ≡ equalize_number b q [] l) where
-    pub refused-fills : (number ≡ 0 → ⊥) → StageFills b q l l number start
-    refused-fills z = record { refusal = r; refused = λ _. (refl, refl); done = λ e. absurd (z e) }
+  pub refused-fills : (f : Refusal) {number : ℕ} → number ≡ number_of f → number ≡ equalize_number b q [] l → StageFills b q l l (number_of f) start
+  refused-fills f e r = record { refusal = sym e ∙ r; refused = λ _. (refl, refl); done = λ z. absurd (number-some f z) }
 
+  module _ {number : ℕ} (r : number ≡ equalize_number b q [] l) where
     module _ (z : number ≡ 0) where
       pub done-fills : {l' : Lent} {s : Filling} → FillsAll (turf_count b) (link_count b) (filled_all b l.gas q) s l.words l'.words l.floats l'.floats l.area l'.area → StageFills b q l l' 0 s
       done-fills d = record { refusal = sym z ∙ r; refused = λ n. absurd (n refl); done = λ _. d }

@@ -1,7 +1,8 @@
 -- What each part of equalize answers and leaves when it runs on its own: a refusal leaves everything as it was, else the part's own promise holds.
-use Rattle.std.specs.Prelude.{◌≡◌, List, [], ◌∷◌, true, false, ℕ, ◌≤◌, length, drop, Float}
+use Rattle.std.specs.Prelude.{◌≡◌, List, [], ◌∷◌, true, false, ℕ, ◌≤◌, length, drop, Float, Result, Ok, Err}
 use Rattle.rules_board.specs.Board.{Board, turf_count, link_count}
 use Rattle.rules_lent.specs.Lent.{Lent}
+use Rattle.lent.specs.declared.Refusal.{Refusal}
 use Rattle.reverse_links.specs.Reverse.{Reverses}
 use Rattle.reverse_links.specs.Words.{But}
 use Rattle.scratch.specs.Layout.{found_at, lifted_at}
@@ -11,6 +12,11 @@ use Rattle.rules_equalize.specs.Equalize.{Ask, filled_all, planned_all, bit}
 use Rattle.rules_equalize.specs.Result.{equalize_number}
 use Rattle.fill_all.specs.Held.{start, FillsAll}
 use Rattle.fill_all.specs.declared.Filling.{Filling}
+
+-- what filling came to: nothing where it was refused
+abbrev pub filling_of : Result Filling Refusal → Filling
+filling_of (Ok s) = s
+filling_of (Err r) = start
 
 -- filling alone, with equalize's refusals for no turns
 pub record StageFills (b : Board) (q : Ask) (l l' : Lent) (number : ℕ) (s : Filling) : Type 0 where

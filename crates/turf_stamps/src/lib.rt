@@ -11,16 +11,14 @@ pub fn row_fits(row: usize, near: &[u32], stamps: &mut [u16]) -> bool
     requires { StampFits row near.now stamps.old }
     ensures { (result ≡ (not (member row near.now) && distinct near.now)) × AtMost (row + 1) stamps.new }
 {
-    let mut i = 0;
     let stamp = row as u16 + 1;
     stamps[row] = stamp;
-    while i < near.len() {
-        let a = near[i] as usize;
+    for &a in near {
+        let a = a as usize;
         if stamps[a] == stamp {
             return false;
         }
         stamps[a] = stamp;
-        i += 1;
     }
     true
 }

@@ -2,13 +2,17 @@
 use Prim.Native.Nat.{ℕ, zero, suc, ◌+◌, ◌-◌, ◌≤◌, ◌<◌}
 use native.Mathlib.Omega.{arith}
 use native.Mathlib.Nat.{suc-add}
-use mathlib.Core.Path.{◌≡◌}
+use mathlib.Core.Path.{◌≡◌, refl, sym, ◌∙◌, subst}
 use mathlib.Core.List.{List, [], ◌∷◌}
-use mathlib.Core.Bool.{Bool, true}
+use mathlib.Core.Bool.{Bool, true, false}
 use lib.ListN.{length, get_or}
 use lib.Dec.{ltb, leb}
-use borrow.Author.Tests.{ltb-true, leb-true}
-use Rattle.basics.proofs.Tests.{both}
+use borrow.Author.Tests.{ltb-true, leb-true, le-leb}
+use Rattle.std.specs.List.{IsAllAdjacentAnswer}
+use Rattle.std.specs.Ordering.{nat_cmp, is_le, is_some_and}
+use Rattle.std.proofs.Common.{Some}
+use Rattle.std.proofs.lemmas.List.Sorted.{non_decreasing_from_is_sorted}
+use Rattle.basics.proofs.Tests.{both, differ}
 use Rattle.rules_board.specs.Refuse.{pairwise, ascending, rising}
 
 pub pairwise-at : (t : ℕ → ℕ → Bool) (l : List ℕ) (i : ℕ) → pairwise t l ≡ true → i + 1 < length l → t (get_or l i 0) (get_or l (i + 1) 0) ≡ true
@@ -38,3 +42,29 @@ pub rising-to : (l : List ℕ) (i j : ℕ) → rising l ≡ true → i < j → j
 rising-to l i j e h k =
     let q : j ≡ i + 1 + (j - (i + 1)) = omega arith in
     rw q (pairwise-to leb (λ x y. x ≤ y) leb-true (λ x y z a b. omega arith) l i (j - (i + 1)) e (omega arith))
+
+-- ---- what a call that goes over the pairs answers
+
+pairwise-each : (t : ℕ → ℕ → Bool) (l : List ℕ) → ((k : ℕ) → k + 1 < length l → t (get_or l k 0) (get_or l (k + 1) 0) ≡ true) → pairwise t l ≡ true
+unfolding pairwise
+pairwise-each t [] h = refl
+pairwise-each t (x ∷ []) h = refl
+pairwise-each t (x ∷ y ∷ l) h = rw (h 0 (omega arith)) (pairwise-each t (y ∷ l) (λ k i. subst (λ (j : ℕ). t (get_or (y ∷ l) k 0) (get_or (x ∷ y ∷ l) j 0) ≡ true) (suc-add k 1) (h (suc k) (omega arith))))
+
+pub pairwise-answer : (t : ℕ → ℕ → Bool) (l : List ℕ) (r : Bool) → IsAllAdjacentAnswer (λ x y b. b ≡ t x y) l r → r ≡ pairwise t l
+pairwise-answer t l true h = sym (pairwise-each t l (λ k i. sym (h k 0 i)))
+pairwise-answer t l false h = go (pairwise t l) refl
+  where
+    go : (b : Bool) → pairwise t l ≡ b → false ≡ pairwise t l
+    go true e = absurd (differ (sym (h.2 0 ∙ pairwise-at t l h.0 e h.1)))
+    go false e = sym e
+
+pub rising-answer : (l : List ℕ) (r : Bool) → IsAllAdjacentAnswer (λ x y b. is_some_and is_le (Some (nat_cmp x y)) ≡ b) l r → r ≡ rising l
+rising-answer l true h = sym (pairwise-each leb l (λ k i. le-leb _ _ (non_decreasing_from_is_sorted l true h k (k + 1) 0 (omega arith) i)))
+rising-answer l false h = go (rising l) refl
+  where
+    go : (b : Bool) → rising l ≡ b → false ≡ rising l
+    go true e =
+        let w = non_decreasing_from_is_sorted l false h in
+        absurd (omega (arith, w.2 0, leb-true _ _ (pairwise-at leb l w.0 e w.1)))
+    go false e = sym e

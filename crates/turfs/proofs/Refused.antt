@@ -21,38 +21,11 @@ two l i h =
     let a : i < length l = omega arith in
     drop-cons l i 0 a ∙ rw (← add-one i, drop-cons l (i + 1) 0 h)
 
-module _ (test : ℕ → ℕ → Bool) (l : List ℕ) (i : ℕ) where
-  module _ (h : i + 1 < length l) where
-    pub pairwise-next : test (get_or l i 0) (get_or l (i + 1) 0) ≡ true → pairwise test (drop i l) ≡ pairwise test (drop (i + 1) l)
-    unfolding pairwise
-    pairwise-next t = rw (two l i h, drop-cons l (i + 1) 0 h, t)
-
-    pub pairwise-fails : test (get_or l i 0) (get_or l (i + 1) 0) ≡ false → pairwise test (drop i l) ≡ false
-    unfolding pairwise
-    pairwise-fails t = rw (two l i h, t)
-
-  pub pairwise-end : length l ≤ i + 1 → pairwise test (drop i l) ≡ true
-  unfolding pairwise
-  pairwise-end h = short (drop i l) (simp length-drop (omega arith))
-    where
-      short : (s : List ℕ) → length s ≤ 1 → pairwise test s ≡ true
-      short [] k = refl
-      short (x ∷ []) k = refl
-      short (x ∷ y ∷ s) k = absurd (omega arith)
-
 -- a turf's neighbours: their test is the turf's, and they can be stamped for it
 module _ (b : Board) (row : ℕ) {from : ℕ} {near : List ℕ} (p : Near b row from near) where
   pub near-test : (t : Bool) → t ≡ (not (member row near) && distinct near) → row_fits b row ≡ t
   unfolding row_fits
   near-test t e = rw (← p.part) (sym e)
-
-  pub near-stamps : (stamps : List ℕ) → LinksLead b → row < turf_count b → (turf_count b ≤ length stamps) × (length stamps ≤ 4096) → AtMost row stamps → StampFits row near stamps
-  near-stamps stamps lead l h old = record {
-    few = h.1;
-    turf = omega arith;
-    ends = λ i k. omega (arith, near-end lead.parts l p i k, lead.ends (from + i) (omega (arith, k, near-inside lead.parts l p)));
-    old = old;
-  }
 
 -- a table as it is made
 pub no-stamps : (n k : ℕ) → n ≤ k → k ≤ 4096 → NoStamps n (replicate k 0)

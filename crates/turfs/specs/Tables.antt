@@ -1,28 +1,21 @@
 -- The board that a call is lent, table by table, and what the refusals 1 to 4 leave of it.
 use Rattle.std.specs.Prelude.{List, [], ◌≡◌, true, ℕ, ◌+◌, ◌*◌, ◌≤◌, ◌<◌, T, leb, length, get_or, drop}
 use Rattle.std.specs.Borrow.{Bor}
+use Rattle.turfs.specs.declared.LentTables.{LentTables}
 use Rattle.basics.specs.Loops.{every, up_from}
 use Rattle.basics.specs.Lists.{count}
 use Rattle.rules_board.specs.Board.{Board, turf_count, link_count, mixture_count, mix_of, end, neighbours_of, board}
 use Rattle.rules_board.specs.Refuse.{ascending, rising, row_fits}
 
--- ---- the tables as they travel: `rows` are ids, mixtures, starts, neighbours; `marks` are flags, planetary, link flags, immutable
-
--- slices lent side by side
-abbrev pub Slices : Type 0
-Slices = List (Bor (List ℕ))
-
--- the slice number k
-abbrev pub table : Slices → ℕ → List ℕ
-table ts k = (get_or ts k (record { ref_ptr = (0, 0); now = [] })).now
+-- ---- the tables as they travel
 
 -- the board that they are
-abbrev pub board_of : Slices → Slices → ℕ → Board
-board_of rows marks gases = board (table rows 0) (table marks 0) (table marks 1) (table rows 1) (table rows 2) (table rows 3) (table marks 2) (table marks 3) gases
+abbrev pub board_of : LentTables → ℕ → Board
+board_of t gases = board t.ids.now t.flags.now t.planetary.now t.mixtures.now t.starts.now t.neighbours.now t.link_flags.now t.immutable.now gases
 
--- the same of references to them, as contracts have it
-abbrev pub board_at : Bor Slices → Bor Slices → ℕ → Board
-board_at rows marks gases = board_of rows.now marks.now gases
+-- the same of a reference to them, as contracts have it
+abbrev pub board_at : Bor LentTables → ℕ → Board
+board_at tables gases = board_of tables.now gases
 
 -- ---- what the refusals leave
 

@@ -10,29 +10,18 @@ ghost use Rattle.rules_board.specs.Board.{Board, any_bit, lock_bit, row_of};
 ghost use Rattle.rules_board.specs.Refuse.{ascending};
 ghost use Rattle.turfs.specs.Tables.{Bracket};
 
-use basics::Spot;
-
-// A board's tables of numbers, as they travel through a call.
-pub type Rows<'a> = [&'a [u32]; 4];
-
-pub const IDS: usize = 0;
-
-pub const MIXTURES: usize = 1;
-
-pub const STARTS: usize = 2;
-
-pub const NEIGHBOURS: usize = 3;
-
-// Its tables of bytes.
-pub type Marks<'a> = [&'a [u8]; 4];
-
-pub const FLAGS: usize = 0;
-
-pub const PLANETARY: usize = 1;
-
-pub const LINK_FLAGS: usize = 2;
-
-pub const IMMUTABLE: usize = 3;
+// A board's tables, as a call is lent them.
+#[derive(Clone, Copy)]
+pub struct LentTables<'a> {
+    pub ids: &'a [u32],
+    pub flags: &'a [u8],
+    pub planetary: &'a [u8],
+    pub mixtures: &'a [u32],
+    pub starts: &'a [u32],
+    pub neighbours: &'a [u32],
+    pub link_flags: &'a [u8],
+    pub immutable: &'a [u8],
+}
 
 // A turf's flags; bits that have no name here are ignored.
 #[derive(Clone, Copy)]
@@ -69,32 +58,20 @@ fn lower_bound(xs: &[u32], x: u32) -> usize
     requires { ascending xs.now ≡ true }
     ensures { Bracket xs.now x result result }
 {
-    let mut lo = 0;
-    let mut hi = xs.len();
-    while lo < hi {
-        let mid = lo + (hi - lo) / 2;
-        if xs[mid] < x {
-            lo = mid + 1;
-        } else {
-            hi = mid;
-        }
-    }
-    lo
+    xs.partition_point(|&y| y < x)
 }
 
 // The row of the turf with this id.
-pub fn find(ids: &[u32], id: u32) -> Spot
+pub fn find(ids: &[u32], id: u32) -> Option<usize>
     requires { ascending ids.now ≡ true }
     ensures { (b : Board) → b.ids ≡ ids.now → result ≡ row_of b id }
 {
     let row = lower_bound(ids, id);
-    if row == ids.len() {
-        return Spot::Nowhere;
+    if row < ids.len() && ids[row] == id {
+        Some(row)
+    } else {
+        None
     }
-    if ids[row] != id {
-        return Spot::Nowhere;
-    }
-    Spot::At(row)
 }
 
 // Where a turf's links start and end: its neighbours are `&neighbours[from..to]`.
@@ -116,6 +93,7 @@ pub fn links_of(starts: &[u32], row: usize) -> Links
 }
 
 // Whether the turf's mixture is immutable.
+#[tactic(auto, unfolding(rules_board::specs::Board::immutable))]
 pub fn is_immutable(mixtures: &[u32], immutable: &[u8], row: usize) -> bool
     requires { (row < length mixtures.now) × (get_or mixtures.now row 0 < length immutable.now) }
     ensures { (b : Board) → b.mixtures ≡ mixtures.now → b.immutable ≡ immutable.now → result ≡ tables.immutable b row }

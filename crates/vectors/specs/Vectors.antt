@@ -1,7 +1,9 @@
 -- How a stored vector stands in a list of numbers: oracle/boards/src/vectors.rs writes it.
-use Rattle.std.specs.Prelude.{◌&&◌, List, [], ◌≡◌, ℕ, ◌+◌, ◌-◌, min, eqb, leb, length, get_or, take, drop, if◌then◌else◌}
-use Rattle.turfs.specs.Tables.{Slices, table}
+use Rattle.std.specs.Prelude.{Option, Some, None, ◌&&◌, List, [], ◌≡◌, ℕ, ◌+◌, ◌-◌, min, eqb, leb, length, get_or, take, drop, if◌then◌else◌}
+use Rattle.turfs.specs.declared.LentTables.{LentTables}
 use Rattle.basics.specs.Loops.{times}
+use Rattle.vectors.specs.declared.Call.{Call}
+use Rattle.vectors.specs.declared.Call.TheVariants.{Equalize, Depressurize, PlanetWalk}
 use Rattle.vectors.specs.declared.Span.{Span}
 use Rattle.vectors.specs.declared.Asked.{Asked}
 use Rattle.vectors.specs.declared.Walk.{Walk}
@@ -15,13 +17,20 @@ onward at by = min (at + by) 0xffff_ffff_ffff_ffff
 abbrev pub number : List ℕ → ℕ → ℕ
 number ns at = get_or ns at 0
 
+-- the call that a vector makes, by its first number
+abbrev pub call_by : ℕ → Option Call
+call_by n = if eqb n 1 then Some Equalize else if eqb n 2 then Some Depressurize else if eqb n 3 then Some PlanetWalk else None
+
+unfoldable pub call_of : List ℕ → Option Call
+call_of ns = call_by (number ns 0)
+
 -- the list at a place: its length, then its elements
 abbrev pub span_at : List ℕ → ℕ → Span
 span_at ns at = record { from = onward at 1; to = onward (onward at 1) (number ns at) }
 
--- the elements of a list, none where it goes beyond the numbers
-unfoldable pub section : List ℕ → Span → List ℕ
-section ns s = if leb s.to (length ns) && leb s.from s.to then take (s.to - s.from) (drop s.from ns) else []
+-- the elements of a list, none where it goes beyond those that there are
+unfoldable pub section : {A : Type 0} → List A → Span → List A
+section xs s = if leb s.to (length xs) && leb s.from s.to then take (s.to - s.from) (drop s.from xs) else []
 
 -- where the table number k of a case stands: the first behind the call, each one behind the one before
 abbrev pub table_at : List ℕ → ℕ → ℕ
@@ -45,31 +54,25 @@ asked_at ns = onward (gas_of ns).to 3
 unfoldable pub fitted : ℕ → ℕ → ℕ
 fitted n most = if leb n most then n else 0
 
--- where the vector behind one at a place begins, which takes so many numbers: nowhere, if it takes none
-unfoldable pub behind : ℕ → ℕ → ℕ
-behind at count = if eqb count 0 then 0xffff_ffff_ffff_ffff else onward at count
-
--- its tables
-pub record RowsOf (ns : List ℕ) (rows : Slices) : Type 0 where
-  pub ids : table rows 0 ≡ section ns (table_span ns 0)
-  pub mixtures : table rows 1 ≡ section ns (table_span ns 3)
-  pub starts : table rows 2 ≡ section ns (table_span ns 4)
-  pub neighbours : table rows 3 ≡ section ns (table_span ns 5)
-
-pub record MarksOf (ns : List ℕ) (bytes : List ℕ) (marks : Slices) : Type 0 where
-  pub flags : table marks 0 ≡ section bytes (table_span ns 1)
-  pub planetary : table marks 1 ≡ section bytes (table_span ns 2)
-  pub link_flags : table marks 2 ≡ section bytes (table_span ns 6)
-  pub immutable : table marks 3 ≡ section bytes (table_span ns 7)
+-- its tables: those of numbers as they stand, those of bytes in the numbers as bytes
+pub record TablesOf (ns : List ℕ) (bytes : List ℕ) (t : LentTables) : Type 0 where
+  pub ids : t.ids.now ≡ section ns (table_span ns 0)
+  pub flags : t.flags.now ≡ section bytes (table_span ns 1)
+  pub planetary : t.planetary.now ≡ section bytes (table_span ns 2)
+  pub mixtures : t.mixtures.now ≡ section ns (table_span ns 3)
+  pub starts : t.starts.now ≡ section ns (table_span ns 4)
+  pub neighbours : t.neighbours.now ≡ section ns (table_span ns 5)
+  pub link_flags : t.link_flags.now ≡ section bytes (table_span ns 6)
+  pub immutable : t.immutable.now ≡ section bytes (table_span ns 7)
 
 -- what equalize is asked
 pub record CaseAsks (ns : List ℕ) (a : Asked) : Type 0 where
   pub gases : a.gases ≡ gases_of ns
   pub hot : a.hot ≡ span_at ns (asked_at ns)
   pub turns : a.turns ≡ span_at ns a.hot.to
-  pub threshold : a.threshold ≡ amount (number ns a.turns.to)
-  pub limit : a.limit ≡ number ns (onward a.turns.to 1)
-  pub allowance : a.allowance ≡ number ns (onward a.turns.to 2)
+  pub threshold : a.settings.threshold ≡ amount (number ns a.turns.to)
+  pub limit : a.settings.limit ≡ number ns (onward a.turns.to 1)
+  pub allowance : a.settings.allowance ≡ number ns (onward a.turns.to 2)
   pub due : a.due ≡ onward a.turns.to 3
 
 -- what a walk is

@@ -4,16 +4,24 @@
 // A place in a vector only grows, and one beyond the numbers stays beyond: one test of the last place shows that nothing is missing.
 #![tactic(auto)]
 
-ghost use Rattle.std.specs.Prelude.{◌≡◌, ◌-◌, ◌%◌, ◌≤◌, ◌<◌};
-ghost use Rattle.std.specs.Float.{nan};
-ghost use Rattle.vectors.specs.Vectors.{onward, number, section, span_at, table_at, table_span, gases_of, gas_of, asked_at, fitted, behind, CaseAsks, Walks, RowsOf, MarksOf};
+ghost use Rattle.std.specs.Prelude.{◌≡◌, ◌-◌, ℕ, ◌≤◌, ◌<◌, length, slice_index_or};
+ghost use Rattle.vectors.specs.Vectors.{onward, number, section, span_at, table_at, table_span, gases_of, gas_of, asked_at, fitted, call_of, CaseAsks, Walks, TablesOf};
 ghost use Rattle.vectors.specs.Amounts.{nan_pattern, amount};
-ghost use Rattle.vectors.specs.Cells.{word_before, float_before, event_before, Follows, CaseFilled};
+ghost use Rattle.vectors.specs.Cells.{word_before, float_before, event_before, CaseFilled};
 
-use turfs::{Marks, Rows};
+use rules_fill::Settings;
+use turfs::LentTables;
 
 // How many tables a case begins with: ids, flags, planetary, mixtures, starts, neighbours, link flags, immutable.
 const TABLES: usize = 8;
+
+// The calls that a vector can make.
+#[derive(Clone, Copy)]
+pub enum Call {
+    Equalize,
+    Depressurize,
+    PlanetWalk,
+}
 
 // A list's elements: the first one, and the place behind the last.
 #[derive(Clone, Copy)]
@@ -28,9 +36,7 @@ pub struct Asked {
     pub gases: u32,
     pub hot: Span,
     pub turns: Span,
-    pub threshold: f32,
-    pub limit: u32,
-    pub allowance: u32,
+    pub settings: Settings,
     pub due: usize,
 }
 
@@ -44,23 +50,31 @@ pub struct Walk {
 }
 
 // A place so much further on; the last one of all where there is none.
+#[tactic(auto, unfolding(crate::specs::Vectors::onward))]
 pub fn further(at: usize, by: usize) -> usize
     ensures { (result ≡ onward at by) × (at ≤ result) }
 {
-    if 0xffff_ffff_ffff_ffff - at < by {
-        return 0xffff_ffff_ffff_ffff;
-    }
-    at + by
+    at.saturating_add(by)
 }
 
 // The number that stands at a place; 0 where there is none.
 pub fn number_at(numbers: &[u32], at: usize) -> u32
     ensures { result ≡ number numbers.now at }
 {
-    if at < numbers.len() {
-        return numbers[at];
+    numbers.get(at).copied().unwrap_or(0)
+}
+
+// The call that a vector makes, by its first number; none where that is no call's.
+#[tactic(auto, unfolding(crate::specs::Vectors::call_of))]
+pub fn call_of(numbers: &[u32]) -> Option<Call>
+    ensures { result ≡ call_of numbers.now }
+{
+    match number_at(numbers, 0) {
+        1 => Some(Call::Equalize),
+        2 => Some(Call::Depressurize),
+        3 => Some(Call::PlanetWalk),
+        _ => None,
     }
-    0
 }
 
 // The list that stands at a place: its length, then its elements.
@@ -72,26 +86,13 @@ pub fn span_at(numbers: &[u32], at: usize) -> Span
     Span { from, to }
 }
 
-// Where the vector behind one at a place begins; a vector takes some room.
-pub fn past(at: usize, count: usize) -> usize
-    requires { at < 0xffff_ffff_ffff_ffff }
-    ensures { (result ≡ behind at count) × (at < result) }
-{
-    if count == 0 {
-        return 0xffff_ffff_ffff_ffff;
-    }
-    further(at, count)
-}
-
 // Where the table number k of a case stands: the first behind the call, each one behind the one before.
 fn table_at(numbers: &[u32], k: usize) -> usize
     ensures { result ≡ table_at numbers.now k }
 {
     let mut at = 1;
-    let mut i = 0;
-    while i < k {
+    for _i in 0..k {
         at = span_at(numbers, at).to;
-        i += 1;
     }
     at
 }
@@ -118,13 +119,11 @@ fn asked_at(numbers: &[u32]) -> usize
 }
 
 // So many, or none where an array has room for fewer. No stored vector has more: whoever writes them sees to it.
+#[tactic(auto, unfolding(crate::specs::Vectors::fitted))]
 fn fitting(n: usize, most: usize) -> usize
     ensures { (result ≡ fitted n most) × (result ≤ most) }
 {
-    if most < n {
-        return 0;
-    }
-    n
+    if n <= most { n } else { 0 }
 }
 
 // How much gas a case lends, if there is room for it.
@@ -153,9 +152,11 @@ pub fn asked_of(numbers: &[u32]) -> Asked
         gases: gases_of(numbers),
         hot,
         turns,
-        threshold: amount_of(number_at(numbers, turns.to)),
-        limit: number_at(numbers, further(turns.to, 1)),
-        allowance: number_at(numbers, further(turns.to, 2)),
+        settings: Settings {
+            threshold: amount_of(number_at(numbers, turns.to)),
+            limit: number_at(numbers, further(turns.to, 1)),
+            allowance: number_at(numbers, further(turns.to, 2)),
+        },
         due: further(turns.to, 3),
     }
 }
@@ -173,70 +174,34 @@ pub fn walk_of(numbers: &[u32]) -> Walk
     }
 }
 
-// The elements of a list; none where it goes beyond the numbers.
-pub fn part(numbers: &[u32], s: Span) -> &[u32]
-    ensures { result.now ≡ section numbers.now s }
+// The elements of a list; none where it goes beyond those that there are.
+pub fn part<T>(xs: &[T], s: Span) -> &[T]
+    ensures { result.now ≡ section xs.now s }
 {
-    let from = s.from;
-    let to = s.to;
-    if numbers.len() < to {
-        return &numbers[..0];
+    xs.get(s.from..s.to).unwrap_or(&[])
+}
+
+// Where the table number k of a vector stands.
+fn table_span(numbers: &[u32], k: usize) -> Span
+    ensures { result ≡ table_span numbers.now k }
+{
+    span_at(numbers, table_at(numbers, k))
+}
+
+// The tables of a vector, whose numbers are here as bytes too.
+pub fn tables_of<'a>(numbers: &'a [u32], bytes: &'a [u8]) -> LentTables<'a>
+    ensures { TablesOf numbers.now bytes.now result }
+{
+    LentTables {
+        ids: part(numbers, table_span(numbers, 0)),
+        flags: part(bytes, table_span(numbers, 1)),
+        planetary: part(bytes, table_span(numbers, 2)),
+        mixtures: part(numbers, table_span(numbers, 3)),
+        starts: part(numbers, table_span(numbers, 4)),
+        neighbours: part(numbers, table_span(numbers, 5)),
+        link_flags: part(bytes, table_span(numbers, 6)),
+        immutable: part(bytes, table_span(numbers, 7)),
     }
-    if to < from {
-        return &numbers[..0];
-    }
-    &numbers[from..to]
-}
-
-// The elements of a list of bytes; none where it goes beyond them.
-fn byte_part(bytes: &[u8], s: Span) -> &[u8]
-    ensures { result.now ≡ section bytes.now s }
-{
-    let from = s.from;
-    let to = s.to;
-    if bytes.len() < to {
-        return &bytes[..0];
-    }
-    if to < from {
-        return &bytes[..0];
-    }
-    &bytes[from..to]
-}
-
-// The table number k of a vector.
-fn table(numbers: &[u32], k: usize) -> &[u32]
-    ensures { result.now ≡ section numbers.now (table_span numbers.now k) }
-{
-    part(numbers, span_at(numbers, table_at(numbers, k)))
-}
-
-// The same as bytes.
-fn byte_table<'a>(numbers: &[u32], bytes: &'a [u8], k: usize) -> &'a [u8]
-    ensures { result.now ≡ section bytes.now (table_span numbers.now k) }
-{
-    byte_part(bytes, span_at(numbers, table_at(numbers, k)))
-}
-
-// The tables of numbers in a vector.
-pub fn rows_of<'a>(numbers: &'a [u32]) -> Rows<'a>
-    ensures { RowsOf numbers.now result }
-{
-    let ids = table(numbers, 0);
-    let mixtures = table(numbers, 3);
-    let starts = table(numbers, 4);
-    let neighbours = table(numbers, 5);
-    [ids, mixtures, starts, neighbours]
-}
-
-// The tables of bytes in a vector, whose numbers are here as bytes too.
-pub fn marks_of<'a>(numbers: &[u32], bytes: &'a [u8]) -> Marks<'a>
-    ensures { MarksOf numbers.now bytes.now result }
-{
-    let flags = byte_table(numbers, bytes, 1);
-    let planetary = byte_table(numbers, bytes, 2);
-    let link_flags = byte_table(numbers, bytes, 6);
-    let immutable = byte_table(numbers, bytes, 7);
-    [flags, planetary, link_flags, immutable]
 }
 
 // Whether these are the bits of a NaN.
@@ -251,30 +216,9 @@ pub fn amount_of(bits: u32) -> f32
     ensures { result ≡ amount bits }
 {
     if nan_bits(bits) {
-        return 0.0 / 0.0;
-    }
-    f32::from_bits(bits)
-}
-
-// Makes bytes of numbers.
-fn put_bytes(numbers: &[u32], bytes: &mut [u8])
-    ensures { Follows bytes.new 0 (λ i. number numbers.now i % 256) }
-{
-    let mut i = 0;
-    while i < bytes.len() {
-        bytes[i] = (number_at(numbers, i) % 256) as u8;
-        i += 1;
-    }
-}
-
-// Makes amounts of numbers.
-fn put_amounts(numbers: &[u32], gas: &mut [f32])
-    ensures { Follows gas.new nan (λ i. amount (number numbers.now i)) }
-{
-    let mut i = 0;
-    while i < gas.len() {
-        gas[i] = amount_of(number_at(numbers, i));
-        i += 1;
+        f32::NAN
+    } else {
+        f32::from_bits(bits)
     }
 }
 
@@ -299,36 +243,13 @@ pub fn event_before(i: usize) -> u8
     ((i % 256 * 31 + 7) % 256) as u8
 }
 
-// Fills the scratch words.
-fn lend_words(words: &mut [u32])
-    ensures { Follows words.new 0 word_before }
+// Fills each cell by its place.
+fn fill_by<T: Copy, F: Fn(usize) -> T>(cells: &mut [T], rule: F)
+    requires { F.IsAlwaysCallable rule }
+    ensures { (i : ℕ) (d : T) → i < length cells.new → F.post rule i (slice_index_or cells.new i d) }
 {
-    let mut i = 0;
-    while i < words.len() {
-        words[i] = word_before(i);
-        i += 1;
-    }
-}
-
-// Fills the scratch floats.
-fn lend_floats(floats: &mut [f32])
-    ensures { Follows floats.new nan (λ i. amount (float_before i)) }
-{
-    let mut i = 0;
-    while i < floats.len() {
-        floats[i] = amount_of(float_before(i));
-        i += 1;
-    }
-}
-
-// Fills the event area.
-fn lend_events(events: &mut [u8])
-    ensures { Follows events.new 0 event_before }
-{
-    let mut i = 0;
-    while i < events.len() {
-        events[i] = event_before(i);
-        i += 1;
+    for i in 0..cells.len() {
+        cells[i] = rule(i);
     }
 }
 
@@ -343,9 +264,10 @@ pub fn fill(
 )
     ensures { CaseFilled numbers.now bytes.new gas.new words.new floats.new events.new }
 {
-    put_bytes(numbers, bytes);
-    put_amounts(part(numbers, gas_of(numbers)), gas);
-    lend_words(words);
-    lend_floats(floats);
-    lend_events(events);
+    let amounts = part(numbers, gas_of(numbers));
+    fill_by(bytes, |i| (number_at(numbers, i) % 256) as u8);
+    fill_by(gas, |i| amount_of(number_at(amounts, i)));
+    fill_by(words, word_before);
+    fill_by(floats, |i| amount_of(float_before(i)));
+    fill_by(events, event_before);
 }

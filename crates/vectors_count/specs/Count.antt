@@ -1,22 +1,67 @@
--- Counting, by 64 bits, each count at its place of a list: the numbers that calls answered at 0 to 31, then the vectors, those that differ and the first of these.
-use Rattle.std.specs.Prelude.{ℕ, ◌+◌, ◌*◌, ◌%◌, ◌^◌, Bool, List, ◌==◌, slice_index, slice_set, if◌then◌else◌}
+-- Counting, by 64 bits: the numbers that calls answered, the vectors, those that differ and the first of these, and what was made wrong.
+use Rattle.std.specs.Prelude.{ℕ, ◌+◌, ◌%◌, ◌^◌, Bool, List, Some, slice_index, slice_set, if◌then◌else◌}
+use Rattle.std.specs.Option.{option_or}
+use Rattle.vectors.specs.declared.Call.{Call}
+use Rattle.vectors.specs.declared.Call.TheVariants.{Equalize, Depressurize, PlanetWalk}
+use Rattle.vectors_count.specs.declared.Tried.{Tried}
+use Rattle.vectors_count.specs.declared.Counts.{Counts}
 
--- one more at a place
-abbrev pub counting : List ℕ → ℕ → List ℕ
-counting cs k = slice_set cs k ((slice_index cs k + 1) % 2 ^ 64)
+-- one more
+abbrev pub counting : ℕ → ℕ
+counting n = (n + 1) % 2 ^ 64
 
 -- one more was tried, and perhaps found
-abbrev pub trying : List ℕ → ℕ → Bool → List ℕ
-trying cs k found = if found then counting (counting cs k) (k + 1) else counting cs k
-
--- one more differs, the last vector that was counted
-abbrev pub differing : List ℕ → List ℕ
-differing cs = if slice_index cs 33 == 0 then counting (slice_set cs 34 (slice_index cs 32)) 33 else counting cs 33
+abbrev pub trying : Tried → Bool → Tried
+trying t found = record { all = counting t.all; found = if found then counting t.found else t.found }
 
 -- one more vector, which may differ
-abbrev pub one_vector : List ℕ → Bool → List ℕ
-one_vector cs met = let seen = counting cs 32 in if met then seen else differing seen
+abbrev pub one_vector : Counts → Bool → Counts
+one_vector cs met =
+    let n = counting cs.vectors in
+    record {
+      equalize = cs.equalize;
+      depressurize = cs.depressurize;
+      planet_walk = cs.planet_walk;
+      vectors = n;
+      differ = if met then cs.differ else counting cs.differ;
+      first = if met then cs.first else option_or cs.first (Some n);
+      changed = cs.changed;
+      torn = cs.torn;
+    }
+
+-- one more of a number that a call answered
+abbrev pub answered : List ℕ → ℕ → List ℕ
+answered ns number = slice_set ns (number % 8) (counting (slice_index ns (number % 8)))
 
 -- one more of a call and the number that it answered
-abbrev pub tallied : List ℕ → ℕ → ℕ → List ℕ
-tallied cs call number = counting cs (call % 4 * 8 + number % 8)
+abbrev pub tallied : Counts → Call → ℕ → Counts
+tallied cs Equalize number = record {
+  equalize = answered cs.equalize number;
+  depressurize = cs.depressurize;
+  planet_walk = cs.planet_walk;
+  vectors = cs.vectors;
+  differ = cs.differ;
+  first = cs.first;
+  changed = cs.changed;
+  torn = cs.torn;
+}
+tallied cs Depressurize number = record {
+  equalize = cs.equalize;
+  depressurize = answered cs.depressurize number;
+  planet_walk = cs.planet_walk;
+  vectors = cs.vectors;
+  differ = cs.differ;
+  first = cs.first;
+  changed = cs.changed;
+  torn = cs.torn;
+}
+tallied cs PlanetWalk number = record {
+  equalize = cs.equalize;
+  depressurize = cs.depressurize;
+  planet_walk = answered cs.planet_walk number;
+  vectors = cs.vectors;
+  differ = cs.differ;
+  first = cs.first;
+  changed = cs.changed;
+  torn = cs.torn;
+}

@@ -1,59 +1,71 @@
-// What came of vectors, and of vectors changed and torn: an array of counts, each at its place.
+// What came of vectors, and of vectors changed and torn.
 #![tactic(auto)]
 
-ghost use Rattle.std.specs.Prelude.{◌≡◌, ◌+◌, ◌<◌};
-ghost use Rattle.vectors_count.specs.Count.{counting, trying, one_vector, tallied};
+ghost use Rattle.std.specs.Prelude.{◌≡◌};
+ghost use Rattle.vectors_count.specs.Count.{trying, one_vector, tallied, answered};
 
-// Places 0 to 31 are the numbers that calls answered, eight a call. Then: the vectors, those that differ, and the first of these.
-const VECTORS: usize = 32;
+use vectors::Call;
 
-const DIFFER: usize = 33;
-
-const FIRST: usize = 34;
-
-// Digits changed, and how many of these changes were found; vectors torn, and how many of these were found.
-pub const CHANGED: usize = 35;
-
-pub const TORN: usize = 37;
-
-// One more at a place.
-pub fn count(counts: &mut [u64; 40], k: usize)
-    requires { k < 40 }
-    ensures { counts.new ≡ counting counts.old k }
-{
-    counts[k] = std::num::wrapping_add_u64(counts[k], 1);
+// How many vectors were made wrong in one way, and how many of these were found.
+#[derive(Clone, Copy, Default)]
+pub struct Tried {
+    pub all: u64,
+    pub found: u64,
 }
 
-// One more was tried, which is counted at a place, and may have been found, which is counted behind it.
-pub fn count_tried(counts: &mut [u64; 40], k: usize, found: bool)
-    requires { k + 1 < 40 }
-    ensures { counts.new ≡ trying counts.old k found }
-{
-    count(counts, k);
-    if found {
-        count(counts, k + 1);
+impl Tried {
+    // One more was tried, which may have been found.
+    pub fn add(&mut self, found: bool)
+        ensures { self.new ≡ trying self.old found }
+    {
+        self.all = self.all.wrapping_add(1);
+        if found {
+            self.found = self.found.wrapping_add(1);
+        }
     }
 }
 
-// One more vector, which may differ; the first that does is noted.
-pub fn count_vector(counts: &mut [u64; 40], met: bool)
-    ensures { counts.new ≡ one_vector counts.old met }
-{
-    count(counts, VECTORS);
-    if met {
-        return;
-    }
-    if counts[DIFFER] == 0 {
-        counts[FIRST] = counts[VECTORS];
-        count(counts, DIFFER);
-        return;
-    }
-    count(counts, DIFFER);
+// The numbers that each call answered; the vectors, those that differ and the first of these; and those with a digit changed, and torn.
+#[derive(Clone, Copy, Default)]
+pub struct Counts {
+    pub equalize: [u64; 8],
+    pub depressurize: [u64; 8],
+    pub planet_walk: [u64; 8],
+    pub vectors: u64,
+    pub differ: u64,
+    pub first: Option<u64>,
+    pub changed: Tried,
+    pub torn: Tried,
 }
 
-// A call with the number that it answered.
-pub fn tally(counts: &mut [u64; 40], call: u32, number: u32)
-    ensures { counts.new ≡ tallied counts.old call number }
+// One more of a number that a call answered.
+fn count(numbers: &mut [u64; 8], number: u32)
+    ensures { numbers.new ≡ answered numbers.old number }
 {
-    count(counts, (call % 4 * 8 + number % 8) as usize);
+    let k = (number % 8) as usize;
+    numbers[k] = numbers[k].wrapping_add(1);
+}
+
+impl Counts {
+    // One more vector, which may differ; the first that does is noted.
+    pub fn add(&mut self, met: bool)
+        ensures { self.new ≡ one_vector self.old met }
+    {
+        self.vectors = self.vectors.wrapping_add(1);
+        if !met {
+            self.differ = self.differ.wrapping_add(1);
+            self.first = self.first.or(Some(self.vectors));
+        }
+    }
+
+    // A call with the number that it answered.
+    pub fn tally(&mut self, call: Call, number: u32)
+        ensures { self.new ≡ tallied self.old call number }
+    {
+        match call {
+            Call::Equalize => count(&mut self.equalize, number),
+            Call::Depressurize => count(&mut self.depressurize, number),
+            Call::PlanetWalk => count(&mut self.planet_walk, number),
+        }
+    }
 }

@@ -1,11 +1,10 @@
 -- Whether the lent cells hold after a call what a vector expects.
-use Rattle.std.specs.Prelude.{List, [], ◌∷◌, ◌≡◌, Bool, false, ◌&&◌, ℕ, ◌≤◌, eqb, leb, ltb, length, get_or, Float, if◌then◌else◌}
+use Rattle.std.specs.Prelude.{List, ◌≡◌, Bool, ◌&&◌, Option, None, option_map, ℕ, ◌≤◌, eqb, leb, ltb, length, get_or, Float, if◌then◌else◌}
 use Rattle.std.specs.Float.{nan}
 use Rattle.basics.specs.Loops.{every, up_from}
-use Rattle.vectors.specs.Vectors.{onward, number, section, span_at}
+use Rattle.vectors.specs.Vectors.{onward, number, section, span_at, call_of}
 use Rattle.vectors.specs.Amounts.{same_bits}
 use Rattle.vectors.specs.Cells.{word_before, float_before, event_before}
-use Rattle.vectors_same.specs.declared.Answer.{Answer}
 use Rattle.vectors_same.specs.declared.Due.{Due}
 use Rattle.vectors_same.specs.declared.Vector.{Vector}
 
@@ -63,10 +62,6 @@ float_met zeros floats i = same_bits (get_or floats i nan) (cells_after zeros i 
 unfoldable pub same_floats : ℕ → List Float → Bool
 same_floats zeros floats = below (length floats) (float_met zeros floats) && leb zeros (length floats)
 
--- a vector that isn't whole
-abbrev pub torn_vector : Vector
-torn_vector = record { call = 0; number = 0; expected = 0; met = false; next = 0xffff_ffff_ffff_ffff }
-
 -- the answer, the gas and the events are what is expected
 unfoldable pub same_results : Due → List ℕ → List ℕ → List Float → List ℕ → Bool
 same_results d ns answer gas events =
@@ -77,24 +72,18 @@ unfoldable pub met : List ℕ → List ℕ → List Float → List ℕ → List 
 met ns answer gas words floats events d =
     same_words d.words words && (same_floats d.floats floats && same_results d ns answer gas events)
 
--- the numbers of an answer
-abbrev pub numbers_of : Answer → List ℕ
-numbers_of a = section (a.number ∷ a.second ∷ a.third ∷ a.fourth ∷ a.fifth ∷ a.sixth ∷ a.seventh ∷ []) (record { from = 0; to = a.count })
-
--- an answer of no call
-abbrev pub no_answer : Answer
-no_answer = record { count = 0; number = 0; second = 0; third = 0; fourth = 0; fifth = 0; sixth = 0; seventh = 0; due = 0xffff_ffff_ffff_ffff }
-
--- what comes of a call that answered and left these
+-- what comes of a call that answered and left these, held to what is expected from a place on: nothing where the vector isn't whole, or makes no call
 module _ (ns : List ℕ) (gas : List Float) (words : List ℕ) (floats : List Float) (events : List ℕ) where
-  pub record CellsHeld (a : Answer) (r : Vector) : Type 0 where
+  pub record CellsHeld (answer : List ℕ) (at : ℕ) (r : Option Vector) : Type 0 where
     pub due : Due
-    pub stands : Expects ns a.due due
-    pub says : r ≡ (if ltb (length ns) due.next then torn_vector
-        else record {
-          call = number ns 0;
-          number = a.number;
-          expected = a.due;
-          met = met ns (numbers_of a) gas words floats events due;
+    pub stands : Expects ns at due
+    pub says : r ≡ (if ltb (length ns) due.next then None
+        else option_map
+        (λ call. record {
+          call = call;
+          number = number answer 0;
+          expected = at;
+          met = met ns answer gas words floats events due;
           next = due.next;
         })
+        (call_of ns))

@@ -1,5 +1,5 @@
 -- One turf of the way back: its air, its amounts, its events and its rip, each in an area of its own. Assumes nothing.
-use Prim.Native.Nat.{ℕ, ◌+◌, ◌-◌, ◌≤◌, ◌<◌}
+use Prim.Native.Nat.{ℕ, ◌+◌, ◌≤◌, ◌<◌}
 use native.Mathlib.Omega.{arith}
 use native.Mathlib.Numerals.{add-one}
 use mathlib.Core.Path.{◌≡◌, refl, ap, ap₂, ◌∙◌, sym, subst}
@@ -31,7 +31,6 @@ use Rattle.walk_back.specs.Backed.{not_negative, BackState, back_state_at, rips_
 use Rattle.walk_back.specs.declared.Way.{Way}
 use Rattle.walk_back.specs.declared.Sums.{Sums}
 use Rattle.walk_back.proofs.Signs.{add-clear, clear-number, every-at, every_set, every-snoc, total-clear, cleared-clear}
-use Rattle.rules_back.specs.Worked as worked  -- checked before the laws
 
 -- ---- rips
 

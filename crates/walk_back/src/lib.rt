@@ -14,7 +14,8 @@ ghost use Rattle.rules_back.specs.Back.{back_to, back};
 ghost use Rattle.walk_back.specs.Backed.{back_state_at, back_areas, backing, BackGoes, Points, directions, Settles, Settled, back_next, rips_of, Rips, rip_at, Ripping, BackStarts, Backed};
 
 use rules_events::Event;
-use turfs::{IDS, IMMUTABLE, MIXTURES, Marks, Rows};
+use scratch::WalkLayout;
+use turfs::LentTables;
 
 // How far the way back has come: turfs of the order that are left, turfs that the floor rips off, event bytes written.
 #[derive(Clone, Copy)]
@@ -44,17 +45,16 @@ struct Leg {
 fn settle(
     row: usize,
     d: usize,
-    rows: &Rows,
-    marks: &Marks,
+    tables: &LentTables,
     gases: usize,
     gas: &mut [f32],
     floats: &mut [f32],
 ) -> Sums
-    requires { let b = board_at rows marks gases in Settles b row d gas.old floats.old }
-    ensures { let b = board_at rows.entry marks.entry gases in Settled b row d result gas.old gas.new floats.old floats.new }
+    requires { let b = board_at tables gases in Settles b row d gas.old floats.old }
+    ensures { let b = board_at tables.entry gases in Settled b row d result gas.old gas.new floats.old floats.new }
 {
-    let mixtures = rows[MIXTURES];
-    mixture_moves::clear_air(marks[IMMUTABLE], gases, gas, mixtures[row] as usize);
+    let mixtures = tables.mixtures;
+    mixture_moves::clear_air(tables.immutable, gases, gas, mixtures[row] as usize);
     let sum = mixture::total(mixtures, gases, gas, d);
     let mine = floats[row] + sum;
     floats[row] = mine;
@@ -67,27 +67,26 @@ fn settle(
 fn back_to(
     leg: Leg,
     s: Way,
-    rows: &Rows,
-    marks: &Marks,
+    tables: &LentTables,
     gases: usize,
     gas: &mut [f32],
     words: &mut [u32],
     floats: &mut [f32],
     events: &mut [u8],
 ) -> Way
-    requires { let b = board_at rows marks gases in Points b leg.row leg.next (back_state_at s gas.old words.old floats.old events.old) }
-    ensures fact { let b = board_at rows.entry marks.entry gases in
+    requires { let b = board_at tables gases in Points b leg.row leg.next (back_state_at s gas.old words.old floats.old events.old) }
+    ensures fact { let b = board_at tables.entry gases in
         WalkDoes (backing b) (back_to b leg.arrows (directions (turf_count b) words.old) leg.row leg.next)
         (back_state_at s gas.old words.old floats.old events.old)
         (back_state_at result gas.new words.new floats.new events.new) }
     ensures left_value { result.left ≡ s.left }
 {
-    let ids = rows[IDS];
-    let n = ids.len();
+    let ids = tables.ids;
+    let layout = WalkLayout { turfs: ids.len() };
     let r = leg.row as usize;
     let d = leg.next;
-    let sums = settle(r, d, rows, marks, gases, gas, floats);
-    let last = words[scratch::ways_at(n) + d] == 0;
+    let sums = settle(r, d, tables, gases, gas, floats);
+    let last = words[layout.ways_at() + d] == 0;
     let used = walk_steps::tell(
         leg.arrows,
         ids[r],
@@ -100,11 +99,11 @@ fn back_to(
     );
     let k = s.rips;
     words[k] = leg.row;
-    floats[scratch::sums_at(n) + k] = sums.sum;
+    floats[layout.sums_at() + k] = sums.sum;
     Way {
-        left: s.left,
         rips: k + 1,
         used,
+        ..s
     }
 }
 
@@ -112,34 +111,29 @@ fn back_to(
 fn back(
     arrows: u32,
     s: Way,
-    rows: &Rows,
-    marks: &Marks,
+    tables: &LentTables,
     gases: usize,
     gas: &mut [f32],
     words: &mut [u32],
     floats: &mut [f32],
     events: &mut [u8],
 ) -> Way
-    requires fact { let b = board_at rows marks gases in BackGoes b (back_state_at s gas.old words.old floats.old events.old) }
+    requires fact { let b = board_at tables gases in BackGoes b (back_state_at s gas.old words.old floats.old events.old) }
     requires left_nonzero { 0 < s.left }
-    ensures fact_2 { let b = board_at rows.entry marks.entry gases in
+    ensures fact_2 { let b = board_at tables.entry gases in
         WalkDoes (backing b) (back_next b arrows s.left words.old)
         (back_state_at s gas.old words.old floats.old events.old)
         (back_state_at result gas.new words.new floats.new events.new) }
     ensures left_value { result.left + 1 ≡ s.left }
 {
-    let ids = rows[IDS];
-    let n = ids.len();
+    let ids = tables.ids;
+    let layout = WalkLayout { turfs: ids.len() };
     let left = s.left - 1;
-    let order = scratch::order_at(n);
-    let ways = scratch::ways_at(n);
+    let order = layout.order_at();
+    let ways = layout.ways_at();
     let row = words[order + left];
     let way = words[ways + row as usize];
-    let t = Way {
-        left,
-        rips: s.rips,
-        used: s.used,
-    };
+    let t = Way { left, ..s };
     if way == 0 {
         return t;
     }
@@ -149,23 +143,22 @@ fn back(
         next: d,
         arrows,
     };
-    back_to(leg, t, rows, marks, gases, gas, words, floats, events)
+    back_to(leg, t, tables, gases, gas, words, floats, events)
 }
 
 // The order from its end.
 fn back_all(
     arrows: u32,
     s: Way,
-    rows: &Rows,
-    marks: &Marks,
+    tables: &LentTables,
     gases: usize,
     gas: &mut [f32],
     words: &mut [u32],
     floats: &mut [f32],
     events: &mut [u8],
 ) -> Way
-    requires { let b = board_at rows marks gases in BackGoes b (back_state_at s gas.old words.old floats.old events.old) }
-    ensures fact { let b = board_at rows.entry marks.entry gases in
+    requires { let b = board_at tables gases in BackGoes b (back_state_at s gas.old words.old floats.old events.old) }
+    ensures fact { let b = board_at tables.entry gases in
         let w = words.old in
         let order = take s.left (region (out_sizes (turf_count b)) 2 w) in
         WalkDoes (backing b) (run (back b arrows (directions (turf_count b) w)) (reverse order))
@@ -174,8 +167,9 @@ fn back_all(
     ensures left_value { result.left ≡ 0 }
 {
     let mut t = s;
+    // A while: each turn itself takes one turf off what is left.
     while t.left > 0 {
-        t = back(arrows, t, rows, marks, gases, gas, words, floats, events);
+        t = back(arrows, t, tables, gases, gas, words, floats, events);
     }
     t
 }
@@ -192,10 +186,10 @@ fn rip(
     requires { Rips ids.now j used words.now floats.now events.old }
     ensures { Wrote (encode_all (rip_at ids.now j words.now floats.now ∷ [])) used result events.old events.new }
 {
-    let n = ids.len();
+    let layout = WalkLayout { turfs: ids.len() };
     let row = words[j] as usize;
     let id = ids[row];
-    let amount = floats[scratch::sums_at(n) + j];
+    let amount = floats[layout.sums_at() + j];
     events::append(events, used, Event::FloorRip { id, amount })
 }
 
@@ -214,10 +208,8 @@ fn rips(
         Wrote (encode_all es) used result events.old events.new }
 {
     let mut at = used;
-    let mut j = 0;
-    while j < count {
+    for j in 0..count {
         at = rip(j, at, ids, words, floats, events);
-        j += 1;
     }
     at
 }
@@ -227,27 +219,26 @@ pub fn way_back(
     arrows: u32,
     count: usize,
     used: usize,
-    rows: &Rows,
-    marks: &Marks,
+    tables: &LentTables,
     gases: usize,
     gas: &mut [f32],
     words: &mut [u32],
     floats: &mut [f32],
     events: &mut [u8],
 ) -> usize
-    requires { let b = board_at rows marks gases in BackStarts b count used (back_areas gas.old words.old floats.old events.old) }
-    ensures { let b = board_at rows.entry marks.entry gases in
+    requires { let b = board_at tables gases in BackStarts b count used (back_areas gas.old words.old floats.old events.old) }
+    ensures { let b = board_at tables.entry gases in
         Backed b arrows count used result
         (back_areas gas.old words.old floats.old events.old)
         (back_areas gas.new words.new floats.new events.new) }
 {
-    let ids = rows[IDS];
+    let ids = tables.ids;
     basics::clear_floats(floats, ids.len());
     let s = Way {
         left: count,
         rips: 0,
         used,
     };
-    let t = back_all(arrows, s, rows, marks, gases, gas, words, floats, events);
+    let t = back_all(arrows, s, tables, gases, gas, words, floats, events);
     rips(t.rips, t.used, ids, words, floats, events)
 }

@@ -13,7 +13,8 @@ ghost use Rattle.walk_links.specs.Reached.{walk_at, walking, WalkStands, Visits,
 
 use rules_events::Event;
 use rules_walk::Kind;
-use turfs::{IDS, IMMUTABLE, MIXTURES, Marks, PLANETARY, Rows};
+use scratch::WalkLayout;
+use turfs::LentTables;
 use walk_links::Reach;
 
 // Whether a planetary turf was met before or is met here.
@@ -21,10 +22,7 @@ fn met(planetary: &[u8], row: usize, before: bool) -> bool
     requires { row < length planetary.now }
     ensures { (b : Board) → b.planetary ≡ planetary.now → result ≡ (before || tables.planetary b row) }
 {
-    if before {
-        return true;
-    }
-    planetary[row] != 0
+    before || planetary[row] != 0
 }
 
 // The planet walk's visit.
@@ -32,39 +30,31 @@ fn visit_planet(
     limit: u32,
     row: usize,
     s: Reach,
-    rows: &Rows,
-    marks: &Marks,
+    tables: &LentTables,
     words: &mut [u32],
     events: &mut [u8],
 ) -> Reach
-    requires { let b = board_at rows marks 0 in WalkStands b row (walk_at s words.old events.old) }
-    ensures { let b = board_at rows.entry marks.entry 0 in WalkDoes (walking (turf_count b)) (visit_planet b limit row) (walk_at s words.old events.old) (walk_at result words.new events.new) }
+    requires { let b = board_at tables 0 in WalkStands b row (walk_at s words.old events.old) }
+    ensures { let b = board_at tables.entry 0 in WalkDoes (walking (turf_count b)) (visit_planet b limit row) (walk_at s words.old events.old) (walk_at result words.new events.new) }
 {
-    let planet = met(marks[PLANETARY], row, s.planet);
-    if turfs::is_immutable(rows[MIXTURES], marks[IMMUTABLE], row) {
+    let planet = met(tables.planetary, row, s.planet);
+    if turfs::is_immutable(tables.mixtures, tables.immutable, row) {
         return s.mark(planet, true);
     }
     let t = s.mark(planet, !planet);
-    walk_links::spread(limit, row, t, rows, marks, words, events)
+    walk_links::spread(limit, row, t, tables, words, events)
 }
 
 // A turf whose mixture is immutable joins the space list, and is its own target.
-fn at_space(
-    row: u32,
-    s: Reach,
-    rows: &Rows,
-    marks: &Marks,
-    words: &mut [u32],
-    events: &mut [u8],
-) -> Reach
-    requires fact { let b = board_at rows marks 0 in WalkStands b row (walk_at s words.old events.old) }
-    requires fact_2 { let b = board_at rows marks 0 in Visits Kind.Space b (walk_at s words.old events.old) }
-    ensures { let b = board_at rows.entry marks.entry 0 in WalkDoes (walking (turf_count b)) (at_space b row) (walk_at s words.old events.old) (walk_at result words.new events.new) }
+fn at_space(row: u32, s: Reach, tables: &LentTables, words: &mut [u32], events: &mut [u8]) -> Reach
+    requires fact { let b = board_at tables 0 in WalkStands b row (walk_at s words.old events.old) }
+    requires fact_2 { let b = board_at tables 0 in Visits Kind.Space b (walk_at s words.old events.old) }
+    ensures { let b = board_at tables.entry 0 in WalkDoes (walking (turf_count b)) (at_space b row) (walk_at s words.old events.old) (walk_at result words.new events.new) }
 {
-    let ids = rows[IDS];
-    let n = ids.len();
+    let ids = tables.ids;
+    let layout = WalkLayout { turfs: ids.len() };
     let id = ids[row as usize];
-    words[scratch::order_at(n) + s.spaces] = row;
+    words[layout.order_at() + s.spaces] = row;
     s.opened(events::append(events, s.used, Event::Target { id, target: id }))
 }
 
@@ -73,24 +63,23 @@ fn visit_space(
     limit: u32,
     row: u32,
     s: Reach,
-    rows: &Rows,
-    marks: &Marks,
+    tables: &LentTables,
     words: &mut [u32],
     events: &mut [u8],
 ) -> Reach
-    requires fact { let b = board_at rows marks 0 in WalkStands b row (walk_at s words.old events.old) }
-    requires fact_2 { let b = board_at rows marks 0 in Visits Kind.Space b (walk_at s words.old events.old) }
-    ensures { let b = board_at rows.entry marks.entry 0 in WalkDoes (walking (turf_count b)) (visit_space b limit row) (walk_at s words.old events.old) (walk_at result words.new events.new) }
+    requires fact { let b = board_at tables 0 in WalkStands b row (walk_at s words.old events.old) }
+    requires fact_2 { let b = board_at tables 0 in Visits Kind.Space b (walk_at s words.old events.old) }
+    ensures { let b = board_at tables.entry 0 in WalkDoes (walking (turf_count b)) (visit_space b limit row) (walk_at s words.old events.old) (walk_at result words.new events.new) }
 {
     let r = row as usize;
-    let planetary = marks[PLANETARY];
+    let planetary = tables.planetary;
     if planetary[r] != 0 {
         return s.mark(true, true);
     }
-    if turfs::is_immutable(rows[MIXTURES], marks[IMMUTABLE], r) {
-        return at_space(row, s, rows, marks, words, events);
+    if turfs::is_immutable(tables.mixtures, tables.immutable, r) {
+        return at_space(row, s, tables, words, events);
     }
-    walk_links::spread(limit, r, s, rows, marks, words, events)
+    walk_links::spread(limit, r, s, tables, words, events)
 }
 
 // The next turf of the queue.
@@ -98,21 +87,21 @@ fn walk_next(
     kind: Kind,
     limit: u32,
     s: Reach,
-    rows: &Rows,
-    marks: &Marks,
+    tables: &LentTables,
     words: &mut [u32],
     events: &mut [u8],
 ) -> Reach
-    requires fact { let b = board_at rows marks 0 in Queued kind b (walk_at s words.old events.old) }
+    requires fact { let b = board_at tables 0 in Queued kind b (walk_at s words.old events.old) }
     requires walked_lt_count { s.walked < s.count }
-    ensures { let b = board_at rows.entry marks.entry 0 in WalkDoes (walking (turf_count b)) (visit_next b kind limit) (walk_at s words.old events.old) (walk_at result words.new events.new) }
+    ensures { let b = board_at tables.entry 0 in WalkDoes (walking (turf_count b)) (visit_next b kind limit) (walk_at s words.old events.old) (walk_at result words.new events.new) }
 {
     let walked = s.walked;
     let row = words[walked];
     let t = s.counted();
+    // A match: a visit handed in as a closure would put its promise over six lent values into each clause of the walk.
     match kind {
-        Kind::Planet => visit_planet(limit, row as usize, t, rows, marks, words, events),
-        Kind::Space => visit_space(limit, row, t, rows, marks, words, events),
+        Kind::Planet => visit_planet(limit, row as usize, t, tables, words, events),
+        Kind::Space => visit_space(limit, row, t, tables, words, events),
     }
 }
 
@@ -121,18 +110,18 @@ fn walk_on(
     kind: Kind,
     limit: u32,
     s: Reach,
-    rows: &Rows,
-    marks: &Marks,
+    tables: &LentTables,
     words: &mut [u32],
     events: &mut [u8],
 ) -> Reach
-    requires fact { let b = board_at rows marks 0 in Queued kind b (walk_at s words.old events.old) }
+    requires fact { let b = board_at tables 0 in Queued kind b (walk_at s words.old events.old) }
     requires walked_value { s.walked ≡ 0 }
-    ensures { let b = board_at rows.entry marks.entry 0 in WalkDoes (walking (turf_count b)) (times (walk_next b (visit b kind limit)) (turf_count b)) (walk_at s words.old events.old) (walk_at result words.new events.new) }
+    ensures { let b = board_at tables.entry 0 in WalkDoes (walking (turf_count b)) (times (walk_next b (visit b kind limit)) (turf_count b)) (walk_at s words.old events.old) (walk_at result words.new events.new) }
 {
     let mut t = s;
+    // A while: the queue grows while it is worked through.
     while t.goes_on() {
-        t = walk_next(kind, limit, t, rows, marks, words, events);
+        t = walk_next(kind, limit, t, tables, words, events);
     }
     t
 }
@@ -142,16 +131,16 @@ pub fn walk(
     kind: Kind,
     limit: u32,
     row: usize,
-    rows: &Rows,
-    marks: &Marks,
+    tables: &LentTables,
     words: &mut [u32],
     events: &mut [u8],
 ) -> Reach
-    requires { let b = board_at rows marks 0 in WalkStarts kind b row words.old events.old }
-    ensures { let b = board_at rows.entry marks.entry 0 in Walked kind b limit row result words.old words.new events.old events.new }
+    requires { let b = board_at tables 0 in WalkStarts kind b row words.old events.old }
+    ensures { let b = board_at tables.entry 0 in Walked kind b limit row result words.old words.new events.old events.new }
 {
-    let ids = rows[IDS];
-    let spots = scratch::spots_at(ids.len());
+    let ids = tables.ids;
+    let layout = WalkLayout { turfs: ids.len() };
+    let spots = layout.spots_at();
     index_set::insert(row as u32, 0, 0, spots, words);
     let s = Reach {
         count: 1,
@@ -161,5 +150,5 @@ pub fn walk(
         ended: false,
         used: 0,
     };
-    walk_on(kind, limit, s, rows, marks, words, events)
+    walk_on(kind, limit, s, tables, words, events)
 }

@@ -1,4 +1,5 @@
-// The links of one turf in the walk that `planet_equalize` and `explosively_depressurize` share, and how far such a walk has come.
+// The links of one turf in the walk that `planet_equalize` and `explosively_depressurize` share, and how far such a walk has come. The words and the event
+// area stay parameters of their own, here and in the walks above: see the head of plan_state.
 #![tactic(auto)]
 
 ghost use Rattle.std.specs.Prelude.{◌≡◌, not, ◌&&◌, ◌+◌, ◌<◌, ltb};
@@ -10,9 +11,8 @@ ghost use Rattle.walk_links.specs.Does.{WalkDoes};
 ghost use Rattle.walk_links.specs.Reached.{walk_at, walking, WalkStands, Leads};
 
 use rules_events::Event;
-use turfs::{
-    AdjacentFlags, FLAGS, IDS, LINK_FLAGS, Marks, NEIGHBOURS, Rows, STARTS, SimulationFlags,
-};
+use scratch::WalkLayout;
+use turfs::{AdjacentFlags, LentTables, Links, SimulationFlags};
 
 // How far a walk has come: turfs in the queue, turfs visited, space turfs met, whether a planetary turf was met, whether the walk has ended, event bytes written.
 #[derive(Clone, Copy)]
@@ -28,60 +28,47 @@ pub struct Reach {
 impl Reach {
     // Whether a planetary turf was met, and whether the walk ends here.
     pub fn mark(self, planet: bool, ended: bool) -> Self
-        ensures { result ≡ record { count = self.count; walked = self.walked; spaces = self.spaces; planet = planet; ended = ended; used = self.used } }
+        ensures { result ≡ record self { planet = planet; ended = ended } }
     {
         Self {
-            count: self.count,
-            walked: self.walked,
-            spaces: self.spaces,
             planet,
             ended,
-            used: self.used,
+            ..self
         }
     }
 
     // One more turf in the queue, and so many event bytes written.
     fn joined(self, used: usize) -> Self
         requires { self.count < 4096 }
-        ensures { result ≡ record { count = self.count + 1; walked = self.walked; spaces = self.spaces; planet = self.planet; ended = self.ended; used = used } }
+        ensures { result ≡ record self { count = self.count + 1; used = used } }
     {
         Self {
             count: self.count + 1,
-            walked: self.walked,
-            spaces: self.spaces,
-            planet: self.planet,
-            ended: self.ended,
             used,
+            ..self
         }
     }
 
     // One more space turf, and so many event bytes written.
     pub fn opened(self, used: usize) -> Self
         requires { self.spaces < 4096 }
-        ensures { result ≡ record { count = self.count; walked = self.walked; spaces = self.spaces + 1; planet = self.planet; ended = self.ended; used = used } }
+        ensures { result ≡ record self { spaces = self.spaces + 1; used = used } }
     {
         Self {
-            count: self.count,
-            walked: self.walked,
             spaces: self.spaces + 1,
-            planet: self.planet,
-            ended: self.ended,
             used,
+            ..self
         }
     }
 
     // The next turf is visited.
     pub fn counted(self) -> Self
         requires { self.walked < 4096 }
-        ensures { result ≡ record { count = self.count; walked = self.walked + 1; spaces = self.spaces; planet = self.planet; ended = self.ended; used = self.used } }
+        ensures { result ≡ record self { walked = self.walked + 1 } }
     {
         Self {
-            count: self.count,
             walked: self.walked + 1,
-            spaces: self.spaces,
-            planet: self.planet,
-            ended: self.ended,
-            used: self.used,
+            ..self
         }
     }
 
@@ -89,10 +76,7 @@ impl Reach {
     pub fn goes_on(self) -> bool
         ensures { result ≡ (not self.ended && ltb self.walked self.count) }
     {
-        if self.ended {
-            return false;
-        }
-        self.walked < self.count
+        !self.ended && self.walked < self.count
     }
 }
 
@@ -102,25 +86,24 @@ fn walk_link(
     k: usize,
     a: u32,
     s: Reach,
-    rows: &Rows,
-    marks: &Marks,
+    tables: &LentTables,
     words: &mut [u32],
     events: &mut [u8],
 ) -> Reach
-    requires fact { let b = board_at rows marks 0 in WalkStands b row (walk_at s words.old events.old) }
-    requires fact_2 { let b = board_at rows marks 0 in Leads b k a }
-    ensures { let b = board_at rows.entry marks.entry 0 in WalkDoes (walking (turf_count b)) (walk_link b row k) (walk_at s words.old events.old) (walk_at result words.new events.new) }
+    requires fact { let b = board_at tables 0 in WalkStands b row (walk_at s words.old events.old) }
+    requires fact_2 { let b = board_at tables 0 in Leads b k a }
+    ensures { let b = board_at tables.entry 0 in WalkDoes (walking (turf_count b)) (walk_link b row k) (walk_at s words.old events.old) (walk_at result words.new events.new) }
 {
-    let ids = rows[IDS];
-    let n = ids.len();
+    let ids = tables.ids;
+    let layout = WalkLayout { turfs: ids.len() };
     let count = s.count;
     let used = s.used;
-    let spots = scratch::spots_at(n);
-    if index_set::contains(a, count, n, 0, spots, words) {
+    let spots = layout.spots_at();
+    if index_set::contains(a, count, layout.turfs, 0, spots, words) {
         return s;
     }
     index_set::insert(a, count, 0, spots, words);
-    let locks = marks[LINK_FLAGS];
+    let locks = tables.link_flags;
     if !AdjacentFlags(locks[k]).firelock() {
         return s.joined(used);
     }
@@ -137,20 +120,17 @@ fn walk_links(
     from: usize,
     near: &[u32],
     s: Reach,
-    rows: &Rows,
-    marks: &Marks,
+    tables: &LentTables,
     words: &mut [u32],
     events: &mut [u8],
 ) -> Reach
-    requires fact { let b = board_at rows marks 0 in WalkStands b row (walk_at s words.old events.old) }
-    requires fact_2 { let b = board_at rows marks 0 in Near b row from near.now }
-    ensures { let b = board_at rows.entry marks.entry 0 in WalkDoes (walking (turf_count b)) (run (walk_link b row) (links_of b row)) (walk_at s words.old events.old) (walk_at result words.new events.new) }
+    requires fact { let b = board_at tables 0 in WalkStands b row (walk_at s words.old events.old) }
+    requires fact_2 { let b = board_at tables 0 in Near b row from near.now }
+    ensures { let b = board_at tables.entry 0 in WalkDoes (walking (turf_count b)) (run (walk_link b row) (links_of b row)) (walk_at s words.old events.old) (walk_at result words.new events.new) }
 {
     let mut t = s;
-    let mut i = 0;
-    while i < near.len() {
-        t = walk_link(row, from + i, near[i], t, rows, marks, words, events);
-        i += 1;
+    for (i, &a) in near.iter().enumerate() {
+        t = walk_link(row, from + i, a, t, tables, words, events);
     }
     t
 }
@@ -160,25 +140,19 @@ pub fn spread(
     limit: u32,
     row: usize,
     s: Reach,
-    rows: &Rows,
-    marks: &Marks,
+    tables: &LentTables,
     words: &mut [u32],
     events: &mut [u8],
 ) -> Reach
-    requires { let b = board_at rows marks 0 in WalkStands b row (walk_at s words.old events.old) }
-    ensures { let b = board_at rows.entry marks.entry 0 in WalkDoes (walking (turf_count b)) (spread b limit row) (walk_at s words.old events.old) (walk_at result words.new events.new) }
+    requires { let b = board_at tables 0 in WalkStands b row (walk_at s words.old events.old) }
+    ensures { let b = board_at tables.entry 0 in WalkDoes (walking (turf_count b)) (spread b limit row) (walk_at s words.old events.old) (walk_at result words.new events.new) }
 {
-    let flags = marks[FLAGS];
-    if !SimulationFlags(flags[row]).enabled() {
+    let flags = tables.flags;
+    if !SimulationFlags(flags[row]).enabled() || s.walked > limit as usize {
         return s;
     }
-    if s.walked > limit as usize {
-        return s;
-    }
-    let neighbours = rows[NEIGHBOURS];
-    let links = turfs::links_of(rows[STARTS], row);
-    let from = links.from;
-    let to = links.to;
+    let neighbours = tables.neighbours;
+    let Links { from, to } = turfs::links_of(tables.starts, row);
     let near = &neighbours[from..to];
-    walk_links(row, from, near, s, rows, marks, words, events)
+    walk_links(row, from, near, s, tables, words, events)
 }

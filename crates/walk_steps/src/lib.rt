@@ -7,16 +7,17 @@ ghost use Rattle.events.specs.Area.{Wrote};
 ghost use Rattle.walk_steps.specs.Steps.{Owns, own_at, tip_of, told, BackTells};
 
 use rules_events::Event;
+use scratch::WalkLayout;
 
 // The space turf number i has its place, and is its own target.
 pub fn own_target(i: usize, ids: &[u32], words: &mut [u32])
     requires { Owns ids.now i words.old }
     ensures { words.new ≡ own_at ids.now i words.old }
 {
-    let n = ids.len();
-    let order = scratch::order_at(n);
-    let spots = scratch::spots_at(n);
-    let targets = scratch::targets_at(n);
+    let layout = WalkLayout { turfs: ids.len() };
+    let order = layout.order_at();
+    let spots = layout.spots_at();
+    let targets = layout.targets_at();
     let row = words[order + i] as usize;
     words[spots + row] = i as u32;
     words[targets + row] = ids[row];
@@ -26,10 +27,7 @@ pub fn own_target(i: usize, ids: &[u32], words: &mut [u32])
 fn tip(arrows: u32, id: u32, next: u32) -> u32
     ensures { result ≡ tip_of arrows id next }
 {
-    if arrows == 0 {
-        return id;
-    }
-    next
+    if arrows == 0 { id } else { next }
 }
 
 // Writes kinds 6 and 7, and 7 again if the next turf is the last of its way; that second record is of the turf at which the arrows end.

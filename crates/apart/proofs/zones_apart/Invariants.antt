@@ -2,7 +2,7 @@
 use Rattle.apart.specs.Marks.{ZonesStand, Marks}
 use Rattle.turfs.specs.Tables.{board_of}
 use Rattle.rules_board.specs.Board.{mixture_count}
-use Prim.Native.Nat.{◌+◌, ◌-◌, ◌≤◌}
+use Prim.Native.Nat.{◌+◌}
 use mathlib.Core.Path.{◌≡◌}
 use mathlib.Core.List.{List}
 use lib.ListN.{length}
@@ -12,8 +12,5 @@ use Rattle.apart.proofs.zones_apart.Given as goal
 
 abbrev pub invariant-loop-z : goal.invariant-loop-z
 invariant-loop-z l =
-    let b = board_of l.rows l.marks 0 in
-    ((l.z ≤ l.zones) × But l.at (l.at + mixture_count b) l.initial.words l.words) × ((zs : List Zone) → length zs ≡ l.zones → ZonesStand l.first l.nodes zs l.initial.words → Marks b zs l.z 0 l.at l.words)
-
-abbrev pub decreases-loop-z : goal.decreases-loop-z
-decreases-loop-z l = l.zones - l.z
+    let b = board_of l.tables 0 in
+    (But l.at (l.at + mixture_count b) l.initial.words l.words) × ((zs : List Zone) → length zs ≡ l.zones → ZonesStand l.first l.nodes zs l.initial.words → Marks b zs l.z 0 l.at l.words)

@@ -12,14 +12,14 @@ returns-in_default c = no_turf _ _ c.requires c.args.breach _ (c.find.ensures _ 
 pub walk-s-requires : goal.walk-s-requires
 walk-s-requires c =
     let z = c.requires in
-    starts _ _ z _ (turf-row _ _ z c.args.breach _ (c.find.ensures _ refl) _ c.in-At.is)
+    starts _ _ z _ (turf-row _ _ z c.args.breach _ (c.find.ensures _ refl) _ c.in-Some.is)
 
 pub from_walk-requires : goal.from_walk-requires
 from_walk-requires c =
     let pre = c.requires in
     let find = c.find in
     let walk = c.walk-s in
-    walked _ _ pre c.args.breach _ (find.ensures _ refl) _ c.in-At.is _ _ _ walk.ensures
+    walked _ _ pre c.args.breach _ (find.ensures _ refl) _ c.in-Some.is _ _ _ walk.ensures
 
 pub returns : goal.returns
 returns c =
@@ -27,4 +27,4 @@ returns c =
     let find = c.find in
     let walk = c.walk-s in
     let from-walk = c.from_walk in
-    from-turf _ _ pre c.args.breach _ (find.ensures _ refl) _ c.in-At.is _ _ _ walk.ensures _ _ _ _ _ from-walk.ensures
+    from-turf _ _ pre c.args.breach _ (find.ensures _ refl) _ c.in-Some.is _ _ _ walk.ensures _ _ _ _ _ from-walk.ensures

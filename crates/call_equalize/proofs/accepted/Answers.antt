@@ -9,7 +9,7 @@ use Rattle.call_equalize.proofs.accepted.Goals as goal
 
 pub fill_all-s-requires : goal.fill_all-s-requires
 fill_all-s-requires c =
-    let b = board_of c.args.rows.now c.args.marks.now c.args.gases in
+    let b = board_of c.args.tables.now c.args.gases in
     let q = asked c.args.hot.now c.args.settings in
     let t = c.args.turns.now in
     let l = lent c.args.gas.now c.args.events.now c.args.words.now c.args.floats.now in
@@ -18,7 +18,7 @@ fill_all-s-requires c =
 
 pub timed-requires : goal.timed-requires
 timed-requires c =
-    let b = board_of c.args.rows.now c.args.marks.now c.args.gases in
+    let b = board_of c.args.tables.now c.args.gases in
     let q = asked c.args.hot.now c.args.settings in
     let t = c.args.turns.now in
     let l = lent c.args.gas.now c.args.events.now c.args.words.now c.args.floats.now in
@@ -26,7 +26,7 @@ timed-requires c =
 
 pub returns : goal.returns
 returns c =
-    let b = board_of c.args.rows.now c.args.marks.now c.args.gases in
+    let b = board_of c.args.tables.now c.args.gases in
     let q = asked c.args.hot.now c.args.settings in
     let t = c.args.turns.now in
     let l = lent c.args.gas.now c.args.events.now c.args.words.now c.args.floats.now in

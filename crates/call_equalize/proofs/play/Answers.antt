@@ -23,4 +23,4 @@ returns c =
     let plan-all = c.plan_all in
     let apart = c.apart-apart in
     let finish-all = c.finish_all-used in
-    λ q l d. played-comes c.requires _ _ plan-all.ensures _ _ (apart.ensures c.args.gases) _ _ _ _ _ _ finish-all.ensures _ c.bit.ensures q l d
+    λ q l d. played-comes c.requires _ _ plan-all.ensures _ _ (apart.ensures c.args.gases) _ _ _ _ _ _ finish-all.ensures q l d

@@ -11,10 +11,10 @@ pub walk-s-requires : goal.walk-s-requires
 walk-s-requires c =
     let p = c.requires in
     let args = c.args in
-    let b = board_at args.rows args.marks 0 in
-    record { ground = p.ground; inside = turf-row b args.limit args.id _ (c.find.ensures _ refl) _ c.in-At.is; words = p.words; room = p.room }
+    let b = board_at args.tables 0 in
+    record { ground = p.ground; inside = turf-row b args.limit args.id _ (c.find.ensures _ refl) _ c.in-Some.is; words = p.words; room = p.room }
 
 pub returns : goal.returns
 returns c =
     let find = c.find in
-    let walk = c.walk-s in record { fact = from-turf _ _ _ _ (find.ensures _ refl) _ c.in-At.is walk.ensures; words_after = walk.ensures.beyond }
+    let walk = c.walk-s in record { fact = from-turf _ _ _ _ (find.ensures _ refl) _ c.in-Some.is walk.ensures; words_after = walk.ensures.beyond }

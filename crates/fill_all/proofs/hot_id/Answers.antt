@@ -19,7 +19,7 @@ pub returns-in_default : goal.returns-in_default
 returns-in_default c = λ hot.
     let args = c.args in
     let p = c.requires in
-    let b = board_at args.rows args.marks args.gases in
+    let b = board_at args.tables args.gases in
     let q = asked hot args.settings in
     fills-unknown b _ q _ p.hot_fits.stored p.hot_fits.room (sym (c.find.ensures b refl) ∙ c.in_default.is)
 
@@ -27,9 +27,9 @@ pub passed_over-requires : goal.passed_over-requires
 passed_over-requires c =
     let args = c.args in
     let p = c.requires in
-    let b = board_at args.rows args.marks args.gases in
+    let b = board_at args.tables args.gases in
     let found = sym (c.find.ensures b refl) in
-    let is_at = c.in-At.is in
+    let is_at = c.in-Some.is in
     let row = row-in p.accepted _ _ found _ is_at in
     record {
       accepted = p.accepted;
@@ -41,19 +41,19 @@ pub returns-then-passed_over : goal.returns-then-passed_over
 returns-then-passed_over c = λ hot.
     let args = c.args in
     let p = c.requires in
-    let b = board_at args.rows args.marks args.gases in
+    let b = board_at args.tables args.gases in
     let q = asked hot args.settings in
     let found = sym (c.find.ensures b refl) in
-    let is_at = c.in-At.is in
+    let is_at = c.in-Some.is in
     fills-id b _ q _ _ p.hot_fits.going (found ∙ is_at) (row-none q p.hot_fits.stored p.hot_fits.room _ _ (c.passed_over.ensures q refl) c.if-passed_over.true)
 
 pub overflow_cast-seed : goal.overflow_cast-seed
 overflow_cast-seed c =
     let args = c.args in
     let p = c.requires in
-    let b = board_at args.rows args.marks args.gases in
+    let b = board_at args.tables args.gases in
     let found = sym (c.find.ensures b refl) in
-    let is_at = c.in-At.is in
+    let is_at = c.in-Some.is in
     let row = row-in p.accepted _ _ found _ is_at in
     omega (arith, row, p.accepted.turfs.1)
 
@@ -64,10 +64,10 @@ pub flood_fill-t-requires : goal.flood_fill-t-requires
 flood_fill-t-requires c =
     let args = c.args in
     let p = c.requires in
-    let b = board_at args.rows args.marks args.gases in
+    let b = board_at args.tables args.gases in
     let q = asked [] args.settings in
     let found = sym (c.find.ensures b refl) in
-    let is_at = c.in-At.is in
+    let is_at = c.in-Some.is in
     let row = row-in p.accepted _ _ found _ is_at in
     let pass = c.passed_over.ensures q refl in
     let left = c.if-passed_over.false in
@@ -82,10 +82,10 @@ pub after_fill-requires : goal.after_fill-requires
 after_fill-requires c =
     let args = c.args in
     let p = c.requires in
-    let b = board_at args.rows args.marks args.gases in
+    let b = board_at args.tables args.gases in
     let q = asked [] args.settings in
     let found = sym (c.find.ensures b refl) in
-    let is_at = c.in-At.is in
+    let is_at = c.in-Some.is in
     let row = row-in p.accepted _ _ found _ is_at in
     let pass = c.passed_over.ensures q refl in
     let left = c.if-passed_over.false in
@@ -110,10 +110,10 @@ pub returns : goal.returns
 returns c = λ hot.
     let args = c.args in
     let p = c.requires in
-    let b = board_at args.rows args.marks args.gases in
+    let b = board_at args.tables args.gases in
     let q = asked hot args.settings in
     let found = sym (c.find.ensures b refl) in
-    let is_at = c.in-At.is in
+    let is_at = c.in-Some.is in
     let row = row-in p.accepted _ _ found _ is_at in
     let pass = c.passed_over.ensures q refl in
     let left = c.if-passed_over.false in

@@ -1,16 +1,11 @@
 -- A disabled neighbour, one that is a node already, or a new node at the end of the line. Assumes nothing.
-use lib.ListN.{length-set}
 use borrow.Author.Tests.{not-true, not-false}
 use mathlib.Core.Path.{sym, ◌∙◌}
-use Rattle.fill_links.proofs.Stores.{edge_none, edge-holds, edge-room, edge-old, edge_more}
+use Rattle.fill_links.proofs.Stores.{edge_none, edge-room, edge-old, edge_more}
 use Rattle.fill_links.proofs.edge_to.Goals as goal
 
 pub returns-then-not-m : goal.returns-then-not-m
 returns-then-not-m c = edge_none _ _ _ _ _ _ _ _ c.requires.fit c.requires.link (not-true _ c.if-not-m.true)
-
-pub contains-requires : goal.contains-requires
-contains-requires c =
-    (edge-holds c.args.m _ _ _ _ _ _ _ c.requires.fit c.requires.link (not-false _ c.if-not-m.false) _ _ c.nodes_at.ensures c.places_at-places.ensures, c.requires.row)
 
 pub returns-then-contains : goal.returns-then-contains
 returns-then-contains c =
@@ -30,9 +25,6 @@ insert-requires c =
       a_in_bounds = whole.1.0;
       count_bound = whole.1.1;
     }
-
-pub shape_of-words : goal.shape_of-words
-shape_of-words c = c.insert.auto.words ∙ simp length-set
 
 pub returns : goal.returns
 returns c =

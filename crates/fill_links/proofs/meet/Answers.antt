@@ -19,4 +19,4 @@ across_firelock-requires c =
 pub returns : goal.returns
 unfolding enabled planetary firelock
 returns c =
-    rw (c.enabled.ensures, c.is_immutable.ensures (board_at c.args.rows c.args.marks 0) refl refl, c.across_firelock.ensures)
+    rw (c.enabled.ensures, c.is_immutable.ensures (board_at c.args.tables 0) refl refl, c.across_firelock.ensures)

@@ -8,8 +8,5 @@ use Rattle.fill_tests.proofs.all_near.Given as goal
 
 abbrev pub invariant-loop-k : goal.invariant-loop-k
 invariant-loop-k l =
-    let near = near_at (board_of l.rows l.marks l.gases) l.gas l.mine l.threshold in
-    every near (up_from l.k (l.to - l.k)) ≡ every near (up_from l.initial.k (l.to - l.initial.k))
-
-abbrev pub decreases-loop-k : goal.decreases-loop-k
-decreases-loop-k l = l.to - l.k
+    let near = near_at (board_of l.tables l.gases) l.gas l.mine l.threshold in
+    every near (up_from l.k (l.to - l.k)) ≡ every near (up_from l.from (l.to - l.from))

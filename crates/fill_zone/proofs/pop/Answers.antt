@@ -1,6 +1,5 @@
 -- Past the clock, broken off at the limit, or expanded. Assumes nothing.
 use Rattle.fill_links.specs.Asked.{Free}
-use Rattle.turfs.specs.Tables.{table}
 use Rattle.fill_zone.proofs.Pops.{row_below, pop-over, pop-broken, pop-on}
 use lib.ListN.{get_or}
 use Prim.Native.Nat.{ℕ, ◌+◌}
@@ -15,10 +14,6 @@ returns-then-settings-t c =
       fact = whole.0;
       moved = whole.1;
     }
-
-pub overflow_cast-row : goal.overflow_cast-row
-overflow_cast-row c =
-    omega (arith, row_below c.requires.pop_fits.walking.fit c.requires.pop_fits.walking.bounds _ c.requires.pop_fits.left _ c.queue_at.ensures, c.requires.accepted.turfs)
 
 pub bounds-planetary-row : goal.bounds-planetary-row
 bounds-planetary-row c =
@@ -43,7 +38,7 @@ expand-requires c =
         walking = c.requires.pop_fits.walking;
         turf = record {
           row = row_below c.requires.pop_fits.walking.fit c.requires.pop_fits.walking.bounds _ c.requires.pop_fits.left _ c.queue_at.ensures;
-          free = subst (λ (x : ℕ). Free (table c.args.rows.now 2) (get_or c.args.words.now (x + c.args.t.popped) 0) c.args.words.now) (sym c.queue_at.ensures) c.requires.pop_fits.free;
+          free = subst (λ (x : ℕ). Free c.args.tables.now.starts.now (get_or c.args.words.now (x + c.args.t.popped) 0) c.args.words.now) (sym c.queue_at.ensures) c.requires.pop_fits.free;
         };
         popped = omega (arith, c.requires.pop_fits.left, c.requires.pop_fits.walking.fit.queue, c.requires.accepted.turfs);
         tests = omega (arith, c.requires.pop_fits.clock, c.well_formed);

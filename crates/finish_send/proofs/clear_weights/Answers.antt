@@ -1,17 +1,9 @@
-use Prim.Native.Nat.{◌-◌}
-use native.Mathlib.Omega.{arith}
-use Rattle.finish_send.proofs.Ranges.{ran_start, ran_next, ran_end}
+use Rattle.finish_send.proofs.Ranges.{ran_start, ran_next}
 use Rattle.finish_send.proofs.Edge.{zero-length}
 use Rattle.finish_send.proofs.clear_weights.Goals as goal
 
 pub loop-k-init : goal.loop-k-init
-loop-k-init c = (omega arith, (omega arith, ran_start _ _ _))
+loop-k-init c = ran_start _ _ _
 
 pub loop-k-preserved : goal.loop-k-preserved
-loop-k-preserved c = (omega arith, (omega arith, ran_next _ (zero-length c.args.words.now c.args.zone) c.loop-k.invariant.0 c.loop-k.invariant.1.1 c.clear_own.ensures))
-
-pub shape_of-floats : goal.shape_of-floats
-shape_of-floats c = c.loop-k.invariant.1.1.size
-
-pub returns : goal.returns
-returns c = ran_end _ _ c.loop-k.invariant.1.0 c.loop-k-test.false c.loop-k.invariant.1.1
+loop-k-preserved c = ran_next _ (zero-length c.args.words.now c.args.zone) c.loop-k.auto.k c.loop-k.invariant c.clear_own.ensures

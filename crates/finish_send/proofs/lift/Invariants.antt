@@ -1,11 +1,7 @@
 -- Each turn lifts one weight. Assumes nothing.
-use Prim.Native.Nat.{◌-◌, ◌≤◌}
 use Rattle.finish_send.specs.Sending.{lift_at}
 use Rattle.finish_send.proofs.Ranges.{Ran}
 use Rattle.finish_send.proofs.lift.Given as goal
 
 abbrev pub invariant-loop-k : goal.invariant-loop-k
-invariant-loop-k l = (l.from ≤ l.k) × ((l.k ≤ l.to) × Ran (lift_at l.words l.zone l.up) l.from l.k l.initial.floats l.floats)
-
-abbrev pub decreases-loop-k : goal.decreases-loop-k
-decreases-loop-k l = l.to - l.k
+invariant-loop-k l = Ran (lift_at l.words l.zone l.up) l.from l.k l.initial.floats l.floats

@@ -1,12 +1,9 @@
 -- Every place passed over failed the test. Assumes nothing.
-use Prim.Native.Nat.{ℕ, ◌-◌, ◌≤◌, ◌<◌}
+use Prim.Native.Nat.{ℕ, ◌≤◌, ◌<◌}
 use mathlib.Core.Path.{◌≡◌}
 use mathlib.Core.Bool.{false}
 use Rattle.finish_send.specs.Sending.{is_marked}
 use Rattle.finish_send.proofs.next_edge.Given as goal
 
 abbrev pub invariant-loop-i : goal.invariant-loop-i
-invariant-loop-i l = (l.k ≤ l.i) × ((l.i ≤ l.to) × ((j : ℕ) → l.k ≤ j → j < l.i → is_marked l.words l.floats l.zone l.base l.above j ≡ false))
-
-abbrev pub decreases-loop-i : goal.decreases-loop-i
-decreases-loop-i l = l.to - l.i
+invariant-loop-i l = (j : ℕ) → l.k ≤ j → j < l.i → is_marked l.words l.floats l.zone l.base l.above j ≡ false

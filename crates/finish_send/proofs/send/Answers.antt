@@ -1,6 +1,6 @@
 -- The reverse is one of the links, and an amount above 0 has bits; the three calls are the definition's three changes. Assumes nothing.
 use mathlib.Core.Path.{◌∙◌, ap}
-use Rattle.basics.specs.declared.Spot.{Spot}
+use Rattle.std.specs.Prelude.{ℕ, Option}
 use Rattle.basics.specs.Floats.{0f}
 use Rattle.rules_plan.specs.Edges.{alter}
 use Rattle.finish_send.proofs.Edge.{back_fits, has-bits}
@@ -20,7 +20,7 @@ append-requires c =
 pub returns : goal.returns
 returns c =
     record {
-      weights = c.clear_at.ensures ∙ ap (λ (s : Spot). alter s (λ y. 0f) c.args.floats.now) c.back_link-back.ensures;
+      weights = c.clear_at.ensures ∙ ap (λ (s : Option ℕ). alter s (λ y. 0f) c.args.floats.now) c.back_link-back.ensures;
       air = c.move_between.ensures;
       event = one-added _ c.append.ensures;
     }

@@ -1,4 +1,4 @@
-use Prim.Native.Nat.{◌-◌, ◌+◌}
+use Prim.Native.Nat.{◌+◌}
 use mathlib.Core.Path.{refl, ◌∙◌}
 use native.Mathlib.Omega.{arith}
 use Rattle.finish_send.proofs.Passing.{few-links, sent_size, edge-room, total-room, loop-start, send-fits, loop-next, stopped, all-sent}

@@ -1,7 +1,4 @@
 use Rattle.finish_turns.proofs.Zoning.{ending_start, ending_fit, ending_laid, ending_next, planned-fit, turned_fit, turned_laid, finishes-all}
-use mathlib.Core.Path.{◌∙◌}
-use Prim.Native.Nat.{◌-◌}
-use native.Mathlib.Omega.{arith}
 use Rattle.finish_turns.proofs.finish_all.Goals as goal
 
 pub by_turns-now-requires : goal.by_turns-now-requires
@@ -27,14 +24,6 @@ finish_zone-now-requires c =
       fact = ending_laid _ _ _ _ fit laid _ _ _ loop.invariant loop-test.true;
     }
 
-pub overflow_add-z : goal.overflow_add-z
-overflow_add-z c =
-    let loop-test = c.loop-z-test in
-    omega (arith, loop-test.true, c.ranges.zones)
-
-pub loop-z-smaller : goal.loop-z-smaller
-loop-z-smaller c = omega (arith, c.loop-z-test.true)
-
 pub loop-z-preserved : goal.loop-z-preserved
 loop-z-preserved c =
     let by-turns = c.by_turns-now in
@@ -44,18 +33,6 @@ loop-z-preserved c =
     let fit = turned_fit _ _ c.args.turns.now _ _ c.requires _ _ by-turns.ensures in
     let laid = turned_laid _ _ c.args.turns.now _ _ c.requires _ _ by-turns.ensures in
     ending_next _ _ _ _ fit laid _ _ _ loop.invariant loop-test.true _ _ finish-zone.ensures
-
-pub shape_of-gas : goal.shape_of-gas
-shape_of-gas c = c.loop-z.invariant.did.kept.gas ∙ c.by_turns-now.ensures.did.kept.gas
-
-pub shape_of-words : goal.shape_of-words
-shape_of-words c = c.loop-z.invariant.did.words.size ∙ c.by_turns-now.ensures.did.words.size
-
-pub shape_of-floats : goal.shape_of-floats
-shape_of-floats c = c.loop-z.invariant.did.kept.floats ∙ c.by_turns-now.ensures.did.kept.floats
-
-pub shape_of-events : goal.shape_of-events
-shape_of-events c = c.loop-z.invariant.did.kept.events ∙ c.by_turns-now.ensures.did.kept.events
 
 pub returns : goal.returns
 returns c =

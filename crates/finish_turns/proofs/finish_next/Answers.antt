@@ -1,10 +1,10 @@
 -- The zone's next node is a row, so finishing it is the definition's job. Assumes nothing.
-use Rattle.finish_turns.proofs.Jobs.{sizes-fit, zone-small, node-begun, node_done}
+use Rattle.finish_turns.proofs.Jobs.{zone-small, node-begun, node_done}
 use native.Mathlib.Omega.{arith}
 use Rattle.finish_turns.proofs.finish_next.Goals as goal
 
 pub next_row-requires : goal.next_row-requires
-next_row-requires c = record { sizes = sizes-fit c.requires.turns_fit; zone_open = c.requires.fact }
+next_row-requires c = c.requires.fact
 
 pub overflow_cast-turf : goal.overflow_cast-turf
 overflow_cast-turf c = let h = zone-small _ _ _ _ c.requires.turns_fit c.requires.fact in omega (arith, h)
@@ -13,8 +13,7 @@ pub finalize_eq-now-requires : goal.finalize_eq-now-requires
 finalize_eq-now-requires c = node-begun _ _ _ _ c.requires.turns_fit c.requires.fact _ c.next_row.ensures
 
 pub count_turn-requires : goal.count_turn-requires
-count_turn-requires c =
-    record { sizes = sizes-fit c.requires.turns_fit; zone_open = c.requires.fact }
+count_turn-requires c = c.requires.fact
 
 pub shape_of-gas : goal.shape_of-gas
 shape_of-gas c = c.finalize_eq-now.ensures.kept.gas

@@ -6,7 +6,7 @@ use Rattle.finish_turns.proofs.turn.Goals as goal
 
 pub zone_at-zone-requires : goal.zone_at-zone-requires
 zone_at-zone-requires c =
-    record { sizes = sizes-fit c.requires.turns_fit; live = c.requires.fact; p_lt_count = picked_place _ c.args.c _ _ _ c.requires.turns_fit c.requires.fact }
+    record { live = c.requires.fact; p_lt_count = picked_place _ c.args.c _ _ _ c.requires.turns_fit c.requires.fact }
 
 pub finish_next-used-requires : goal.finish_next-used-requires
 finish_next-used-requires c =
@@ -17,7 +17,6 @@ settle-live-requires c =
     let zone-at = c.zone_at-zone in
     let finish-next = c.finish_next-used in
     record {
-      sizes = sizes-fit c.requires.turns_fit;
       laid = laid-now _ c.args.c _ _ _ c.requires.turns_fit c.requires.fact _ zone-at.ensures _ _ finish-next.ensures;
       p_lt_count = (picked_place _ c.args.c _ _ _ c.requires.turns_fit c.requires.fact, c.requires.fact.few);
     }

@@ -1,14 +1,11 @@
 -- A row's place says whether the row is in the set, by the law of the set. Assumes nothing.
-use native.Mathlib.Omega.{arith}
-use Prim.Native.Nat.{◌+◌}
+use mathlib.Core.Path.{◌∙◌}
+use borrow.Author.Tests.{le-ltb}
 use Rattle.index_set.proofs.Queue.{contains_here, contains_not}
 use Rattle.index_set.proofs.contains.Goals as goal
 
-pub overflow_cast-p-2 : goal.overflow_cast-p-2
-overflow_cast-p-2 c = omega (arith, c.shared_slice_known-1.given (c.args.places + c.args.a))
+pub returns-then-place-count : goal.returns-then-place-count
+returns-then-place-count c = contains_here _ _ _ _ _ _ c.requires.0 c.requires.1 c.if-place-count.true
 
-pub returns-then-p-count : goal.returns-then-p-count
-returns-then-p-count c = contains_here _ _ _ _ _ _ c.requires.0 c.requires.1 c.if-p-count.true
-
-pub returns-else-p-count : goal.returns-else-p-count
-returns-else-p-count c = contains_not _ _ _ _ _ _ c.requires.0 c.requires.1 c.if-p-count.false
+pub returns-else-place-count : goal.returns-else-place-count
+returns-else-place-count c = le-ltb _ _ c.if-place-count.false ∙ contains_not _ _ _ _ _ _ c.requires.0 c.requires.1 c.if-place-count.false

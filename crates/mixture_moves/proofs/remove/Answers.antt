@@ -1,37 +1,26 @@
-use Prim.Native.Nat.{◌-◌}
-use mathlib.Core.Path.{◌≡◌, refl, ◌∙◌, ap}
+use Prim.Native.Nat.{◌-◌, ◌+◌, ◌*◌}
+use mathlib.Core.Path.{refl}
 use native.Mathlib.Omega.{arith}
-use lib.ListN.{length-set}
 use borrow.Author.Tests.{eq-eqb, ne_eqb}
-use Rattle.mixture_moves.proofs.Moves.{stored-none, staying, staying_next, staying_all, mark-is, unchanged}
-use borrow.Author.Rules.{rules}
+use Rattle.rules_mixture.specs.Mixture.{scale}
+use Rattle.mixture_moves.proofs.Moves.{scaled, scaled_next, mark-is, unchanged}
 use Rattle.mixture_moves.proofs.remove.Goals as goal
 
 pub returns-then-immutable-giver-ne0 : goal.returns-then-immutable-giver-ne0
-returns-then-immutable-giver-ne0 c =
-    λ b i e.
+returns-then-immutable-giver-ne0 c = λ b i e.
     let a = c.args in
     unchanged b a.giver _ a.gas.now (mark-is b a.giver _ _ i (ne_eqb _ _ c.if-immutable-giver-ne0.true))
 
-pub loop-i-init : goal.loop-i-init
-loop-i-init c = (search rules, (refl, stored-none _ _ _ _))
+pub loop-x-init : goal.loop-x-init
+unfolding scale
+loop-x-init c = refl
 
-pub loop-i-preserved : goal.loop-i-preserved
-loop-i-preserved c =
-    let a = c.args in
-    let p = c.requires in
-    let l = c.loop-i in
-    (search rules, (length-set l.gas _ _ ∙ l.invariant.1.0, staying_next a.gas.now a.gases a.giver a.goes p.1 l.gas l.i (omega arith) l.invariant.1.1))
-
-pub shape_of-gas : goal.shape_of-gas
-shape_of-gas c = c.loop-i.invariant.1.0
+pub loop-x-preserved : goal.loop-x-preserved
+loop-x-preserved c = scaled_next _ _ c.loop-x.x-items c.loop-x.x-index c.loop-x-test.true c.loop-x.invariant
 
 pub returns : goal.returns
-returns c =
-    λ b i e.
+returns c = λ b i e.
     let a = c.args in
-    let p = c.requires in
-    let n : c.loop-i.i ≡ a.gases = omega arith in
-    c.loop-i.invariant.1.1
-    ∙ ap (staying a.gas.now a.gases a.giver a.goes) n
-    ∙ staying_all a.gas.now a.gases a.giver a.goes p.1 b e (mark-is b a.giver _ _ i (eq-eqb _ _ c.if-immutable-giver-ne0.false))
+    scaled b a.giver a.gas.now _ a.gases (a.giver * a.gases + a.gases - a.giver * a.gases) c.loop-x.x-index c.loop-x.x-items e
+    (mark-is b a.giver _ _ i (eq-eqb _ _ c.if-immutable-giver-ne0.false))
+    (omega arith) c.loop-x-test.false c.loop-x.invariant

@@ -1,12 +1,10 @@
 -- Each turn leaves what stays of one amount more. Assumes nothing.
-use Prim.Native.Nat.{◌-◌, ◌≤◌}
 use mathlib.Core.Path.{◌≡◌}
-use lib.ListN.{length}
-use Rattle.mixture_moves.proofs.Moves.{staying}
+use mathlib.Core.List.{◌++◌}
+use lib.ListN.{take, drop}
+use Rattle.basics.specs.Floats.{1f, ◌-f◌}
+use Rattle.rules_mixture.specs.Mixture.{scale}
 use Rattle.mixture_moves.proofs.remove.Given as goal
 
-abbrev pub invariant-loop-i : goal.invariant-loop-i
-invariant-loop-i l = (l.i ≤ l.gases) × ((length l.gas ≡ length l.initial.gas) × (l.gas ≡ staying l.initial.gas l.gases l.giver l.goes l.i))
-
-abbrev pub decreases-loop-i : goal.decreases-loop-i
-decreases-loop-i l = l.gases - l.i
+abbrev pub invariant-loop-x : goal.invariant-loop-x
+invariant-loop-x l = l.x-items ≡ scale (1f -f l.goes) (take l.x-index l.initial.x-items) ++ drop l.x-index l.initial.x-items

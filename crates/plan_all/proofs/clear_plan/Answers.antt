@@ -5,15 +5,11 @@ use mathlib.Core.Path.{◌∙◌}
 use Rattle.plan_all.proofs.clear_plan.Goals as goal
 
 pub direction_at-pairs-requires : goal.direction_at-pairs-requires
-direction_at-pairs-requires c = record { row_bound = omega arith; e_bound = c.requires.links }
+direction_at-pairs-requires c = omega arith
 
 pub fast_at-fast-requires : goal.fast_at-fast-requires
 fast_at-fast-requires c =
-    record { row_bound = omega arith; sizes = record { turfs = c.requires.turfs; links = c.requires.links } }
-
-pub queue_at-queue-requires : goal.queue_at-queue-requires
-queue_at-queue-requires c =
-    record { turfs = c.requires.turfs; links = c.requires.links }
+    omega arith
 
 pub overflow_sub-fast : goal.overflow_sub-fast
 overflow_sub-fast c = omega (arith, c.direction_at-pairs.ensures, c.fast_at-fast.ensures)
@@ -26,10 +22,6 @@ overflow_sub-queue c = omega (arith, c.fast_at-fast.ensures, c.queue_at-queue.en
 
 pub clear_part-requires-2 : goal.clear_part-requires-2
 clear_part-requires-2 c = omega (arith, c.fast_at-fast.ensures, c.queue_at-queue.ensures, c.requires.words, c.clear_part.auto)
-
-pub lifted_at-requires : goal.lifted_at-requires
-lifted_at-requires c =
-    record { turfs = c.requires.turfs; links = c.requires.links }
 
 pub clear_floats-requires : goal.clear_floats-requires
 clear_floats-requires c = omega (arith, c.lifted_at.ensures, c.requires.floats)

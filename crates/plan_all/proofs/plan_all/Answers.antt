@@ -12,7 +12,7 @@ plan_zones-requires c =
     record {
       plannable = c.requires.plannable;
       fact = cleared-zoned c.requires.fact find-reverses.ensures.but clear-plan.ensures clear-plan.auto.words clear-plan.auto.floats;
-      fact_2 = cleared-reverses c.requires.fact find-reverses.ensures.but clear-plan.ensures (reverses-of (board_of c.args.rows.now c.args.marks.now c.args.gases)
+      fact_2 = cleared-reverses c.requires.fact find-reverses.ensures.but clear-plan.ensures (reverses-of (board_of c.args.tables.now c.args.gases)
           _ find-reverses.ensures.backs);
     }
 
@@ -22,5 +22,5 @@ returns c =
     let clear-plan = c.clear_plan in
     let plan-zones = c.plan_zones in
     planned-all c.requires.fact find-reverses.ensures.but clear-plan.ensures plan-zones.ensures (plan-zones.auto.words ∙ clear-plan.auto.words)
-    (plan-zones.auto.floats ∙ clear-plan.auto.floats) refl refl (reverses-of (board_of c.args.rows.now c.args.marks.now c.args.gases)
+    (plan-zones.auto.floats ∙ clear-plan.auto.floats) refl refl (reverses-of (board_of c.args.tables.now c.args.gases)
     _ find-reverses.ensures.backs)

@@ -6,9 +6,6 @@ use Rattle.plan_all.proofs.Zones.{room-fit, from-to, handed}
 use Rattle.plan_all.proofs.Plans.{zone-planned}
 use Rattle.plan_all.proofs.plan_zone_at.Goals as goal
 
-pub starts_at-requires : goal.starts_at-requires
-starts_at-requires c = c.requires.room.sizes
-
 pub overflow_add-at : goal.overflow_add-at
 overflow_add-at c =
     omega (arith, c.starts_at.ensures, c.requires.room.sizes, c.requires.zone)
@@ -23,15 +20,9 @@ overflow_cast-to c =
     let range = from-to c.starts_at.ensures c.requires.zone c.requires.ready in
     omega (arith, range, c.requires.room.sizes.turfs, c.requires.room.sizes.links)
 
-pub moles_at-requires : goal.moles_at-requires
-moles_at-requires c = c.requires.room.sizes
-
 pub overflow_add-total : goal.overflow_add-total
 overflow_add-total c =
     omega (arith, c.moles_at.ensures, c.requires.room.sizes, c.requires.zone)
-
-pub nodes_at-requires : goal.nodes_at-requires
-nodes_at-requires c = c.requires.room.sizes
 
 pub overflow_add-zone : goal.overflow_add-zone
 overflow_add-zone c =
@@ -55,6 +46,6 @@ process_zone-requires c =
     }
 
 pub returns : goal.returns
-returns c = zone-planned (board_of c.args.rows.now c.args.marks.now c.args.gases) _ c.starts_at.ensures
+returns c = zone-planned (board_of c.args.tables.now c.args.gases) _ c.starts_at.ensures
     c.requires.zone c.requires.ready c.nodes_at.ensures (omega (arith, c.moles_at.ensures))
     c.process_zone.ensures

@@ -1,22 +1,8 @@
--- By the three ways out: nothing to hand on, nowhere to hand it, over the link by which the turf was met. Assumes nothing.
+-- By the ways out: nothing to hand on, nowhere to hand it, over the link by which the turf was met. Assumes nothing.
 use native.Mathlib.Omega.{arith}
 use Rattle.plan_drain.proofs.Drains.{drained, drained_still, drained_none, back-row, back-k, back_p, back-there}
+use Rattle.plan_drain.proofs.drain_turf.Goals.{else-amount-via-then-amount+else-direction-ne0, else-amount-via-else-amount}
 use Rattle.plan_drain.proofs.drain_turf.Goals as goal
-
-pub via_at-requires : goal.via_at-requires
-via_at-requires c =
-    let pre = c.requires in record { row_bound = omega (arith, pre.fit.turfs, pre.row); e_bound = pre.fit.links }
-
-pub offset_bounds-words-via_at : goal.offset_bounds-words-via_at
-offset_bounds-words-via_at c =
-    let pre = c.requires in
-    omega (arith, c.via_at.ensures, pre.fit.turfs, pre.fit.links, pre.row)
-
-pub bounds-words-via_at : goal.bounds-words-via_at
-bounds-words-via_at c = omega (arith, c.via_at.ensures, c.requires.fit.words, c.requires.row)
-
-pub overflow_cast-k : goal.overflow_cast-k
-overflow_cast-k c = omega (arith, c.shared_slice_known-then-direction-ne0-1.given c.via_at.result)
 
 pub back_link-there-requires : goal.back_link-there-requires
 back_link-there-requires c =
@@ -47,8 +33,9 @@ pub returns-then-direction-ne0 : goal.returns-then-direction-ne0
 returns-then-direction-ne0 c = drained _ _ _ _ _ _ _ c.load-i.ensures c.requires.fit c.requires.row c.requires.within c.if-direction-ne0.true _ c.via_at.ensures _
     c.back_link-there.ensures c.if-amount.true c.hand_on.ensures
 
-pub returns-else-direction-ne0 : goal.returns-else-direction-ne0
-returns-else-direction-ne0 c = drained_still _ _ _ _ _ _ _ c.load-i.ensures c.requires.fit c.if-amount.true c.if-direction-ne0.false
-
 pub returns-else-amount : goal.returns-else-amount
-returns-else-amount c = drained_none _ _ _ _ _ _ _ c.load-i.ensures c.requires.fit c.if-amount.false
+returns-else-amount c =
+    elim c.else-amount.branch [
+      | else-amount-via-then-amount+else-direction-ne0 w ↦ drained_still _ _ _ _ _ _ _ c.load-i.ensures c.requires.fit w.if-amount.true w.if-direction-ne0.false
+      | else-amount-via-else-amount w ↦ drained_none _ _ _ _ _ _ _ c.load-i.ensures c.requires.fit w.if-amount.false
+    ]

@@ -13,8 +13,5 @@ abbrev pub step : ℕ → ℕ → ℕ → List ℕ → List ℕ → ℕ → ℕ 
 step z n e neighbours w k d = tally_step (owner_in e w) (fast_in n e w) z k (get_or neighbours k 0) d
 
 abbrev pub invariant-loop-k : goal.invariant-loop-k
-invariant-loop-k l = ((l.from ≤ l.k) × ((l.k ≤ l.to) × (l.c ≤ l.k)))
-    × (run (step l.z l.n l.e l.neighbours l.words) (up_from l.k (l.to - l.k)) l.c ≡ run (step l.z l.n l.e l.neighbours l.words) (up_from l.from (l.to - l.from)) 0)
-
-abbrev pub decreases-loop-k : goal.decreases-loop-k
-decreases-loop-k l = l.to - l.k
+invariant-loop-k l = (l.c ≤ l.k)
+    × (run (step l.z l.layout.turfs l.layout.links l.neighbours l.words) (up_from l.k (l.to - l.k)) l.c ≡ run (step l.z l.layout.turfs l.layout.links l.neighbours l.words) (up_from l.from (l.to - l.from)) 0)

@@ -1,4 +1,3 @@
-use Prim.Native.Nat.{◌-◌}
 use native.Mathlib.Omega.{arith}
 use mathlib.Core.Path.{refl, ◌∙◌, sym}
 use Rattle.plan_search.proofs.Rows.{row-start, row-passes, row_next, row-end, row_settled}

@@ -1,38 +1,9 @@
 -- The search keeps the link by which each row was met, and the way back over these links is the way back over the edges; rows that nothing is handed to are passed over. Assumes nothing.
 use native.Mathlib.Omega.{arith}
-use mathlib.Core.Path.{◌∙◌}
 use Rattle.turfs.specs.Tables.{board_of}
 use Rattle.plan_search.proofs.Skips.{rows-later, low-few, skipped}
 use Rattle.plan_search.proofs.Serves.{points_nowhere, moves-nothing, begun, begun-met, begun-idle, searched_near, reverses-after, rows-within, drained_by_edges, served}
 use Rattle.plan_search.proofs.serve.Goals as goal
-
-pub load-i-requires : goal.load-i-requires
-load-i-requires c =
-    record { plan_fits = c.requires.planning.fit; row_lt_n = c.requires.g_lt_n }
-
-pub store-requires : goal.store-requires
-store-requires c =
-    record { plan_fits = c.requires.planning.fit; row_lt_n = c.requires.g_lt_n }
-
-pub queue_at-queue-requires : goal.queue_at-queue-requires
-queue_at-queue-requires c =
-    record { turfs = c.requires.planning.fit.turfs; links = c.requires.planning.fit.links }
-
-pub places_at-places-requires : goal.places_at-places-requires
-places_at-places-requires c =
-    record { turfs = c.requires.planning.fit.turfs; links = c.requires.planning.fit.links }
-
-pub overflow_cast-g : goal.overflow_cast-g
-overflow_cast-g c =
-    omega (arith, c.requires.g_lt_n, c.requires.planning.fit.turfs)
-
-pub insert-requires : goal.insert-requires
-insert-requires c =
-    record {
-      count_in_bounds = omega (arith, c.queue_at-queue.ensures, c.store.ensures.fit.words, c.requires.g_lt_n);
-      a_in_bounds = omega (arith, c.places_at-places.ensures, c.store.ensures.fit.words, c.requires.g_lt_n);
-      count_bound = omega arith;
-    }
 
 pub seek-sweep-requires : goal.seek-sweep-requires
 seek-sweep-requires c =
@@ -64,7 +35,7 @@ drain-requires c =
       fit = seek.ensures.fact.seeking.fit;
       zone = c.requires.planning.zone;
       few = seek.ensures.fact.seeking.line.few;
-      within = rows-within _ _ _ _ (board_of c.args.rows.now c.args.marks.now
+      within = rows-within _ _ _ _ (board_of c.args.tables.now
           c.args.gases) c.requires.planning.sized.linked c.requires.planning.sized.links seek.ensures.fact.seeking seek.ensures.fact_2 back;
     }
 
@@ -77,27 +48,16 @@ drain-requires-2 c =
     let seek = c.seek-sweep in
     let back = reverses-after _ _ _ _ _ _ store.ensures.fit c.requires.g_lt_n _ _ queue-at.ensures places-at.ensures insert.ensures c.requires.planning.reverses
     store.ensures seek.ensures.fact in
-    let near = searched_near _ _ _ _ _ _ store.ensures.fit c.requires.g_lt_n _ _ queue-at.ensures places-at.ensures insert.ensures (board_of c.args.rows.now
-    c.args.marks.now c.args.gases) _ _ _ _ (points_nowhere _ _ _ _ _ _ c.requires.planning.fit c.requires.g_lt_n store.ensures) seek.ensures.fact in
+    let near = searched_near _ _ _ _ _ _ store.ensures.fit c.requires.g_lt_n _ _ queue-at.ensures places-at.ensures insert.ensures (board_of c.args.tables.now c.args.gases) _ _ _ _ (points_nowhere _ _ _ _ _ _ c.requires.planning.fit c.requires.g_lt_n store.ensures) seek.ensures.fact in
     let few = low-few _ _ 0 _ _ _ _ _ _ _ seek.ensures.fact.seeking c.least-first.ensures c.least.ensures
     near seek.ensures.idle in
     record {
       fit = c.drain.ensures.fit;
       zone = c.requires.planning.zone;
       few = omega (arith, few, seek.ensures.fact.seeking.line.few);
-      within = rows-later _ _ _ _ _ _ (rows-within _ _ _ _ (board_of c.args.rows.now c.args.marks.now c.args.gases) c.requires.planning.sized.linked c.requires.planning.sized.links
+      within = rows-later _ _ _ _ _ _ (rows-within _ _ _ _ (board_of c.args.tables.now c.args.gases) c.requires.planning.sized.linked c.requires.planning.sized.links
           seek.ensures.fact.seeking seek.ensures.fact_2 back) _ few;
     }
-
-pub shape_of-words : goal.shape_of-words
-shape_of-words c =
-    c.seek-sweep.auto.words ∙ (c.insert.auto.words
-    ∙ c.store.auto.words)
-
-pub shape_of-floats : goal.shape_of-floats
-shape_of-floats c =
-    c.drain-2.auto.floats ∙ (c.drain.auto.floats ∙ (c.seek-sweep.auto.floats
-    ∙ c.store.auto.floats))
 
 pub returns : goal.returns
 returns c =
@@ -108,12 +68,11 @@ returns c =
     let seek = c.seek-sweep in
     let back = reverses-after _ _ _ _ _ _ store.ensures.fit c.requires.g_lt_n _ _ queue-at.ensures places-at.ensures insert.ensures c.requires.planning.reverses
     store.ensures seek.ensures.fact in
-    let near = searched_near _ _ _ _ _ _ store.ensures.fit c.requires.g_lt_n _ _ queue-at.ensures places-at.ensures insert.ensures (board_of c.args.rows.now
-    c.args.marks.now c.args.gases) _ _ _ _ (points_nowhere _ _ _ _ _ _ c.requires.planning.fit c.requires.g_lt_n store.ensures) seek.ensures.fact in
-    served _ _ _ _ _ _ store.ensures.fit c.requires.g_lt_n _ _ queue-at.ensures places-at.ensures insert.ensures (board_of c.args.rows.now c.args.marks.now
+    let near = searched_near _ _ _ _ _ _ store.ensures.fit c.requires.g_lt_n _ _ queue-at.ensures places-at.ensures insert.ensures (board_of c.args.tables.now c.args.gases) _ _ _ _ (points_nowhere _ _ _ _ _ _ c.requires.planning.fit c.requires.g_lt_n store.ensures) seek.ensures.fact in
+    served _ _ _ _ _ _ store.ensures.fit c.requires.g_lt_n _ _ queue-at.ensures places-at.ensures insert.ensures (board_of c.args.tables.now
     c.args.gases) c.requires.planning.sized.turfs _ _ _ _ _ c.load-i.ensures
     store.ensures seek.ensures.fact
-    (drained_by_edges _ _ _ _ (board_of c.args.rows.now c.args.marks.now c.args.gases) c.requires.planning.sized.linked c.requires.planning.sized.links
+    (drained_by_edges _ _ _ _ (board_of c.args.tables.now c.args.gases) c.requires.planning.sized.linked c.requires.planning.sized.links
     seek.ensures.fact.seeking seek.ensures.fact_2 back
     (skipped _ _ _ _ _ _ _ _ _ _ seek.ensures.fact.seeking c.least-first.ensures
     c.least.ensures near seek.ensures.idle _ c.drain.ensures

@@ -5,7 +5,7 @@ use Rattle.plan_state.proofs.Stores.{stored}
 use Rattle.plan_state.proofs.store.Goals as goal
 
 pub delta_at-requires : goal.delta_at-requires
-delta_at-requires c = record { row_bound = omega (arith, c.requires); e_bound = c.requires.plan_fits.links }
+delta_at-requires c = omega (arith, c.requires)
 
 pub offset_bounds-floats-delta_at : goal.offset_bounds-floats-delta_at
 offset_bounds-floats-delta_at c = omega (arith, c.delta_at.ensures, c.requires)
@@ -14,7 +14,7 @@ pub bounds-floats-delta_at : goal.bounds-floats-delta_at
 bounds-floats-delta_at c = (omega (arith, c.delta_at.ensures, c.requires))
 
 pub amount_at-requires : goal.amount_at-requires
-amount_at-requires c = record { row_bound = omega (arith, c.requires); e_bound = c.requires.plan_fits.links }
+amount_at-requires c = omega (arith, c.requires)
 
 pub offset_bounds-floats-amount_at : goal.offset_bounds-floats-amount_at
 offset_bounds-floats-amount_at c = omega (arith, c.amount_at.ensures, c.requires)
@@ -23,7 +23,7 @@ pub bounds-floats-amount_at : goal.bounds-floats-amount_at
 bounds-floats-amount_at c = simp length-set (omega (arith, c.amount_at.ensures, c.requires))
 
 pub direction_at-requires : goal.direction_at-requires
-direction_at-requires c = record { row_bound = omega (arith, c.requires); e_bound = c.requires.plan_fits.links }
+direction_at-requires c = omega (arith, c.requires)
 
 pub offset_bounds-words-direction_at : goal.offset_bounds-words-direction_at
 offset_bounds-words-direction_at c = omega (arith, c.direction_at.ensures, c.requires)
@@ -33,7 +33,7 @@ bounds-words-direction_at c = (omega (arith, c.direction_at.ensures, c.requires)
 
 pub fast_at-requires : goal.fast_at-requires
 fast_at-requires c =
-    let pre = c.requires in record { row_bound = omega (arith, pre); sizes = record { turfs = pre.plan_fits.turfs; links = pre.plan_fits.links } }
+    let pre = c.requires in omega (arith, pre)
 
 pub offset_bounds-words-fast_at : goal.offset_bounds-words-fast_at
 offset_bounds-words-fast_at c = omega (arith, c.fast_at.ensures, c.requires)

@@ -1,14 +1,13 @@
 -- By the three ways out. Assumes nothing.
-use borrow.Author.Tests.{not-true, not-false}
 use mathlib.Core.Path.{◌∙◌, sym}
 use Rattle.plan_trade.proofs.Trades.{bargain-none, bargain-all, bargain-some}
 use Rattle.plan_trade.proofs.barter.Goals as goal
 
 pub returns-then-not-wants : goal.returns-then-not-wants
-returns-then-not-wants c = bargain-none _ _ _ (sym c.wants.ensures ∙ not-true _ c.if-not-wants.true-raw)
+returns-then-not-wants c = bargain-none _ _ _ (sym c.wants.ensures ∙ c.if-not-wants.true)
 
 pub returns-then-more : goal.returns-then-more
-returns-then-more c = bargain-all _ _ _ (sym c.wants.ensures ∙ not-false _ c.if-not-wants.false-raw) (sym c.more.ensures ∙ c.if-more.true)
+returns-then-more c = bargain-all _ _ _ (sym c.wants.ensures ∙ c.if-not-wants.false) (sym c.more.ensures ∙ c.if-more.true)
 
 pub returns : goal.returns
-returns c = bargain-some _ _ _ (sym c.wants.ensures ∙ not-false _ c.if-not-wants.false-raw) (sym c.more.ensures ∙ c.if-more.false)
+returns c = bargain-some _ _ _ (sym c.wants.ensures ∙ c.if-not-wants.false) (sym c.more.ensures ∙ c.if-more.false)

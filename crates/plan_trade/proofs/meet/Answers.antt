@@ -6,7 +6,7 @@ use Rattle.plan_trade.proofs.meet.Goals as goal
 
 pub wants_at-can-requires : goal.wants_at-can-requires
 wants_at-can-requires c =
-    let pre = c.requires in record { row_bound = omega (arith, pre.fit.turfs, pre.met); e_bound = pre.fit.links; e_in_bounds = omega (arith, c.point.ensures.fit.floats, pre.met) }
+    let pre = c.requires in record { row_bound = omega (arith, pre.fit.turfs, pre.met); e_in_bounds = omega (arith, c.point.ensures.fit.floats, pre.met) }
 
 pub returns-then-can : goal.returns-then-can
 returns-then-can c = let point = c.point in

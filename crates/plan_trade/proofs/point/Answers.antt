@@ -4,7 +4,7 @@ use Rattle.plan_trade.proofs.Trades.{pointed}
 use Rattle.plan_trade.proofs.point.Goals as goal
 
 pub direction_at-requires : goal.direction_at-requires
-direction_at-requires c = record { row_bound = omega (arith, c.requires); e_bound = c.requires.plan_fits.links }
+direction_at-requires c = omega (arith, c.requires)
 
 pub offset_bounds-words-direction_at : goal.offset_bounds-words-direction_at
 offset_bounds-words-direction_at c = omega (arith, c.direction_at.ensures, c.requires)
@@ -13,7 +13,7 @@ pub bounds-words-direction_at : goal.bounds-words-direction_at
 bounds-words-direction_at c = omega (arith, c.direction_at.ensures, c.requires)
 
 pub amount_at-requires : goal.amount_at-requires
-amount_at-requires c = record { row_bound = omega (arith, c.requires); e_bound = c.requires.plan_fits.links }
+amount_at-requires c = omega (arith, c.requires)
 
 pub offset_bounds-floats-amount_at : goal.offset_bounds-floats-amount_at
 offset_bounds-floats-amount_at c = omega (arith, c.amount_at.ensures, c.requires)

@@ -1,8 +1,7 @@
 -- The loop's invariant: the nodes left, from here on, come to all nodes from the start. Assumes nothing.
-use Prim.Native.Nat.{ℕ, ◌≤◌, ◌-◌}
-use mathlib.Core.Path.{◌≡◌}
+use Prim.Native.Nat.{ℕ}
 use mathlib.Core.List.{List}
-use lib.ListN.{length, drop}
+use lib.ListN.{drop}
 use lib.Ieee.{Float}
 use Rattle.basics.specs.Floats.{0f, ◌-f◌}
 use Rattle.basics.specs.Loops.{run}
@@ -19,9 +18,5 @@ abbrev pub step : Board → List Float → Float → ℕ → Plan → Plan
 step b gas average r t = store t r (record { delta = total b gas r -f average; amount = 0f; direction = 0; fast = 0 })
 
 abbrev pub invariant-loop-i : goal.invariant-loop-i
-invariant-loop-i l = ((l.i ≤ l.count) × ((length l.words ≡ length l.initial.words) × (length l.floats ≡ length l.initial.floats)))
-    × Onto l.n l.e (λ o p. run (step (board_of l.rows l.marks l.gases) l.gas l.average) (drop l.i (nodes_of l.n l.e (plan_view l.n l.e (area l.initial.words l.initial.floats)) l.first l.count)) p)
-    (λ o p. run (step (board_of l.rows l.marks l.gases) l.gas l.average) (nodes_of l.n l.e (plan_view l.n l.e (area l.initial.words l.initial.floats)) l.first l.count) p) (area l.initial.words l.initial.floats) (area l.words l.floats)
-
-abbrev pub decreases-loop-i : goal.decreases-loop-i
-decreases-loop-i l = l.count - l.i
+invariant-loop-i l = Onto l.layout.turfs l.layout.links (λ o p. run (step (board_of l.tables l.gases) l.gas l.average) (drop l.i (nodes_of l.layout.turfs l.layout.links (plan_view l.layout.turfs l.layout.links (area l.initial.words l.initial.floats)) l.first l.count)) p)
+    (λ o p. run (step (board_of l.tables l.gases) l.gas l.average) (nodes_of l.layout.turfs l.layout.links (plan_view l.layout.turfs l.layout.links (area l.initial.words l.initial.floats)) l.first l.count) p) (area l.initial.words l.initial.floats) (area l.words l.floats)

@@ -1,4 +1,5 @@
-use Prim.Native.Nat.{◌-◌, ◌+◌}
+-- Each turn counts one node. Assumes nothing.
+use Prim.Native.Nat.{◌+◌, ◌<◌}
 use native.Mathlib.Omega.{arith}
 use mathlib.Core.Path.{◌∙◌, sym}
 use lib.ListN.{get_or}
@@ -6,49 +7,38 @@ use lib.Ieee.{nan}
 use Rattle.rules_plan.specs.Plan.{picks, chosen}
 use Rattle.rules_plan.specs.declared.Side.TheVariants.{Giving}
 use Rattle.plan_state.proofs.Nodes.{node-below}
-use Rattle.plan_zone.proofs.Counts.{count_next, count-end, cond-le}
+use Rattle.plan_zone.proofs.Counts.{count_next, count-end, cond-le, part-at, part-length}
 use Rattle.plan_zone.proofs.count_givers.Goals as goal
 
-pub loop-i-init : goal.loop-i-init
-loop-i-init c = unfold chosen in ((omega arith, omega arith), omega arith)
-
-pub overflow_add-first : goal.overflow_add-first
-overflow_add-first c = omega (arith, c.requires.nodes.room, c.loop-i.invariant.0, c.well_formed, c.loop-i-test.true)
-
-pub offset_bounds-words-first : goal.offset_bounds-words-first
-offset_bounds-words-first c = omega (arith, c.requires.nodes.room, c.loop-i.invariant.0, c.well_formed, c.loop-i-test.true)
-
-pub bounds-words-first : goal.bounds-words-first
-bounds-words-first c = omega (arith, c.requires.nodes.room, c.loop-i.invariant.0, c.well_formed, c.loop-i-test.true)
+pub loop-r-init : goal.loop-r-init
+loop-r-init c = unfold chosen in (omega arith, omega arith)
 
 pub count_one-c-requires : goal.count_one-c-requires
 count_one-c-requires c =
-    record {
-      room = omega (arith, c.requires.plan_fits.floats, node-below c.requires.nodes _ c.loop-i-test.true);
-      count = omega (arith, c.loop-i.invariant.0, c.loop-i-test.true, c.requires.nodes.few, c.requires.plan_fits.turfs);
-      row = node-below c.requires.nodes _ c.loop-i-test.true;
+    let zone = c.args.zone in
+    let nodes = c.requires.nodes in
+    let taken : c.loop-r.r-index < zone.count = omega (arith, c.loop-r-test.true, part-length zone.first zone.count c.args.words.now nodes.room) in
+    let below = node-below nodes _ taken in
+    rw (part-at zone.first zone.count c.args.words.now _ taken) (record {
+      room = omega (arith, c.requires.plan_fits.floats, below);
+      count = omega (arith, c.loop-r.invariant.0, taken, nodes.few, c.requires.plan_fits.turfs);
+      row = below;
       sizes = record { turfs = c.requires.plan_fits.turfs; links = c.requires.plan_fits.links };
-    }
+    })
 
-pub overflow_add-i : goal.overflow_add-i
-overflow_add-i c = omega (arith, c.loop-i-test.true, c.requires.nodes.few, c.requires.plan_fits.turfs)
-
-pub loop-i-smaller : goal.loop-i-smaller
-loop-i-smaller c = omega (arith, c.loop-i-test.true)
-
-pub loop-i-preserved : goal.loop-i-preserved
-loop-i-preserved c = (
-  (
-    omega (arith, c.loop-i-test.true),
-    omega (
-      arith,
-      c.loop-i.invariant.0,
-      c.count_one-c.ensures,
-      cond-le (picks Giving (get_or c.args.floats.now (c.args.zone.e + get_or c.args.words.now (c.args.zone.first + c.loop-i.i) 0 + get_or c.args.words.now (c.args.zone.first + c.loop-i.i) 0) nan)) c.loop-i.c,
-    ),
-  ),
-  sym (count_next c.requires.nodes _ _ c.loop-i-test.true _ c.count_one-c.ensures) ∙ c.loop-i.invariant.1,
-)
+pub loop-r-preserved : goal.loop-r-preserved
+loop-r-preserved c =
+    let zone = c.args.zone in
+    let loop = c.loop-r in
+    let nodes = c.requires.nodes in
+    let taken : loop.r-index < zone.count = omega (arith, c.loop-r-test.true, part-length zone.first zone.count c.args.words.now nodes.room) in
+    let r = get_or c.args.words.now (zone.first + loop.r-index) 0 in
+    let more = cond-le (picks Giving (get_or c.args.floats.now (zone.layout.links + r + r) nan)) loop.c in
+    let counted = rw (part-at zone.first zone.count c.args.words.now _ taken) at c.count_one-c.ensures in
+    (omega (arith, loop.invariant.0, counted, more), sym (count_next nodes _ _ taken _ counted) ∙ loop.invariant.1)
 
 pub returns : goal.returns
-returns c = sym (count-end c.requires.nodes _ _ c.loop-i-test.false) ∙ c.loop-i.invariant.1
+returns c =
+    let zone = c.args.zone in
+    let nodes = c.requires.nodes in
+    sym (count-end nodes _ _ (omega (arith, c.loop-r-test.false, part-length zone.first zone.count c.args.words.now nodes.room))) ∙ c.loop-r.invariant.1

@@ -6,7 +6,7 @@ use Rattle.plan_zone.proofs.count_one.Goals as goal
 
 pub delta_at-requires : goal.delta_at-requires
 delta_at-requires c =
-    record { row_bound = omega (arith, c.requires.row, c.requires.sizes.turfs); e_bound = c.requires.sizes.links }
+    omega (arith, c.requires.row, c.requires.sizes.turfs)
 
 pub offset_bounds-floats-delta_at : goal.offset_bounds-floats-delta_at
 offset_bounds-floats-delta_at c = omega (arith, c.delta_at.ensures, c.requires.row, c.requires.sizes.turfs, c.requires.sizes.links)

@@ -33,6 +33,6 @@ share_out-requires c =
 
 pub returns : goal.returns
 returns c =
-    processed (board_of c.args.rows.now c.args.marks.now c.args.gases) _ _ c.args.zone.first c.args.zone.count _ _ _ c.requires.nodes
+    processed (board_of c.args.tables.now c.args.gases) _ _ c.args.zone.first c.args.zone.count _ _ _ c.requires.nodes
     c.all_deltas.ensures
     c.fast_pass.ensures c.share_out.ensures

@@ -24,6 +24,6 @@ serve_all-requires c =
 
 pub returns : goal.returns
 returns c =
-    shared-out (board_of c.args.rows.now c.args.marks.now c.args.gases) _ _ _ _ c.requires.nodes c.count_givers-givers.ensures
+    shared-out (board_of c.args.tables.now c.args.gases) _ _ _ _ c.requires.nodes c.count_givers-givers.ensures
     c.side_of-side.ensures c.gather-listed.ensures
     c.serve_all.ensures

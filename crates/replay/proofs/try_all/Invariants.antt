@@ -1,9 +1,6 @@
--- A change keeps the length; what is left falls. Assumes nothing.
-use Rattle.std.proofs.Common.{◌≡◌, ◌-◌, length}
+-- A change keeps the length. Assumes nothing.
+use Rattle.std.proofs.Common.{◌≡◌, length}
 use Rattle.replay.proofs.try_all.Given as goal
 
 abbrev pub invariant-loop-n : goal.invariant-loop-n
 invariant-loop-n l = length l.vector ≡ length l.initial.vector
-
-abbrev pub decreases-loop-n : goal.decreases-loop-n
-decreases-loop-n l = length l.initial.vector - l.n

@@ -2,6 +2,7 @@
 use mathlib.Core.Path.{sym}
 use lib.Seq.{length-take-le}
 use native.Mathlib.Omega.{arith}
+use Rattle.vectors_same.proofs.Comes.{held_next}
 use Rattle.replay_one.proofs.replay.Goals as goal
 
 pub slice_bounds-play-end-2 : goal.slice_bounds-play-end-2
@@ -15,3 +16,6 @@ slice_bounds-play-end-4 c = sym (length-take-le _ _ (omega (arith, c.area_size-f
 
 pub slice_bounds-play-end-5 : goal.slice_bounds-play-end-5
 slice_bounds-play-end-5 c = sym (length-take-le _ _ (omega (arith, c.area_size-event_count.ensures.1)))
+
+pub returns-clause-next : goal.returns-clause-next
+returns-clause-next c = held_next c.play.ensures.held

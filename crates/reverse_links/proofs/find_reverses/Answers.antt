@@ -6,7 +6,7 @@ use Rattle.reverse_links.proofs.find_reverses.Goals as goal
 
 pub pair_rows-requires : goal.pair_rows-requires
 pair_rows-requires c =
-    let clear = but_cleared c.args.e c.args.e c.args.words.now c.requires.room c.clear_part.ensures in
+    let clear = but_cleared c.args.layout.links c.args.layout.links c.args.words.now c.requires.room c.clear_part.ensures in
     record {
       pairing = record { linked = c.requires.linked; all = c.requires.all; links = c.requires.links; turfs = c.requires.turfs; room = omega (arith, c.requires, clear.0.len) };
       paired = paired_none c.requires.linked _ _ c.requires.all clear.1;
@@ -14,7 +14,7 @@ pair_rows-requires c =
 
 pub returns : goal.returns
 returns c =
-    let clear = but_cleared c.args.e c.args.e c.args.words.now c.requires.room c.clear_part.ensures in
+    let clear = but_cleared c.args.layout.links c.args.layout.links c.args.words.now c.requires.room c.clear_part.ensures in
     record {
       but = but_then (omega arith) (omega arith) clear.0 c.pair_rows.ensures.but;
       backs = backs_of c.requires.linked c.requires.all c.pair_rows.ensures.paired_2;

@@ -1,4 +1,3 @@
-use Prim.Native.Nat.{◌-◌}
 use Rattle.vectors.proofs.Places.{through_none, through_next, through_all}
 use Rattle.vectors.proofs.table_at.Goals as goal
 

@@ -11,6 +11,6 @@ pub returns-then-x : goal.returns-then-x
 unfolding same_bits
 returns-then-x c = rw c.if-x.true refl
 
-pub returns : goal.returns
+pub returns-else-x : goal.returns-else-x
 unfolding same_bits
-returns c = rw c.if-x.false c.nan_bits.ensures
+returns-else-x c = rw c.if-x.false c.nan_bits.ensures

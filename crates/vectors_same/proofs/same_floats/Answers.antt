@@ -1,29 +1,23 @@
-use mathlib.Core.Path.{sym, ap, ◌∙◌}
-use mathlib.Core.Bool.{true}
-use Prim.Native.Nat.{◌-◌}
-use borrow.Author.Tests.{not-true, not-false}
-use Rattle.vectors_same.proofs.Tests.{starts, fails, goes_on, ends}
+-- The chain tests each element by its place, once the lengths are right. Assumes nothing.
+use Rattle.std.proofs.Common.{rules, ◌≡◌, ◌∙◌}
+use Rattle.std.proofs.lemmas.Iterator.{YieldsList-from_slice}
+use Rattle.std.proofs.lemmas.Iterator.Consumers.{YieldsList-from_enumerate}
+use Rattle.std.proofs.lemmas.Iterator.Search.{all_from_yields_List}
+use Rattle.std.specs.List.{list_all, enumerate_from}
+use borrow.Author.Tests.{tests, le-leb, lt-leb}
+use lib.Ieee.{nan}
+use Rattle.vectors.specs.Amounts.{same_bits}
+use Rattle.vectors.specs.Cells.{float_before}
+use Rattle.vectors_same.proofs.Tests.{all-below, length-met, length-unmet}
 use Rattle.vectors_same.specs.Same.{cells_after, same_floats}
 use Rattle.vectors_same.proofs.same_floats.Goals as goal
 
-pub loop-i-init : goal.loop-i-init
-loop-i-init c = starts _ _
-
-pub returns-then-not-has_bits : goal.returns-then-not-has_bits
+pub returns-then-zeros-floats : goal.returns-then-zeros-floats
 unfolding same_floats
-returns-then-not-has_bits c =
-    let loop = c.loop-i in
-    let on = c.loop-i-test.true in
-    let after = c.cell_after.ensures ∙ ap (cells_after c.args.zeros loop.i) c.float_before.ensures in
-    fails _ _ _ _ loop.invariant on (rw (← after) (sym c.has_bits.ensures ∙ not-true _ c.if-not-has_bits.true-raw))
+returns-then-zeros-floats c =
+    let all : c.all.result ≡ list_all (λ p. same_bits p.1 (cells_after c.args.zeros p.0 (float_before p.0))) (enumerate_from 0 c.args.floats.now) = all_from_yields_List (λ p. same_bits p.1 (cells_after c.args.zeros p.0 (float_before p.0))) _ _ _ c.all.ensures.ran (YieldsList-from_enumerate (YieldsList-from_slice c.args.floats.now (cc)) (cc)) (λ x b q k. search (rules, tests)) in
+    length-met _ _ (le-leb _ _ c.if-zeros-floats.true) (all ∙ all-below nan (λ i x. same_bits x (cells_after c.args.zeros i (float_before i))) c.args.floats.now)
 
-pub loop-i-preserved : goal.loop-i-preserved
-loop-i-preserved c =
-    let loop = c.loop-i in
-    let on = c.loop-i-test.true in
-    let after = c.cell_after.ensures ∙ ap (cells_after c.args.zeros loop.i) c.float_before.ensures in
-    goes_on _ _ _ true loop.invariant on (rw (← after) (sym c.has_bits.ensures ∙ not-false _ c.if-not-has_bits.false-raw))
-
-pub returns : goal.returns
+pub returns-else-zeros-floats : goal.returns-else-zeros-floats
 unfolding same_floats
-returns c = ends _ _ _ _ c.loop-i.invariant c.loop-i-test.false
+returns-else-zeros-floats c = length-unmet _ _ (lt-leb _ _ c.if-zeros-floats.false)

@@ -1,29 +1,21 @@
-use mathlib.Core.Path.{sym, ap, ◌∙◌}
-use mathlib.Core.Bool.{true}
-use Prim.Native.Nat.{◌-◌}
-use borrow.Author.Tests.{eq-eqb, ne_eqb}
-use Rattle.vectors_same.proofs.Tests.{starts, fails, goes_on, ends}
+-- The chain tests each element by its place, once the lengths are right. Assumes nothing.
+use Rattle.std.proofs.Common.{rules, ◌≡◌, ◌∙◌, eqb}
+use Rattle.std.proofs.lemmas.Iterator.{YieldsList-from_slice}
+use Rattle.std.proofs.lemmas.Iterator.Consumers.{YieldsList-from_enumerate}
+use Rattle.std.proofs.lemmas.Iterator.Search.{all_from_yields_List}
+use Rattle.std.specs.List.{list_all, enumerate_from}
+use borrow.Author.Tests.{tests, le-leb, lt-leb}
+use Rattle.vectors.specs.Cells.{word_before}
+use Rattle.vectors_same.proofs.Tests.{all-below, length-met, length-unmet}
 use Rattle.vectors_same.specs.Same.{cells_after, same_words}
 use Rattle.vectors_same.proofs.same_words.Goals as goal
 
-pub loop-i-init : goal.loop-i-init
-loop-i-init c = starts _ _
-
-pub returns-then-words-i : goal.returns-then-words-i
+pub returns-then-zeros-words : goal.returns-then-zeros-words
 unfolding same_words
-returns-then-words-i c =
-    let loop = c.loop-i in
-    let on = c.loop-i-test.true in
-    let after = c.cell_after.ensures ∙ ap (cells_after c.args.zeros loop.i) c.word_before.ensures in
-    fails _ _ _ _ loop.invariant on (ne_eqb _ _ (λ e. c.if-words-i.true (e ∙ sym after)))
+returns-then-zeros-words c =
+    let all : c.all.result ≡ list_all (λ p. eqb p.1 (cells_after c.args.zeros p.0 (word_before p.0))) (enumerate_from 0 c.args.words.now) = all_from_yields_List (λ p. eqb p.1 (cells_after c.args.zeros p.0 (word_before p.0))) _ _ _ c.all.ensures.ran (YieldsList-from_enumerate (YieldsList-from_slice c.args.words.now (cc)) (cc)) (λ x b q k. search (rules, tests)) in
+    length-met _ _ (le-leb _ _ c.if-zeros-words.true) (all ∙ all-below 0 (λ i w. eqb w (cells_after c.args.zeros i (word_before i))) c.args.words.now)
 
-pub loop-i-preserved : goal.loop-i-preserved
-loop-i-preserved c =
-    let loop = c.loop-i in
-    let on = c.loop-i-test.true in
-    let after = c.cell_after.ensures ∙ ap (cells_after c.args.zeros loop.i) c.word_before.ensures in
-    goes_on _ _ _ true loop.invariant on (eq-eqb _ _ (c.if-words-i.false ∙ after))
-
-pub returns : goal.returns
+pub returns-else-zeros-words : goal.returns-else-zeros-words
 unfolding same_words
-returns c = ends _ _ _ _ c.loop-i.invariant c.loop-i-test.false
+returns-else-zeros-words c = length-unmet _ _ (lt-leb _ _ c.if-zeros-words.false)

@@ -24,7 +24,7 @@ loop-t-preserved c =
     let args = c.args in
     let inv = c.loop-t.invariant in
     let turn = c.back-t.ensures in
-    let n = turf_count (board_at args.rows args.marks 0) in
+    let n = turf_count (board_at args.tables 0) in
     going_next (backing _) _ _ inv (turn-as inv _ _ turn.fact_2) (λ es. back-next _ _ _ _ _ turn.left_value (order-long n _ args.words.now p.fit.words (omega (arith, inv.fit.few))))
 
 pub shape_of-gas : goal.shape_of-gas

@@ -13,7 +13,7 @@ use Rattle.walk_back.proofs.back_all.Given as goal
 
 abbrev pub invariant-loop-t : goal.invariant-loop-t
 invariant-loop-t l =
-    let b = board_of l.rows l.marks l.gases in
+    let b = board_of l.tables l.gases in
     let order = region (out_sizes (turf_count b)) 2 l.initial.words in
     let step = back b l.arrows (directions (turf_count b) l.initial.words) in
     Going (backing b) (run step (reverse (take l.t.left order))) (run step (reverse (take l.initial.t.left order))) (back_state_at l.initial.t l.initial.gas l.initial.words l.initial.floats l.initial.events) (back_state_at l.t l.gas l.words l.floats l.events)

@@ -3,9 +3,6 @@ use native.Mathlib.Omega.{arith}
 use Rattle.walk_back.proofs.Ways.{rip_told}
 use Rattle.walk_back.proofs.rip.Goals as goal
 
-pub sums_at-requires : goal.sums_at-requires
-sums_at-requires c = c.requires.small
-
 pub overflow_add-amount : goal.overflow_add-amount
 overflow_add-amount c = let p = c.requires in omega (arith, c.sums_at.ensures, p.small, p.words, p.floats)
 

@@ -29,5 +29,5 @@ bounds-floats-d-2 c = let p = c.requires in simp length-set (omega (arith, p.to,
 pub returns : goal.returns
 returns c =
     let args = c.args in
-    let b = board_at args.rows args.marks args.gases in
+    let b = board_at args.tables args.gases in
     record { cleared = c.clear_air.ensures b refl refl; sum = c.total-sum.ensures b refl refl; mine = refl; theirs = refl; amounts = refl }

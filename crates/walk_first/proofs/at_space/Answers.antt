@@ -4,9 +4,6 @@ use Rattle.walk_first.proofs.Visits.{does-open}
 use native.Mathlib.Omega.{arith}
 use Rattle.walk_first.proofs.at_space.Goals as goal
 
-pub order_at-requires : goal.order_at-requires
-order_at-requires c = c.requires.fact.fit.small
-
 pub overflow_add-words : goal.overflow_add-words
 overflow_add-words c = let p = c.requires in omega (arith, c.order_at.ensures, p.fact.fit.small, p.fact.fit.few, p.fact.fit.past, p.fact.fit.line.few)
 

@@ -2,9 +2,6 @@
 use Rattle.rules_board.specs.Board.{planetary}
 use Rattle.walk_first.proofs.met.Goals as goal
 
-pub returns-then-before : goal.returns-then-before
-returns-then-before c = λ b p. rw c.if-before.true
-
-pub returns : goal.returns
+pub returns-else-before : goal.returns-else-before
 unfolding planetary
-returns c = λ b p. rw (c.if-before.false, p)
+returns-else-before c = λ b p. rw (c.if-before.false, p)

@@ -4,9 +4,6 @@ use Rattle.walk_first.proofs.Whole.{begun-queued, walked}
 use native.Mathlib.Omega.{arith}
 use Rattle.walk_first.proofs.walk.Goals as goal
 
-pub spots_at-spots-requires : goal.spots_at-spots-requires
-spots_at-spots-requires c = c.requires.ground.small.turfs
-
 pub insert-requires : goal.insert-requires
 insert-requires c =
     let p = c.requires in record { count_in_bounds = omega (arith, p.inside, p.words); a_in_bounds = omega (arith, p.inside, p.words, c.spots_at-spots.ensures); count_bound = omega arith }

@@ -1,4 +1,3 @@
-use Prim.Native.Nat.{◌-◌}
 use native.Mathlib.Omega.{arith}
 use Rattle.rules_board.specs.Board.{turf_count}
 use Rattle.turfs.specs.Tables.{board_at}
@@ -12,7 +11,7 @@ pub loop-kind-init : goal.loop-kind-init
 loop-kind-init c =
     let p = c.requires in
     let args = c.args in
-    let b = board_at args.rows args.marks 0 in
+    let b = board_at args.tables 0 in
     going_start (walking _) p.fact.fit (written-room _ _ p.fact.fit) (λ v. steps_start b args.kind args.limit (turf_count b) _ p.walked_value v)
 
 pub walk_next-t-requires : goal.walk_next-t-requires
@@ -31,7 +30,7 @@ loop-kind-smaller c =
     let loop = c.loop-kind in
     let if1 = c.loop-kind-test in
     let goes_on = c.goes_on in
-    let b = board_at args.rows args.marks 0 in
+    let b = board_at args.tables 0 in
     omega (arith, turn-counts b args.kind args.limit (turf_count b) _ _ walk-next.ensures, on-less loop.t _ if1.true goes_on.ensures, loop.invariant.fit.line.few)
 
 pub loop-kind-preserved : goal.loop-kind-preserved
@@ -41,7 +40,7 @@ loop-kind-preserved c =
     let loop = c.loop-kind in
     let goes_on = c.goes_on in
     let if1 = c.loop-kind-test in
-    let b = board_at args.rows args.marks 0 in
+    let b = board_at args.tables 0 in
     let turn = walk-next.ensures in
     going_next (walking _) _ _ loop.invariant turn
     (λ es. steps_next b args.kind args.limit (turf_count b) _ _ _ loop.invariant.fit _ goes_on.ensures es if1.true _ (turn-counts b args.kind args.limit (turf_count b) _ _ turn))
@@ -55,5 +54,5 @@ shape_of-events c = kept-area c.loop-kind.invariant
 pub returns : goal.returns
 returns c =
     let args = c.args in
-    let b = board_at args.rows args.marks 0 in
+    let b = board_at args.tables 0 in
     going_end (walking _) c.loop-kind.invariant (λ es. steps_end b args.kind args.limit (turf_count b) _ _ _ c.loop-kind.invariant.fit _ c.goes_on.ensures es c.loop-kind-test.false)

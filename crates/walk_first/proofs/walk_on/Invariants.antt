@@ -11,10 +11,10 @@ use Rattle.walk_first.proofs.walk_on.Given as goal
 
 abbrev pub invariant-loop-kind : goal.invariant-loop-kind
 invariant-loop-kind l =
-    let b = board_of l.rows l.marks 0 in
+    let b = board_of l.tables 0 in
     let n = turf_count b in
     let step = walk_next b (visit b l.kind l.limit) in
     Going (walking n) (times step (n - l.t.walked)) (times step n) (walk_at l.initial.t l.initial.words l.initial.events) (walk_at l.t l.words l.events)
 
 abbrev pub decreases-loop-kind : goal.decreases-loop-kind
-decreases-loop-kind l = turf_count (board_of l.rows l.marks 0) - l.t.walked
+decreases-loop-kind l = turf_count (board_of l.tables 0) - l.t.walked

@@ -1,14 +1,10 @@
 -- Each return is a law of one link. Assumes nothing.
-use borrow.Author.Tests.{not-true, not-false}
 use native.Mathlib.Omega.{arith}
 use mathlib.Core.Path.{◌∙◌, sym}
 use Rattle.events.proofs.Areas.{one-added}
 use Rattle.walk_links.proofs.Links.{count_less, link-old, link-open, link-locked, lock_room}
 use Rattle.walk_links.proofs.LinksOf.{leads-below}
 use Rattle.walk_links.proofs.walk_link.Goals as goal
-
-pub spots_at-spots-requires : goal.spots_at-spots-requires
-spots_at-spots-requires c = c.requires.fact.fit.small
 
 pub contains-requires : goal.contains-requires
 contains-requires c =
@@ -44,7 +40,7 @@ returns-then-not-firelock c =
     let if1 = c.if-contains in
     let contains = c.contains in
     link-open _ _ _ _ p.fact_2 _ _ _ p.fact.fit below (sym if1.false ∙ contains.ensures)
-    (sym (not-true _ c.if-not-firelock.true-raw) ∙ c.firelock.ensures) _ _ c.joined.ensures (rw c.spots_at-spots.ensures at c.insert.ensures)
+    (sym c.if-not-firelock.true ∙ c.firelock.ensures) _ _ c.joined.ensures (rw c.spots_at-spots.ensures at c.insert.ensures)
 
 pub bounds-ids-a : goal.bounds-ids-a
 bounds-ids-a c = let p = c.requires in leads-below p.fact.ground p.fact_2
@@ -76,4 +72,4 @@ returns c =
     let insert = rw c.spots_at-spots.ensures at c.insert.ensures in
     let append = c.append in
     link-locked _ _ _ _ p.fact_2 _ _ _ p.fact.fit below (sym if1.false ∙ contains.ensures)
-    (sym (not-false _ if2.false-raw) ∙ firelock.ensures) _ _ _ _ c.joined-2.ensures insert (one-added _ append.ensures)
+    (sym if2.false ∙ firelock.ensures) _ _ _ _ c.joined-2.ensures insert (one-added _ append.ensures)

@@ -11,8 +11,5 @@ use Rattle.walk_links.proofs.walk_links.Given as goal
 
 abbrev pub invariant-loop-i : goal.invariant-loop-i
 invariant-loop-i l =
-    let b = board_of l.rows l.marks 0 in
+    let b = board_of l.tables 0 in
     Going (walking (turf_count b)) (run (walk_link b l.row) (up_from (l.from + l.i) (length l.near - l.i))) (run (walk_link b l.row) (links_of b l.row)) (walk_at l.initial.t l.initial.words l.initial.events) (walk_at l.t l.words l.events)
-
-abbrev pub decreases-loop-i : goal.decreases-loop-i
-decreases-loop-i l = length l.near - l.i

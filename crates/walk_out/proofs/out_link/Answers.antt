@@ -11,19 +11,13 @@ is_immutable-requires c = let p = c.requires in (rw p.fact.ground.mixtures p.a_b
 pub returns-then-is_immutable : goal.returns-then-is_immutable
 returns-then-is_immutable c = λ k q. link-immutable _ _ k _ q _ _ _ c.requires.fact.fit (sym c.if-is_immutable.true ∙ c.is_immutable.ensures _ refl refl)
 
-pub order_at-order-requires : goal.order_at-order-requires
-order_at-order-requires c = c.requires.fact.fit.small
-
-pub spots_at-spots-requires : goal.spots_at-spots-requires
-spots_at-spots-requires c = c.requires.fact.fit.small
-
 pub contains-requires : goal.contains-requires
 contains-requires c = let p = c.requires in (order-set _ _ _ _ p.fact.fit _ _ c.order_at-order.ensures c.spots_at-spots.ensures, p.a_bound)
 
 pub returns-then-contains : goal.returns-then-contains
 returns-then-contains c =
     let args = c.args in
-    let n = turf_count (board_at args.rows args.marks 0) in
+    let n = turf_count (board_at args.tables 0) in
     let pre = c.requires in
     let if1 = c.if-is_immutable in
     let is-immutable = c.is_immutable in
@@ -35,7 +29,7 @@ pub out_to-requires : goal.out_to-requires
 out_to-requires c =
     let p = c.requires in
     let args = c.args in
-    let n = turf_count (board_at args.rows args.marks 0) in
+    let n = turf_count (board_at args.tables 0) in
     record {
       fit = p.fact.fit;
       from = p.fact.inside;
@@ -46,7 +40,7 @@ out_to-requires c =
 pub returns : goal.returns
 returns c =
     let args = c.args in
-    let n = turf_count (board_at args.rows args.marks 0) in
+    let n = turf_count (board_at args.tables 0) in
     let pre = c.requires in
     let if1 = c.if-is_immutable in
     let is-immutable = c.is_immutable in

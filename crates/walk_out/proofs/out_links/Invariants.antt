@@ -9,10 +9,7 @@ use Rattle.rules_out.specs.Out.{out_link}
 use Rattle.walk_out.specs.Outed.{out_at, outing}
 use Rattle.walk_out.proofs.out_links.Given as goal
 
-abbrev pub invariant-loop-i : goal.invariant-loop-i
-invariant-loop-i l =
-    let b = board_of l.rows l.marks 0 in
-    Going (outing (turf_count b)) (run (out_link b l.row) (up_from (get_or b.starts l.row 0 + l.i) (length l.near - l.i))) (run (out_link b l.row) (links_of b l.row)) (out_at l.initial.t l.initial.words l.initial.events) (out_at l.t l.words l.events)
-
-abbrev pub decreases-loop-i : goal.decreases-loop-i
-decreases-loop-i l = length l.near - l.i
+abbrev pub invariant-loop-a : goal.invariant-loop-a
+invariant-loop-a l =
+    let b = board_of l.tables 0 in
+    Going (outing (turf_count b)) (run (out_link b l.row) (up_from (get_or b.starts l.row 0 + l.a-index) (length l.near - l.a-index))) (run (out_link b l.row) (links_of b l.row)) (out_at l.initial.t l.initial.words l.initial.events) (out_at l.t l.words l.events)

@@ -1,4 +1,3 @@
-use Prim.Native.Nat.{◌-◌}
 use native.Mathlib.Omega.{arith}
 use Rattle.rules_board.specs.Board.{turf_count}
 use Rattle.turfs.specs.Tables.{board_at}
@@ -12,7 +11,7 @@ pub loop-t-init : goal.loop-t-init
 loop-t-init c =
     let p = c.requires in
     let args = c.args in
-    let b = board_at args.rows args.marks 0 in
+    let b = board_at args.tables 0 in
     going_start (outing _) p.fact.fit (written-room _ _ p.fact.fit) (λ v. steps_start b args.limit (turf_count b) _ p.place_value v)
 
 pub out_row-t-requires : goal.out_row-t-requires
@@ -21,13 +20,13 @@ out_row-t-requires c = record { fact = record { ground = c.requires.fact.ground;
 pub loop-t-smaller : goal.loop-t-smaller
 loop-t-smaller c =
     let args = c.args in
-    let b = board_at args.rows args.marks 0 in
+    let b = board_at args.tables 0 in
     omega (arith, turn-counts b args.limit (turf_count b) _ _ c.out_row-t.ensures, c.loop-t-test.true, c.loop-t.invariant.fit.line.few)
 
 pub loop-t-preserved : goal.loop-t-preserved
 loop-t-preserved c =
     let args = c.args in
-    let b = board_at args.rows args.marks 0 in
+    let b = board_at args.tables 0 in
     let turn = c.out_row-t.ensures in
     going_next (outing _) _ _ c.loop-t.invariant turn
     (λ es. steps_next b args.limit (turf_count b) _ _ _ c.loop-t.invariant.fit es c.loop-t-test.true _ (turn-counts b args.limit (turf_count b) _ _ turn))
@@ -41,5 +40,5 @@ shape_of-events c = kept-area c.loop-t.invariant
 pub returns : goal.returns
 returns c =
     let args = c.args in
-    let b = board_at args.rows args.marks 0 in
+    let b = board_at args.tables 0 in
     going_end (outing _) c.loop-t.invariant (λ es. steps_end b args.limit (turf_count b) _ _ _ c.loop-t.invariant.fit es c.loop-t-test.false)

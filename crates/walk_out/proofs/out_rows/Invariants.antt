@@ -10,9 +10,9 @@ use Rattle.walk_out.proofs.out_rows.Given as goal
 
 abbrev pub invariant-loop-t : goal.invariant-loop-t
 invariant-loop-t l =
-    let b = board_of l.rows l.marks 0 in
+    let b = board_of l.tables 0 in
     let n = turf_count b in
     Going (outing n) (times (out_next b l.limit) (n - l.t.place)) (times (out_next b l.limit) n) (out_at l.initial.t l.initial.words l.initial.events) (out_at l.t l.words l.events)
 
 abbrev pub decreases-loop-t : goal.decreases-loop-t
-decreases-loop-t l = turf_count (board_of l.rows l.marks 0) - l.t.place
+decreases-loop-t l = turf_count (board_of l.tables 0) - l.t.place

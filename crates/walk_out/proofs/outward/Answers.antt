@@ -4,14 +4,8 @@ use Rattle.walk_out.proofs.Owns.{listed, start-passing, outed}
 use native.Mathlib.Omega.{arith}
 use Rattle.walk_out.proofs.outward.Goals as goal
 
-pub ways_at-requires : goal.ways_at-requires
-ways_at-requires c = c.requires.ground.small.turfs
-
 pub clear_part-requires : goal.clear_part-requires
 clear_part-requires c = let p = c.requires in omega (arith, p.list.words, c.ways_at.ensures)
-
-pub targets_at-requires : goal.targets_at-requires
-targets_at-requires c = c.requires.ground.small.turfs
 
 pub clear_part-requires-2 : goal.clear_part-requires-2
 clear_part-requires-2 c = let p = c.requires in omega (arith, p.list.words, c.targets_at.ensures, c.words-1.given)

@@ -1,10 +1,6 @@
 -- A loop over the space turfs: those behind it have their places. Assumes nothing.
-use Prim.Native.Nat.{◌≤◌, ◌-◌}
 use Rattle.walk_out.proofs.Owns.{Owning}
 use Rattle.walk_out.proofs.own_targets.Given as goal
 
 abbrev pub invariant-loop-i : goal.invariant-loop-i
-invariant-loop-i l = (l.i ≤ l.spaces) × Owning l.ids l.spaces l.initial.words l.i l.words
-
-abbrev pub decreases-loop-i : goal.decreases-loop-i
-decreases-loop-i l = l.spaces - l.i
+invariant-loop-i l = Owning l.ids l.spaces l.initial.words l.i l.words

@@ -5,15 +5,6 @@ use mathlib.Core.Path.{refl}
 use Rattle.walk_steps.proofs.Steps.{row_at}
 use Rattle.walk_steps.proofs.own_target.Goals as goal
 
-pub order_at-order-requires : goal.order_at-order-requires
-order_at-order-requires c = c.requires.small
-
-pub spots_at-spots-requires : goal.spots_at-spots-requires
-spots_at-spots-requires c = c.requires.small
-
-pub targets_at-targets-requires : goal.targets_at-targets-requires
-targets_at-targets-requires c = c.requires.small
-
 pub overflow_add-row : goal.overflow_add-row
 overflow_add-row c = let p = c.requires in omega (arith, c.order_at-order.ensures, p.small, p.few)
 

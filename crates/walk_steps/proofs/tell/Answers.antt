@@ -1,5 +1,4 @@
 -- Two records, or three. Assumes nothing.
-use borrow.Author.Tests.{not-true, not-false}
 use Rattle.walk_steps.proofs.Steps.{high-room, mine-room, theirs-room, told-two, told-three}
 use borrow.Author.Rules.{rules}
 use Rattle.walk_steps.proofs.tell.Goals as goal
@@ -19,7 +18,7 @@ returns-then-not-last c =
     let pre = c.requires in
     let append = c.append-at in
     let append2 = c.append-to in
-    told-two a.arrows a.id a.next a.mine a.theirs a.used a.events.now pre.room _ c.tip-tip.ensures _ _ append.ensures _ _ append2.ensures a.last (not-true a.last c.if-not-last.true-raw)
+    told-two a.arrows a.id a.next a.mine a.theirs a.used a.events.now pre.room _ c.tip-tip.ensures _ _ append.ensures _ _ append2.ensures a.last c.if-not-last.true
 
 pub append-requires : goal.append-requires
 append-requires c =
@@ -34,5 +33,5 @@ returns c =
     let append = c.append-at in
     let append2 = c.append-to in
     let if1 = c.if-not-last in
-    told-three a.arrows a.id a.next a.mine a.theirs a.used a.events.now pre.room _ c.tip-tip.ensures _ _ append.ensures _ _ append2.ensures a.last (not-false a.last if1.false-raw)
+    told-three a.arrows a.id a.next a.mine a.theirs a.used a.events.now pre.room _ c.tip-tip.ensures _ _ append.ensures _ _ append2.ensures a.last if1.false
     c.append.ensures
