@@ -4,9 +4,9 @@ use Rattle.basics.specs.Lists.{All}
 use Rattle.rules_board.specs.Board.{Board}
 use Rattle.events.specs.Interface.{read_event, write_event}
 use Rattle.rules_lent.specs.Lent.{Lent, Result}
-use Rattle.rules_equalize.specs.Result.{EqualizeAnswer}
-use Rattle.rules_planet.specs.Planet.{PlanetAnswer}
-use Rattle.rules_depressurize.specs.Depressurize.{DepressurizeAnswer}
+use Rattle.rules_equalize.specs.declared.EqualizeAnswer.{EqualizeAnswer}
+use Rattle.rules_planet.specs.declared.PlanetAnswer.{PlanetAnswer}
+use Rattle.rules_depressurize.specs.declared.DepressurizeAnswer.{DepressurizeAnswer}
 
 -- number, cancelled, processed, tests, zones, apart, bytes
 abbrev pub equalize_numbers : EqualizeAnswer → List ℕ

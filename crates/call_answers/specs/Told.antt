@@ -3,9 +3,10 @@ use Rattle.std.specs.Prelude.{ℕ, Result, Ok, Err}
 use Rattle.lent.specs.Given.{number_of}
 use Rattle.lent.specs.declared.Refusal.{Refusal}
 use Rattle.rules_equalize.specs.Equalize.{bit}
-use Rattle.rules_equalize.specs.Result.{EqualizeAnswer, refused_equalize}
-use Rattle.rules_planet.specs.Planet.{PlanetAnswer}
-use Rattle.rules_depressurize.specs.Depressurize.{DepressurizeAnswer}
+use Rattle.rules_equalize.specs.Result.{refused_equalize}
+use Rattle.rules_equalize.specs.declared.EqualizeAnswer.{EqualizeAnswer}
+use Rattle.rules_planet.specs.declared.PlanetAnswer.{PlanetAnswer}
+use Rattle.rules_depressurize.specs.declared.DepressurizeAnswer.{DepressurizeAnswer}
 use Rattle.call_answers.specs.declared.EqualizeDone.{EqualizeDone}
 use Rattle.call_answers.specs.declared.DepressurizeDone.{DepressurizeDone}
 use Rattle.call_answers.specs.declared.Outcome.{Outcome}

@@ -6,6 +6,9 @@ ghost use Rattle.call_answers.specs.Answers.{equalize_numbers, planet_numbers, d
 ghost use Rattle.call_answers.specs.Told.{equalize_answer, planet_answer, depressurize_answer};
 
 use lent::Refusal;
+use rules_depressurize::DepressurizeAnswer;
+use rules_equalize::EqualizeAnswer;
+use rules_planet::PlanetAnswer;
 
 // What equalize came to: whether the clock cancelled it, nodes processed, clock tests, zones, whether they are apart, event bytes.
 #[derive(Clone, Copy, PartialEq, Eq, Debug)]
@@ -33,40 +36,88 @@ pub struct DepressurizeDone {
     pub bytes: u32,
 }
 
-// Number, cancelled, processed, tests, zones, apart, bytes. By hand, as the next two: `From<Result<..>>` for an array isn't ours to write.
-pub fn equalize_numbers(answer: Result<EqualizeDone, Refusal>) -> [u32; 7]
-    ensures { result ≡ equalize_numbers (equalize_answer answer) }
+// equalize's answer by its number: a refusal has all else 0. No `From`, here and below: neither `Result` nor the answer is a type of this crate.
+pub fn equalize_answer(told: Result<EqualizeDone, Refusal>) -> EqualizeAnswer
+    ensures { result ≡ equalize_answer told }
 {
-    match answer {
-        Ok(a) => [
-            0,
-            u32::from(a.cancelled),
-            a.processed,
-            a.tests,
-            a.zones,
-            u32::from(a.apart),
-            a.bytes,
-        ],
-        Err(refusal) => [refusal.into(), 0, 0, 0, 0, 0, 0],
+    match told {
+        Ok(done) => EqualizeAnswer {
+            number: 0,
+            cancelled: u32::from(done.cancelled),
+            processed: done.processed,
+            tests: done.tests,
+            zones: done.zones,
+            apart: u32::from(done.apart),
+            bytes: done.bytes,
+        },
+        Err(refusal) => EqualizeAnswer {
+            number: refusal.into(),
+            cancelled: 0,
+            processed: 0,
+            tests: 0,
+            zones: 0,
+            apart: 0,
+            bytes: 0,
+        },
     }
+}
+
+// The planet walk's: its bytes.
+pub fn planet_answer(told: Result<u32, Refusal>) -> PlanetAnswer
+    ensures { result ≡ planet_answer told }
+{
+    match told {
+        Ok(bytes) => PlanetAnswer { number: 0, bytes },
+        Err(refusal) => PlanetAnswer {
+            number: refusal.into(),
+            bytes: 0,
+        },
+    }
+}
+
+// depressurize's.
+pub fn depressurize_answer(told: Result<DepressurizeDone, Refusal>) -> DepressurizeAnswer
+    ensures { result ≡ depressurize_answer told }
+{
+    match told {
+        Ok(done) => DepressurizeAnswer {
+            number: 0,
+            outcome: done.outcome as u32,
+            bytes: done.bytes,
+        },
+        Err(refusal) => DepressurizeAnswer {
+            number: refusal.into(),
+            outcome: 0,
+            bytes: 0,
+        },
+    }
+}
+
+// Number, cancelled, processed, tests, zones, apart, bytes.
+pub fn equalize_numbers(a: EqualizeAnswer) -> [u32; 7]
+    ensures { result ≡ equalize_numbers a }
+{
+    [
+        a.number,
+        a.cancelled,
+        a.processed,
+        a.tests,
+        a.zones,
+        a.apart,
+        a.bytes,
+    ]
 }
 
 // Number, bytes.
-pub fn planet_numbers(answer: Result<u32, Refusal>) -> [u32; 2]
-    ensures { result ≡ planet_numbers (planet_answer answer) }
+pub fn planet_numbers(a: PlanetAnswer) -> [u32; 2]
+    ensures { result ≡ planet_numbers a }
 {
-    match answer {
-        Ok(bytes) => [0, bytes],
-        Err(refusal) => [refusal.into(), 0],
-    }
+    [a.number, a.bytes]
 }
 
 // Number, outcome, bytes.
-pub fn depressurize_numbers(answer: Result<DepressurizeDone, Refusal>) -> [u32; 3]
-    ensures { result ≡ depressurize_numbers (depressurize_answer answer) }
+pub fn depressurize_numbers(a: DepressurizeAnswer) -> [u32; 3]
+    ensures { result ≡ depressurize_numbers a }
 {
-    match answer {
-        Ok(a) => [0, a.outcome as u32, a.bytes],
-        Err(refusal) => [refusal.into(), 0, 0],
-    }
+    [a.number, a.outcome, a.bytes]
 }

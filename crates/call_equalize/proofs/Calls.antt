@@ -28,7 +28,8 @@ use Rattle.fill_all.specs.declared.Filling.{Filling}
 use Rattle.fill_all.proofs.Asked.{extra, let_pass, let_links}
 use Rattle.rules_finish.specs.Turns.{node_count}
 use Rattle.rules_equalize.specs.Equalize.{Ask, Equalized, filled_all, cancel, played, equalize}
-use Rattle.rules_equalize.specs.Result.{EqualizeAnswer, equalize_room, refused_equalize, equalize_number, equalize_done, equalize_result}
+use Rattle.rules_equalize.specs.Result.{equalize_room, refused_equalize, equalize_number, equalize_done, equalize_result}
+use Rattle.rules_equalize.specs.declared.EqualizeAnswer.{EqualizeAnswer}
 use Rattle.laws_equalize.proofs.Zones.{node-room, zone-room, test_room}
 use Rattle.laws_equalize.proofs.Room.{events-room}
 use Rattle.call_equalize.specs.Parts.{CallFills, CallFilled, Comes}

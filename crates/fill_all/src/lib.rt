@@ -1,8 +1,7 @@
 // Filling: zones from the hot turfs. Its definition is `filled_all` of crate rules_equalize; specs/Held.antt says how the work areas hold it.
 #![tactic(auto)]
 
-ghost use Rattle.std.specs.Prelude.{◌≡◌, true, List, ℕ, ◌≤◌, length};
-ghost use Rattle.basics.specs.Floats.{finite_sign_clear};
+ghost use Rattle.std.specs.Prelude.{◌≡◌, List, ℕ, ◌≤◌, length};
 ghost use Rattle.rules_board.specs.Board.{turf_count, link_count};
 ghost use Rattle.turfs.specs.Tables.{board_at, Accepted};
 ghost use Rattle.rules_fill.specs.Fill.{is_over};
@@ -93,7 +92,6 @@ fn hot_id(
     events: &mut [u8],
 ) -> Filling
     requires accepted { Accepted (board_at tables gases) (length gas.now) }
-    requires threshold_value { finite_sign_clear settings.threshold ≡ true }
     requires hot_fits { HotFits (board_at tables gases) settings.allowance s words.old floats.old events.old }
     ensures { let b = board_at tables.entry gases in ((hot : List ℕ) → Fills (turf_count b) (link_count b)
         (hot_id b gas.now (asked hot settings) id) s result
@@ -152,7 +150,6 @@ pub fn fill_all(
     events: &mut [u8],
 ) -> Filling
     requires accepted { Accepted (board_at tables gases) (length gas.now) }
-    requires threshold_value { finite_sign_clear settings.threshold ≡ true }
     requires fill_fits { FillFits (board_at tables gases) words.old floats.old events.old }
     ensures { let b = board_at tables.entry gases in FillsAll (turf_count b) (link_count b)
         (filled_all b gas.now (asked hot.now settings)) result

@@ -1,4 +1,4 @@
-// `flood_fill_zones`: one zone, from one turf. Its definition stands in crate rules_fill; specs/Held.antt says how the work area holds it.
+// One turf's links during a fill: what each reaches. Its definition stands in crate rules_fill; specs/Held.antt says how the work area holds it.
 #![tactic(auto)]
 
 ghost use Rattle.std.specs.Prelude.{◌≡◌, not, ◌&&◌, ℕ, ◌+◌, ◌≤◌, ◌<◌, eqb, length, get_or};
@@ -48,7 +48,8 @@ fn across_firelock(row: usize, k: usize, planetary: &[u8], link_flags: &[u8]) ->
     planetary[row] != 0 && AdjacentFlags(link_flags[k]).firelock()
 }
 
-// The neighbour at `row`, over the link k.
+// The neighbour at `row`, over the link k. That the tables fit stays a clause, here and below: whoever calls holds `accepted`, which says it, and would
+// make a value of a type at each call.
 fn meet(row: u32, k: usize, tables: &LentTables) -> Met
     requires tables_fit { TablesFit (board_at tables 0) }
     requires row_bound { row < turf_count (board_at tables 0) }

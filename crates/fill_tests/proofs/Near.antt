@@ -1,50 +1,29 @@
--- The tests of a hot turf: |d| < t is d < t and -t < d; no links, few moles, or all neighbours near. Assumes nothing.
-use Prim.Native.Nat.{ℕ, ◌+◌, ◌-◌, ◌*◌, ◌≤◌}
+-- The tests of a hot turf: |d| as the library has it; no links, few moles, or all neighbours near. Assumes nothing.
+use Prim.Native.Nat.{ℕ, ◌+◌, ◌-◌, ◌≤◌}
 use native.Mathlib.Omega.{arith}
 use mathlib.Core.Path.{◌≡◌, refl, ap, ◌∙◌, sym}
 use mathlib.Core.List.{List}
 use mathlib.Core.Bool.{Bool, true, false, ◌||◌}
-use lib.Dec.{eqb, ltb}
-use lib.Ieee.{Float, nan, inf, fin, lt, neg, up, down}
+use lib.Dec.{eqb}
+use lib.Ieee.{Float, nan, inf, fin, lt}
 use lib.ListN.{length, get_or}
-use borrow.Author.Tests.{ltb-true, ltb-false, lt-ltb, le-ltb, eq-eqb, ne_eqb}
+use borrow.Author.Tests.{eq-eqb, ne_eqb}
+use Rattle.std.specs.Float.{float_with_sign}
 use Rattle.basics.specs.Loops.{every, up_from}
-use Rattle.basics.specs.Floats.{abs, finite_sign_clear, ◌-f◌}
-use Rattle.basics.proofs.Tests.{differ}
+use Rattle.basics.specs.Floats.{abs, ◌-f◌}
 use Rattle.basics.proofs.Lists.{up_from-length}
 use Rattle.rules_board.specs.Board.{Board, end, links_of}
 use Rattle.rules_mixture.specs.Mixture.{total}
 use Rattle.rules_equalize.specs.Equalize.{Ask, 10f, near}
 
--- ---- |d| < t
+-- ---- |d|
 
-below_both : (a c : ℕ) → ltb a c ≡ true → ltb 0 (c + a) ≡ ltb a c
-below_both a c h = lt-ltb 0 (c + a) (omega (arith, ltb-true a c h)) ∙ sym h
-
-below_none : (a c : ℕ) → ltb 0 (a + c) ≡ false → false ≡ ltb a c
-below_none a c h = sym (le-ltb a c (omega (arith, ltb-false 0 (a + c) h)))
-
-pub near-here : (d t : Float) → finite_sign_clear t ≡ true → lt d t ≡ true → lt (neg t) d ≡ lt (abs d) t
-unfolding finite_sign_clear lt neg
-near-here d nan c h = absurd (differ (sym c))
-near-here d (inf s) c h = absurd (differ (sym c))
-near-here d (fin true n k) c h = absurd (differ (sym c))
-near-here nan (fin false n k) c h = absurd (differ (sym h))
-near-here (inf true) (fin false n k) c h = refl
-near-here (inf false) (fin false n k) c h = absurd (differ (sym h))
-near-here (fin true m e) (fin false n k) c h = refl
-near-here (fin false m e) (fin false n k) c h = below_both (m * up e * down k) (n * up k * down e) h
-
-pub near-not : (d t : Float) → finite_sign_clear t ≡ true → lt d t ≡ false → false ≡ lt (abs d) t
-unfolding finite_sign_clear lt
-near-not d nan c h = absurd (differ (sym c))
-near-not d (inf s) c h = absurd (differ (sym c))
-near-not d (fin true n k) c h = absurd (differ (sym c))
-near-not nan (fin false n k) c h = refl
-near-not (inf true) (fin false n k) c h = refl
-near-not (inf false) (fin false n k) c h = refl
-near-not (fin true m e) (fin false n k) c h = below_none (m * up e * down k) (n * up k * down e) h
-near-not (fin false m e) (fin false n k) c h = sym h
+-- `x.abs()` is the definition's
+pub abs-is : (x : Float) → float_with_sign false x ≡ abs x
+unfolding float_with_sign
+abs-is nan = refl
+abs-is (inf s) = refl
+abs-is (fin s m e) = refl
 
 -- ---- the tests of a turf
 

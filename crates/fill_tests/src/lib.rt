@@ -1,10 +1,10 @@
 // Whether a hot turf is passed over: the tests that it must pass before a zone is filled from it.
 #![tactic(auto)]
 
-ghost use Rattle.std.specs.Prelude.{◌≡◌, true, ◌||◌, ◌-◌, ◌≤◌, ◌<◌, eqb, length};
+ghost use Rattle.std.specs.Prelude.{◌≡◌, ◌||◌, ◌-◌, ◌≤◌, ◌<◌, eqb, length};
 ghost use Rattle.std.specs.Float.Ieee.{lt};
 ghost use Rattle.basics.specs.Loops.{every, up_from};
-ghost use Rattle.basics.specs.Floats.{abs, ◌-f◌, finite_sign_clear};
+ghost use Rattle.basics.specs.Floats.{abs, ◌-f◌};
 ghost use Rattle.rules_board.specs.Board.{turf_count, link_count, end, links_of};
 ghost use Rattle.turfs.specs.Tables.{board_at, Accepted};
 ghost use Rattle.rules_mixture.specs.Mixture.{total};
@@ -17,14 +17,13 @@ use turfs::{LentTables, Links, SimulationFlags};
 
 // Whether two totals are nearer than the threshold.
 fn nearer(x: f32, y: f32, threshold: f32) -> bool
-    requires { finite_sign_clear threshold ≡ true }
     ensures { result ≡ lt (abs (x -f y)) threshold }
 {
-    let d = x - y;
-    d < threshold && -threshold < d
+    (x - y).abs() < threshold
 }
 
-// Whether the totals at the ends of these links are nearer to a total than the threshold.
+// Whether the totals at the ends of these links are nearer to a total than the threshold. That the tables were accepted stays a clause, here and where
+// filling calls: it ties them to the length of the gas, which is lent beside them, and a type for the tables would leave that to each clause.
 fn all_near(
     links: Links,
     mine: f32,
@@ -34,7 +33,6 @@ fn all_near(
     gas: &[f32],
 ) -> bool
     requires accepted { Accepted (board_at tables gases) (length gas.now) }
-    requires threshold_value { finite_sign_clear threshold ≡ true }
     requires to_bound { links.to ≤ link_count (board_at tables gases) }
     ensures { let b = board_at tables.entry gases in
         result ≡ every (λ k. lt (abs (total b gas.now (end b k) -f mine)) threshold) (up_from links.from (links.to - links.from)) }
@@ -54,7 +52,6 @@ fn all_near(
 // Whether a turf has no links, or is unshareable.
 fn unshareable(row: usize, threshold: f32, tables: &LentTables, gases: usize, gas: &[f32]) -> bool
     requires accepted { Accepted (board_at tables gases) (length gas.now) }
-    requires threshold_value { finite_sign_clear threshold ≡ true }
     requires row_bound { row < turf_count (board_at tables gases) }
     ensures { let b = board_at tables.entry gases in ((q : Ask) → q.threshold ≡ threshold
         → result ≡ (eqb (length (links_of b row)) 0 || (lt (total b gas.now row) 10f || every (near b gas.now q row) (links_of b row)))) }
@@ -77,7 +74,6 @@ pub fn passed_over(
     words: &[u32],
 ) -> bool
     requires accepted { Accepted (board_at tables gases) (length gas.now) }
-    requires threshold_value { finite_sign_clear threshold ≡ true }
     requires fact { let b = board_at tables gases in FoundFits (turf_count b) (link_count b) row words.now }
     ensures { let b = board_at tables.entry gases in
         ((q : Ask) → q.threshold ≡ threshold → passed_over b gas.now q row (found_in (turf_count b) (link_count b) words.now) ≡ result) }

@@ -121,4 +121,4 @@ pub record SentTo (b : Board) (words : List ℕ) (stop : Bool) (z r from to at :
 
 -- the same of the turf and the links in hand
 abbrev pub SentOver : Board → List ℕ → Turf → Span → FinishAreas → ℕ → FinishAreas → Type 0
-SentOver b words t l a at a' = SentTo b words l.stop t.zone t.row l.from l.to at a a'
+SentOver b words t l a at a' = SentTo b words l.stop t.zone.number t.row l.from l.to at a a'

@@ -14,14 +14,14 @@ ghost use Rattle.finish_send.specs.Areas.{finish_areas};
 ghost use Rattle.finish_send.specs.Sending.{on_side, is_marked, Next, lift_at, zero_at, shared, MoveFits, SendFits, Sends, Going, SentOver};
 
 use rules_events::Event;
-use scratch::Layout;
+use scratch::{Layout, ZoneNumber};
 use turfs::LentTables;
 
 // The turf in hand: its row, its zone, and the board's number of gases.
 #[derive(Clone, Copy)]
 pub struct Turf {
     pub row: usize,
-    pub zone: u32,
+    pub zone: ZoneNumber,
     pub gases: usize,
 }
 
@@ -56,30 +56,35 @@ fn side(above: bool, x: f32) -> bool
 }
 
 // Zone `zone` owns the link k, whose float from `base` on is above 0, or below it.
-fn marked(k: usize, zone: u32, base: usize, above: bool, words: &[u32], floats: &[f32]) -> bool
-    requires zone_bound { zone < 4096 }
+fn marked(
+    k: usize,
+    zone: ZoneNumber,
+    base: usize,
+    above: bool,
+    words: &[u32],
+    floats: &[f32],
+) -> bool
     requires k_in_bounds { k < length words.now }
     requires k_in_bounds_2 { base + k < length floats.now }
-    ensures { result ≡ is_marked words.now floats.now zone base above k }
+    ensures { result ≡ is_marked words.now floats.now zone.number base above k }
 {
-    words[k] == zone + 1 && side(above, floats[base + k])
+    words[k] == zone.number + 1 && side(above, floats[base + k])
 }
 
 // The first such link from k on, and `to` where there is none.
 pub fn next_edge(
     k: usize,
     to: usize,
-    zone: u32,
+    zone: ZoneNumber,
     base: usize,
     above: bool,
     words: &[u32],
     floats: &[f32],
 ) -> usize
-    requires zone_bound { zone < 4096 }
     requires k_le_to { k ≤ to }
     requires to_in_bounds { to ≤ length words.now }
     requires to_in_bounds_2 { base + to ≤ length floats.now }
-    ensures { Next (is_marked words.now floats.now zone base above) k to result }
+    ensures { Next (is_marked words.now floats.now zone.number base above) k to result }
 {
     for i in k..to {
         if marked(i, zone, base, above, words, floats) {
@@ -90,25 +95,23 @@ pub fn next_edge(
 }
 
 // The weight of the link k copied and 0 left in it, where the zone owns it.
-fn lift_at(k: usize, zone: u32, up: usize, words: &[u32], floats: &mut [f32])
-    requires zone_bound { zone < 4096 }
+fn lift_at(k: usize, zone: ZoneNumber, up: usize, words: &[u32], floats: &mut [f32])
     requires k_in_bounds { k < length words.now }
     requires k_in_bounds_2 { up + k < length floats.old }
-    ensures { floats.new ≡ lift_at words.now zone up k floats.old }
+    ensures { floats.new ≡ lift_at words.now zone.number up k floats.old }
 {
-    if words[k] == zone + 1 {
+    if words[k] == zone.number + 1 {
         floats[up + k] = floats[k];
         floats[k] = 0.0;
     }
 }
 
 // Lifts the weights of the zone's edges from one link up to another.
-pub fn lift(from: usize, to: usize, zone: u32, up: usize, words: &[u32], floats: &mut [f32])
-    requires zone_bound { zone < 4096 }
+pub fn lift(from: usize, to: usize, zone: ZoneNumber, up: usize, words: &[u32], floats: &mut [f32])
     requires from_le_to { from ≤ to }
     requires to_in_bounds { to ≤ length words.now }
     requires to_in_bounds_2 { up + to ≤ length floats.old }
-    ensures { floats.new ≡ run (lift_at words.now zone up) (up_from from (to - from)) floats.old }
+    ensures { floats.new ≡ run (lift_at words.now zone.number up) (up_from from (to - from)) floats.old }
 {
     for k in from..to {
         lift_at(k, zone, up, words, floats);
@@ -116,24 +119,22 @@ pub fn lift(from: usize, to: usize, zone: u32, up: usize, words: &[u32], floats:
 }
 
 // 0 left in the weight of the link k, where the zone owns it.
-fn clear_own(k: usize, zone: u32, words: &[u32], floats: &mut [f32])
-    requires zone_bound { zone < 4096 }
+fn clear_own(k: usize, zone: ZoneNumber, words: &[u32], floats: &mut [f32])
     requires k_in_bounds { k < length words.now }
     requires k_in_bounds_2 { k < length floats.old }
-    ensures { floats.new ≡ zero_at words.now zone k floats.old }
+    ensures { floats.new ≡ zero_at words.now zone.number k floats.old }
 {
-    if words[k] == zone + 1 {
+    if words[k] == zone.number + 1 {
         floats[k] = 0.0;
     }
 }
 
 // 0 left in the weights of the zone's edges from one link up to another.
-pub fn clear_weights(from: usize, to: usize, zone: u32, words: &[u32], floats: &mut [f32])
-    requires zone_bound { zone < 4096 }
+pub fn clear_weights(from: usize, to: usize, zone: ZoneNumber, words: &[u32], floats: &mut [f32])
     requires from_le_to { from ≤ to }
     requires to_in_bounds { to ≤ length words.now }
     requires to_in_bounds_2 { to ≤ length floats.old }
-    ensures { floats.new ≡ run (zero_at words.now zone) (up_from from (to - from)) floats.old }
+    ensures { floats.new ≡ run (zero_at words.now zone.number) (up_from from (to - from)) floats.old }
 {
     for k in from..to {
         clear_own(k, zone, words, floats);
@@ -184,9 +185,9 @@ fn send(
     floats: &mut [f32],
     events: &mut [u8],
 ) -> usize
-    requires fact { let b = board_at tables turf.gases in SendFits b turf.row load.link turf.zone load.amount words.now (finish_areas gas.old floats.old events.old used) }
+    requires fact { let b = board_at tables turf.gases in SendFits b turf.row load.link turf.zone.number load.amount words.now (finish_areas gas.old floats.old events.old used) }
     requires has_value { load.has ≡ total (board_at tables turf.gases) gas.old turf.row }
-    ensures { let b = board_at tables.entry turf.gases in Sends b turf.row load.link turf.zone load.amount words.now (finish_areas gas.old floats.old events.old used) (finish_areas gas.new floats.new events.new result) }
+    ensures { let b = board_at tables.entry turf.gases in Sends b turf.row load.link turf.zone.number load.amount words.now (finish_areas gas.old floats.old events.old used) (finish_areas gas.new floats.new events.new result) }
 {
     let ids = tables.ids;
     let neighbours = tables.neighbours;
@@ -197,11 +198,11 @@ fn send(
         turfs: ids.len(),
         links: neighbours.len(),
     };
-    let back = plan_edges::back_link(k, turf.zone, layout, words);
+    let back = plan_edges::back_link(k, turf.zone.number, layout, words);
     clear_at(back, floats);
     move_between(turf, load, to, tables, gas);
     let record = Event::Pressure {
-        zone: turf.zone,
+        zone: turf.zone.number,
         amount: load.amount,
         from: ids[row],
         to: ids[to],
@@ -227,7 +228,7 @@ pub fn send_edges(
     floats: &mut [f32],
     events: &mut [u8],
 ) -> Sent
-    requires { Going (board_at tables turf.gases) words.now turf.zone turf.row links.from links.to (finish_areas gas.old floats.old events.old used) }
+    requires { Going (board_at tables turf.gases) words.now turf.zone.number turf.row links.from links.to (finish_areas gas.old floats.old events.old used) }
     ensures { let b = board_at tables.entry turf.gases in SentOver b words.now turf links (finish_areas gas.old floats.old events.old used) result.at (finish_areas gas.new floats.new events.new result.used) }
 {
     let zone = turf.zone;

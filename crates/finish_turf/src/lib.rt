@@ -23,8 +23,8 @@ fn send_first(
     floats: &mut [f32],
     events: &mut [u8],
 ) -> Sent
-    requires { TurfBegun (board_at tables turf.gases) words.now turf.zone turf.row (finish_areas gas.old floats.old events.old used) }
-    ensures { let b = board_at tables.entry turf.gases in SentFirst b words.now turf.zone turf.row result.at (finish_areas gas.old floats.old events.old used) (finish_areas gas.new floats.new events.new result.used) }
+    requires { TurfBegun (board_at tables turf.gases) words.now turf.zone.number turf.row (finish_areas gas.old floats.old events.old used) }
+    ensures { let b = board_at tables.entry turf.gases in SentFirst b words.now turf.zone.number turf.row result.at (finish_areas gas.old floats.old events.old used) (finish_areas gas.new floats.new events.new result.used) }
 {
     let zone = turf.zone;
     let Links { from, to } = turfs::links_of(tables.starts, turf.row);
@@ -57,8 +57,8 @@ fn send_rest(
     floats: &mut [f32],
     events: &mut [u8],
 ) -> usize
-    requires { let b = board_at tables turf.gases in Going b words.now turf.zone turf.row at (links_end b turf.row) (finish_areas gas.old floats.old events.old used) }
-    ensures { let b = board_at tables.entry turf.gases in SentRest b words.now turf.zone turf.row at (finish_areas gas.old floats.old events.old used) (finish_areas gas.new floats.new events.new result) }
+    requires { let b = board_at tables turf.gases in Going b words.now turf.zone.number turf.row at (links_end b turf.row) (finish_areas gas.old floats.old events.old used) }
+    ensures { let b = board_at tables.entry turf.gases in SentRest b words.now turf.zone.number turf.row at (finish_areas gas.old floats.old events.old used) (finish_areas gas.new floats.new events.new result) }
 {
     let links = turfs::links_of(tables.starts, turf.row);
     let left = Span {
@@ -81,8 +81,8 @@ pub fn finalize_eq(
     floats: &mut [f32],
     events: &mut [u8],
 ) -> usize
-    requires { TurfBegun (board_at tables turf.gases) words.now turf.zone turf.row (finish_areas gas.old floats.old events.old used) }
-    ensures { let b = board_at tables.entry turf.gases in TurfDone b words.now turf.zone turf.row (finish_areas gas.old floats.old events.old used) (finish_areas gas.new floats.new events.new result) }
+    requires { TurfBegun (board_at tables turf.gases) words.now turf.zone.number turf.row (finish_areas gas.old floats.old events.old used) }
+    ensures { let b = board_at tables.entry turf.gases in TurfDone b words.now turf.zone.number turf.row (finish_areas gas.old floats.old events.old used) (finish_areas gas.new floats.new events.new result) }
 {
     let sent = send_first(turf, used, tables, gas, words, floats, events);
     let links = turfs::links_of(tables.starts, turf.row);
@@ -105,8 +105,8 @@ fn finalize_eq_neighbors(
     floats: &mut [f32],
     events: &mut [u8],
 ) -> usize
-    requires { TurfBegun (board_at tables turf.gases) words.now turf.zone turf.row (finish_areas gas.old floats.old events.old used) }
-    ensures { let b = board_at tables.entry turf.gases in GiversDone b words.now turf.zone turf.row (finish_areas gas.old floats.old events.old used) (finish_areas gas.new floats.new events.new result) }
+    requires { TurfBegun (board_at tables turf.gases) words.now turf.zone.number turf.row (finish_areas gas.old floats.old events.old used) }
+    ensures { let b = board_at tables.entry turf.gases in GiversDone b words.now turf.zone.number turf.row (finish_areas gas.old floats.old events.old used) (finish_areas gas.new floats.new events.new result) }
 {
     let zone = turf.zone;
     let Links { from, to } = turfs::links_of(tables.starts, turf.row);

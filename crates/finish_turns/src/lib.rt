@@ -8,7 +8,7 @@ ghost use Rattle.finish_zones.specs.Zones.{Laid, AllLaid, ZoneOpen, Live};
 ghost use Rattle.finish_turns.specs.Turning.{TurnsFit, Nexts, TurnOf, ByTurns, ZoneDone, Planned, FinishesAll};
 
 use finish_send::Turf;
-use scratch::Layout;
+use scratch::{Layout, ZoneNumber};
 use turfs::LentTables;
 
 // What a turn leaves: unfinished zones, bytes written.
@@ -39,7 +39,9 @@ fn finish_next(
     };
     let turf = Turf {
         row: finish_zones::next_row(zone, layout, words),
-        zone: zone as u32,
+        zone: ZoneNumber {
+            number: zone as u32,
+        },
         gases,
     };
     let now = finish_turf::finalize_eq(turf, used, tables, gas, words, floats, events);

@@ -55,11 +55,11 @@ pub extern "C" fn katmos_equalize<'a>(
         limit,
         allowance,
     };
-    let a = call_equalize::equalize(
+    let a = call_answers::equalize_answer(call_equalize::equalize(
         hot, turns, settings, &tables, gases, amounts, words, floats, events,
-    );
+    ));
     *answer = call_answers::equalize_numbers(a);
-    answer[0]
+    a.number
 }
 
 // The planet walk from the turf `id`: number, bytes.
@@ -95,11 +95,11 @@ pub extern "C" fn katmos_planet_walk<'a>(
         link_flags,
         immutable,
     };
-    let a = call_planet_walk::planet_walk(
+    let a = call_answers::planet_answer(call_planet_walk::planet_walk(
         id, limit, &tables, gases, amounts, words, floats, events,
-    );
+    ));
     *answer = call_answers::planet_numbers(a);
-    answer[0]
+    a.number
 }
 
 // Depressurizes from the turf `id`; kind 7 is as in the Rust where `arrows` is 0, and else leads towards space. Number, outcome, bytes.
@@ -137,9 +137,11 @@ pub extern "C" fn katmos_depressurize<'a>(
         immutable,
     };
     let breach = Breach { id, limit, arrows };
-    let a = call_depressurize::depressurize(breach, &tables, gases, amounts, words, floats, events);
+    let a = call_answers::depressurize_answer(call_depressurize::depressurize(
+        breach, &tables, gases, amounts, words, floats, events,
+    ));
     *answer = call_answers::depressurize_numbers(a);
-    answer[0]
+    a.number
 }
 
 // The record at an offset: number, kind, next, four fields; kind 0 is the end, an amount is its bits.

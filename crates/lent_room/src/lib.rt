@@ -1,9 +1,10 @@
 // The areas that a call is lent: how much room it needs, refusal 7, and the clearing of its scratch.
 #![tactic(auto)]
 
-ghost use Rattle.std.specs.Prelude.{◌≡◌, [], ◌∷◌, leb};
+ghost use Rattle.std.specs.Prelude.{◌≡◌, ◌≤◌, [], ◌∷◌, leb};
 ghost use Rattle.basics.specs.Loops.{all_of};
 ghost use Rattle.basics.specs.Floats.{0f};
+ghost use Rattle.rules_board.specs.Board.{turf_count, link_count};
 ghost use Rattle.turfs.specs.Tables.{board_of, board_at, Small};
 ghost use Rattle.rules_lent.specs.Lent.{words_room, floats_room};
 ghost use Rattle.lent_room.specs.Areas.{room_of, cleared_first, Roomy};
@@ -22,7 +23,8 @@ pub fn words_room(tables: &LentTables) -> usize
 // The floats of the scratch that a call may use.
 #[tactic(auto, unfolding(rules_lent::specs::Lent::floats_room))]
 pub fn floats_room(tables: &LentTables) -> usize
-    requires { Small (board_at tables 0) }
+    requires turfs_fit { turf_count (board_at tables 0) ≤ 4096 }
+    requires links_fit { link_count (board_at tables 0) ≤ 24576 }
     ensures { result ≡ floats_room (board_at tables.entry 0) }
 {
     4 * tables.ids.len() + 2 * tables.neighbours.len()

@@ -200,7 +200,7 @@ pub fn seek_link(
     }
 }
 
-// The link k of the turf r, and how many rows the queue has then; none where it leads to a new row that wants: then nothing is done yet.
+// The link k of the turf r, and how many rows the queue has then: a step of `seek_link` without its trade, which costs a row ten instructions (docs/BENCH.md); none where it leads to a new row that wants: then nothing is done yet.
 pub fn pass_link(
     hand: Hand,
     r: u32,

@@ -16,7 +16,8 @@ use Rattle.rules_events.specs.declared.Event.{Event}
 use Rattle.events.proofs.Sizes.{size}
 use Rattle.rules_lent.specs.Lent.{Lent, Result, no_extra, after}
 use Rattle.lent.proofs.Passed.{passed}
-use Rattle.rules_depressurize.specs.Depressurize.{DepressurizeAnswer, Depressurized, breach_of, depressurize, depressurize_room, depressurize_number, depressurize_done, depressurize_result}
+use Rattle.rules_depressurize.specs.Depressurize.{Depressurized, breach_of, depressurize, depressurize_room, depressurize_number, depressurize_done, depressurize_result}
+use Rattle.rules_depressurize.specs.declared.DepressurizeAnswer.{DepressurizeAnswer}
 use Rattle.rules_depressurize.specs.declared.Breach.{Breach}
 use Rattle.call_answers.specs.Answers.{Answers, depressurize_numbers}
 use Rattle.laws_arrows.specs.Arrows.{as_loop, looped, ArrowIs, LeadsOut}

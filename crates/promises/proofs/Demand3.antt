@@ -10,7 +10,8 @@ use Rattle.rules_events.specs.Readings.{Readings}
 use Rattle.rules_events.specs.declared.Event.{Event}
 use Rattle.rules_lent.specs.Lent.{Lent, Result}
 use Rattle.rules_equalize.specs.Equalize.{Ask, equalize}
-use Rattle.rules_equalize.specs.Result.{EqualizeAnswer, equalize_result}
+use Rattle.rules_equalize.specs.Result.{equalize_result}
+use Rattle.rules_equalize.specs.declared.EqualizeAnswer.{EqualizeAnswer}
 use Rattle.rules_equalize.specs.Same.{SameCall, read_events, SameRead}
 use Rattle.laws_equalize.proofs.Demand3.{demand_3_call}
 use Rattle.call_answers.specs.Answers.{Words, Answers, equalize_numbers}

@@ -12,10 +12,13 @@ use Rattle.rules_events.specs.declared.Event.{Event}
 use Rattle.rules_events.specs.declared.Reading.{Reading}
 use Rattle.rules_lent.specs.Lent.{Lent, Result, Extra, refusal}
 use Rattle.rules_equalize.specs.Equalize.{Ask}
-use Rattle.rules_equalize.specs.Result.{EqualizeAnswer, equalize_result}
+use Rattle.rules_equalize.specs.Result.{equalize_result}
+use Rattle.rules_equalize.specs.declared.EqualizeAnswer.{EqualizeAnswer}
 use Rattle.rules_depressurize.specs.declared.Breach.{Breach}
-use Rattle.rules_depressurize.specs.Depressurize.{DepressurizeAnswer, depressurize_result}
-use Rattle.rules_planet.specs.Planet.{PlanetAnswer, planet_result}
+use Rattle.rules_depressurize.specs.Depressurize.{depressurize_result}
+use Rattle.rules_depressurize.specs.declared.DepressurizeAnswer.{DepressurizeAnswer}
+use Rattle.rules_planet.specs.Planet.{planet_result}
+use Rattle.rules_planet.specs.declared.PlanetAnswer.{PlanetAnswer}
 
 -- an equation with one result allows one outcome
 once : {A : Type 0} (x o o' : A) → o ≡ x → o' ≡ x → o ≡ o'

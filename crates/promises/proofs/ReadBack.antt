@@ -21,10 +21,13 @@ use Rattle.events.proofs.Numbers.{read_event_is}
 use Rattle.rules_lent.specs.Lent.{Lent, Result, no_extra, after}
 use Rattle.lent.proofs.Passed.{passed}
 use Rattle.rules_equalize.specs.Equalize.{Ask, equalize}
-use Rattle.rules_equalize.specs.Result.{EqualizeAnswer, equalize_room, equalize_number, equalize_done, equalize_result}
-use Rattle.rules_planet.specs.Planet.{PlanetAnswer, planet_walk, planet_room, planet_number, planet_done, planet_result}
+use Rattle.rules_equalize.specs.Result.{equalize_room, equalize_number, equalize_done, equalize_result}
+use Rattle.rules_equalize.specs.declared.EqualizeAnswer.{EqualizeAnswer}
+use Rattle.rules_planet.specs.Planet.{planet_walk, planet_room, planet_number, planet_done, planet_result}
+use Rattle.rules_planet.specs.declared.PlanetAnswer.{PlanetAnswer}
 use Rattle.rules_depressurize.specs.declared.Breach.{Breach}
-use Rattle.rules_depressurize.specs.Depressurize.{DepressurizeAnswer, depressurize, depressurize_room, depressurize_number, depressurize_done, depressurize_result}
+use Rattle.rules_depressurize.specs.Depressurize.{depressurize, depressurize_room, depressurize_number, depressurize_done, depressurize_result}
+use Rattle.rules_depressurize.specs.declared.DepressurizeAnswer.{DepressurizeAnswer}
 use Rattle.call_answers.specs.Answers.{Answers, Words, equalize_numbers, planet_numbers, depressurize_numbers}
 use Rattle.laws_equalize.proofs.Room.{events-room}
 use Rattle.laws_planet.proofs.Room.{planet-room}

@@ -8,7 +8,8 @@ use Rattle.rules_lent.specs.Lent.{Lent, Result}
 use Rattle.lent.proofs.Passed.{passed}
 use Rattle.rules_equalize.specs.Equalize.{Ask, equalize}
 use Rattle.rules_equalize.specs.Clock.{pops}
-use Rattle.rules_equalize.specs.Result.{EqualizeAnswer, equalize_room, equalize_number, equalize_done, equalize_result}
+use Rattle.rules_equalize.specs.Result.{equalize_room, equalize_number, equalize_done, equalize_result}
+use Rattle.rules_equalize.specs.declared.EqualizeAnswer.{EqualizeAnswer}
 use Rattle.laws_equalize.proofs.Tests.{tests-made}
 use Rattle.call_answers.specs.Answers.{Answers, equalize_numbers}
 use Rattle.promises.proofs.ReadBack.{equalize-done}

@@ -84,7 +84,7 @@ fn run_at(numbers: &mut [u32], at: usize, counts: &mut Counts) -> Option<usize>
     ensures { IfSome result (λ next. (at < next) × (next ≤ length numbers.new)) }
 {
     let v = replay_one::replay(&numbers[at..])?;
-    let next = at + v.next;
+    let next = vectors::past(at, v.next);
     counts.tally(v.call, v.number);
     counts.add(v.met);
     try_all(&mut numbers[at..next], v.expected, counts);

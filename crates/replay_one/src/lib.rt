@@ -26,7 +26,7 @@ fn equalize(
     let r = call_equalize::equalize(
         hot, turns, a.settings, &tables, a.gases, gas, words, floats, events,
     );
-    let answer = call_answers::equalize_numbers(r);
+    let answer = call_answers::equalize_numbers(call_answers::equalize_answer(r));
     held(&answer, a.due, numbers, gas, words, floats, events)
 }
 
@@ -49,7 +49,7 @@ fn depressurize(
         arrows: vectors::number_at(numbers, w.due),
     };
     let r = call_depressurize::depressurize(breach, &tables, w.gases, gas, words, floats, events);
-    let answer = call_answers::depressurize_numbers(r);
+    let answer = call_answers::depressurize_numbers(call_answers::depressurize_answer(r));
     held(
         &answer,
         vectors::further(w.due, 1),
@@ -77,11 +77,12 @@ fn planet_walk(
     let r = call_planet_walk::planet_walk(
         w.id, w.limit, &tables, w.gases, gas, words, floats, events,
     );
-    let answer = call_answers::planet_numbers(r);
+    let answer = call_answers::planet_numbers(call_answers::planet_answer(r));
     held(&answer, w.due, numbers, gas, words, floats, events)
 }
 
-// Fills what a vector lends, makes its call, and looks at every cell.
+// Fills what a vector lends, makes its call, and looks at every cell. One that makes no call expects nothing that is there: the last place of all is
+// behind its numbers.
 fn play(
     numbers: &[u32],
     bytes: &mut [u8],
@@ -93,10 +94,11 @@ fn play(
     ensures { Looked numbers.now result }
 {
     vectors::fill(numbers, bytes, gas, words, floats, events);
-    match vectors::call_of(numbers)? {
-        Call::Equalize => equalize(numbers, bytes, gas, words, floats, events),
-        Call::Depressurize => depressurize(numbers, bytes, gas, words, floats, events),
-        Call::PlanetWalk => planet_walk(numbers, bytes, gas, words, floats, events),
+    match vectors::call_of(numbers) {
+        Some(Call::Equalize) => equalize(numbers, bytes, gas, words, floats, events),
+        Some(Call::Depressurize) => depressurize(numbers, bytes, gas, words, floats, events),
+        Some(Call::PlanetWalk) => planet_walk(numbers, bytes, gas, words, floats, events),
+        None => held(&[], usize::MAX, numbers, gas, words, floats, events),
     }
 }
 

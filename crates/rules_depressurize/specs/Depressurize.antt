@@ -11,16 +11,11 @@ use Rattle.rules_walk.specs.Visit.{visit_space}
 use Rattle.rules_out.specs.Out.{Out, outward}
 use Rattle.rules_back.specs.Back.{back}
 use Rattle.rules_depressurize.specs.declared.Breach.{Breach}
+use Rattle.rules_depressurize.specs.declared.DepressurizeAnswer.{DepressurizeAnswer}
 
 -- what is asked, in the order of the call
 abbrev pub breach_of : ℕ → ℕ → ℕ → Breach
 breach_of id limit arrows = record { id = id; limit = limit; arrows = arrows }
-
--- what the call answers
-pub record DepressurizeAnswer : Type 0 where
-  pub number : ℕ
-  pub outcome : ℕ
-  pub bytes : ℕ
 
 -- what the operation comes to
 pub record Depressurized : Type 0 where

@@ -4,16 +4,7 @@ use Rattle.rules_board.specs.Board.{Board, turf_count, link_count}
 use Rattle.rules_events.specs.Events.{encode_all}
 use Rattle.rules_lent.specs.Lent.{Lent, Result, refusal, after}
 use Rattle.rules_equalize.specs.Equalize.{Ask, Equalized, equalize}
-
--- what the call answers
-pub record EqualizeAnswer : Type 0 where
-  pub number : ℕ
-  pub cancelled : ℕ
-  pub processed : ℕ
-  pub tests : ℕ
-  pub zones : ℕ
-  pub apart : ℕ
-  pub bytes : ℕ
+use Rattle.rules_equalize.specs.declared.EqualizeAnswer.{EqualizeAnswer}
 
 -- 20E+16N event bytes
 abbrev pub equalize_room : Board → ℕ

@@ -6,7 +6,7 @@ use Rattle.rules_events.specs.Readings.{read_all}
 use Rattle.rules_events.specs.declared.Event.{Event}
 use Rattle.rules_lent.specs.Lent.{Lent, Result}
 use Rattle.rules_equalize.specs.Equalize.{Equalized}
-use Rattle.rules_equalize.specs.Result.{EqualizeAnswer}
+use Rattle.rules_equalize.specs.declared.EqualizeAnswer.{EqualizeAnswer}
 
 -- every count of an answer
 pub record SameCounts (e f : Equalized) : Type 0 where

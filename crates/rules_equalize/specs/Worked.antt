@@ -19,7 +19,8 @@ use Rattle.rules_plan.specs.Plan.{chosen, trade, meet, seek_to, fast_move, eligi
 use Rattle.rules_finish.specs.Finish.{zero_lifted, pairs, finish_givers, send, finish_pair, finish}
 use Rattle.rules_finish.specs.Turns.{node_count, unfinished, turn, by_turns, finish_all}
 use Rattle.rules_equalize.specs.Equalize.{Ask, after_fill, near, passed_over, fill_from, hot_row, hot_id, filled_all, planned_all, has_mix, apart, cancel, planned, played, equalize}
-use Rattle.rules_equalize.specs.Result.{EqualizeAnswer, equalize_room, refused_equalize, equalize_number, equalize_done, equalize_result}
+use Rattle.rules_equalize.specs.Result.{equalize_room, refused_equalize, equalize_number, equalize_done, equalize_result}
+use Rattle.rules_equalize.specs.declared.EqualizeAnswer.{EqualizeAnswer}
 
 -- board A's request but for the hot ids: threshold 0.5, limit 10, allowance 100
 abbrev pub ask : List ℕ → Ask

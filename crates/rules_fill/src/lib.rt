@@ -1,4 +1,4 @@
-// The definitions of `flood_fill`, and the types that they share with the code.
+// The definitions of filling one zone, and the types that they share with the code.
 #![tactic(auto)]
 
 // How a fill stands: it goes on, it broke off at the planet limit, or the clock ran out.

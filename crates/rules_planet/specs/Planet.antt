@@ -6,11 +6,7 @@ use Rattle.rules_events.specs.declared.Event.{Event}
 use Rattle.rules_lent.specs.Lent.{Lent, Result, no_extra, refusal, after}
 use Rattle.rules_walk.specs.Walk.{walk}
 use Rattle.rules_walk.specs.Visit.{visit_planet}
-
--- what the call answers
-pub record PlanetAnswer : Type 0 where
-  pub number : ℕ
-  pub bytes : ℕ
+use Rattle.rules_planet.specs.declared.PlanetAnswer.{PlanetAnswer}
 
 module _ (b : Board) where
   -- an unknown id writes none

@@ -1,7 +1,7 @@
 // The scratch that a call is lent: where each of its arrays stands, for n turfs and e links. The layout itself is in specs/.
 #![tactic(auto)]
 
-ghost use Rattle.std.specs.Prelude.{◌≡◌, ◌≤◌};
+ghost use Rattle.std.specs.Prelude.{◌≡◌, ◌≤◌, ◌<◌};
 ghost use Rattle.scratch.specs.Layout.{Sizes, queue_at, places_at, list_at, found_at, turns_at, live_at, starts_at, zone_nodes_at, marks_at, lifted_at, moles_at, reverse_at, direction_at, via_at, delta_at, amount_at, fast_at, spots_at, order_at, ways_at, targets_at, sums_at};
 
 // The scratch of equalize, for so many turfs and links: where each of its arrays stands, words and floats by link, row or zone. The C interface lends
@@ -139,6 +139,13 @@ impl Layout {
     {
         2 * self.links + 2 * self.turfs + row
     }
+}
+
+// A zone's number; a link that it owns has that number and one more, since 0 is for a link that no zone owns.
+#[derive(Clone, Copy)]
+pub struct ZoneNumber {
+    pub number: u32,
+    ghost few: { number < 4096 },
 }
 
 // The scratch of a walk, for so many turfs.

@@ -1,4 +1,4 @@
--- The search for a turf by its id: a bracket that halves finds the first id that is not below, and on ascending ids the first match is the match. Assumes nothing.
+-- The search for a turf by its id: on ascending ids the first match is the match. Assumes nothing.
 use Prim.Native.Nat.{ℕ, zero, suc, ◌+◌, ◌-◌, ◌≤◌, ◌<◌}
 use native.Mathlib.Omega.{arith}
 use native.Mathlib.Numerals.{add-one}
@@ -8,34 +8,27 @@ use mathlib.Core.Path.{◌≡◌, ap, ◌∙◌, sym, subst}
 use mathlib.Core.List.{List}
 use mathlib.Core.Bool.{Bool, true, false}
 use lib.ListN.{length, get_or}
-use lib.Dec.{ltb, eqb, eqb→eq}
-use borrow.Author.Tests.{eq-eqb, ne_eqb, ltb-true, ltb-false}
-use Rattle.std.specs.List.Sorted.{IsNonDecreasingBy, IsPartitionPoint}
-use Rattle.std.proofs.iter.runs.Made.{zero_default}
+use lib.Dec.{eqb, eqb→eq}
+use borrow.Author.Tests.{eq-eqb, ne_eqb}
+use Rattle.std.specs.List.Sorted.{IsBinarySearchResult}
+use Rattle.std.specs.Ordering.{nat_cmp}
+use Rattle.std.specs.Result.{MatchResult, result_ok}
+use Rattle.std.proofs.lemmas.List.Sorted.{searched}
 use Rattle.basics.specs.Loops.{first, up_from}
-use Rattle.std.specs.Prelude.{Option, Some, None}
+use Rattle.std.specs.Prelude.{Option, Some, None, Result, Ok, Err}
 use Rattle.basics.specs.Lists.{Found}
 use Rattle.basics.proofs.Loops.{first-here, first_on, first-end, first_found, first_passes, up-below}
 use Rattle.rules_board.specs.Board.{Board, turf_count, id_of, row_of}
 use Rattle.rules_board.specs.Refuse.{ascending, ids_fit}
-use Rattle.turfs.specs.Tables.{Bracket}
 use Rattle.turfs.proofs.Order.{ascending-to}
 
--- where the numbers below x end, as the library's search of an ascending list finds it
-pub ascending-sorted : (xs : List ℕ) → ascending xs ≡ true → IsNonDecreasingBy (λ y. y) xs
-ascending-sorted xs up i j d h k = go (ℕ_discrete i j)
+-- an ascending list never falls
+pub ascending-rises : (xs : List ℕ) → ascending xs ≡ true → (i j : ℕ) → i ≤ j → j < length xs → get_or xs i 0 ≤ get_or xs j 0
+ascending-rises xs up i j h k = go (ℕ_discrete i j)
   where
-    go : Dec (i ≡ j) → get_or xs i d ≤ get_or xs j d
+    go : Dec (i ≡ j) → get_or xs i 0 ≤ get_or xs j 0
     go (yes e) = rw e (omega arith)
-    go (no n) = omega (arith, ascending-to xs i j up (omega arith) k, zero_default xs i d (omega arith), zero_default xs j d k)
-
-pub bracket-point : (xs : List ℕ) (x i : ℕ) → i ≤ length xs → IsPartitionPoint (λ y. ltb y x ≡ true) (λ y. ltb y x ≡ false) xs i → Bracket xs x i i
-bracket-point xs x i h p = record {
-  order = omega arith;
-  within = h;
-  below = λ k l. ltb-true _ _ (p.0 k 0 (omega arith) l);
-  above = λ k l m. ltb-false _ _ (p.1 k 0 l m);
-}
+    go (no n) = omega (arith, ascending-to xs i j up (omega arith) k)
 
 -- ---- the first that passes
 
@@ -64,20 +57,17 @@ module _ (ids : List ℕ) (id : ℕ) where
       sym (first-from has_id (length ids) (length ids) (omega arith) (λ k i. ne_eqb _ _ (n k i)))
       ∙ first-end has_id (length ids) (length ids) (omega arith)
 
-  module _ (up : ascending ids ≡ true) (row : ℕ) (b : Bracket ids id row row) where
-    pub find_at : row < length ids → get_or ids row 0 ≡ id → row_in ≡ Some row
-    find_at h e = first-is row h e b.below
-
-    pub find_end : row ≡ length ids → row_in ≡ None
-    find_end e = first-none (λ k i q. let a = b.below k (omega arith) in omega arith)
-
-    pub find_other : row < length ids → (get_or ids row 0 ≡ id → ⊥) → row_in ≡ None
-    find_other h ne = first-none (λ k i q. go k i q (dec_lt k row) (ℕ_discrete k row))
-      where
-        go : (k : ℕ) → k < length ids → get_or ids k 0 ≡ id → Dec (k < row) → Dec (k ≡ row) → ⊥
-        go k i q (yes l) d = let a = b.below k l in omega arith
-        go k i q (no l) (yes s) = ne (subst (λ (n : ℕ). get_or ids n 0 ≡ id) s q)
-        go k i q (no l) (no s) = let a = b.above row (omega arith) h in let c = ascending-to ids row k up (omega arith) i in omega arith
+  -- what the library's search finds is the first that has the id
+  pub row-searched : ascending ids ≡ true → (r : Result ℕ ℕ) → IsBinarySearchResult (λ y. nat_cmp y id) ids r → row_in ≡ result_ok r
+  row-searched up r h = go r (searched ids id r h (ascending-rises ids up))
+    where
+      go : (r : Result ℕ ℕ) → MatchResult r (λ i. (i < length ids) × (get_or ids i 0 ≡ id)) (λ i. (i ≤ length ids) × ((k : ℕ) → k < i → get_or ids k 0 < id) × ((k : ℕ) → i ≤ k → k < length ids → id < get_or ids k 0)) → row_in ≡ result_ok r
+      go (Ok i) f = first-is i f.0 f.1 (λ k l. let a = ascending-to ids k i up l f.0 in omega arith)
+      go (Err i) f = first-none (λ k l q. none k l q (dec_lt k i))
+        where
+          none : (k : ℕ) → k < length ids → get_or ids k 0 ≡ id → Dec (k < i) → ⊥
+          none k l q (yes e) = let a = f.1 k e in omega arith
+          none k l q (no e) = let a = f.2 k (omega arith) l in omega arith
 
 -- ---- ids in order: the first match is the match
 

@@ -19,13 +19,6 @@ board_at tables gases = board_of tables.now gases
 
 -- ---- what the refusals leave
 
--- what a search by halves keeps: every number of xs below x stands before `from`, every other one from `to` on
-pub record Bracket (xs : List ℕ) (x : ℕ) (from to : ℕ) : Type 0 where
-  pub order : from ≤ to
-  pub within : to ≤ length xs
-  pub below : (k : ℕ) → k < from → get_or xs k 0 < x
-  pub above : (k : ℕ) → to ≤ k → k < length xs → x ≤ get_or xs k 0
-
 -- n turfs' links are parts of the link list, one after the other
 pub record Parts (n : ℕ) (starts neighbours : List ℕ) : Type 0 where
   pub rows : n ≤ 4096

@@ -8,7 +8,6 @@ ghost use Rattle.std.specs.Prelude.{◌≡◌, true, ◌+◌, ◌<◌, length, g
 ghost use Rattle.rules_board.specs.Board as tables;
 ghost use Rattle.rules_board.specs.Board.{Board, any_bit, lock_bit, row_of};
 ghost use Rattle.rules_board.specs.Refuse.{ascending};
-ghost use Rattle.turfs.specs.Tables.{Bracket};
 
 // A board's tables, as a call is lent them.
 #[derive(Clone, Copy)]
@@ -53,25 +52,12 @@ impl AdjacentFlags {
     }
 }
 
-// The first place whose number is at least x.
-fn lower_bound(xs: &[u32], x: u32) -> usize
-    requires { ascending xs.now ≡ true }
-    ensures { Bracket xs.now x result result }
-{
-    xs.partition_point(|&y| y < x)
-}
-
 // The row of the turf with this id.
 pub fn find(ids: &[u32], id: u32) -> Option<usize>
     requires { ascending ids.now ≡ true }
     ensures { (b : Board) → b.ids ≡ ids.now → result ≡ row_of b id }
 {
-    let row = lower_bound(ids, id);
-    if row < ids.len() && ids[row] == id {
-        Some(row)
-    } else {
-        None
-    }
+    ids.binary_search(&id).ok()
 }
 
 // Where a turf's links start and end: its neighbours are `&neighbours[from..to]`.

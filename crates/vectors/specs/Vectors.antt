@@ -54,6 +54,10 @@ asked_at ns = onward (gas_of ns).to 3
 unfoldable pub fitted : ℕ → ℕ → ℕ
 fitted n most = if leb n most then n else 0
 
+-- where the vector behind one at a place begins, which takes so many numbers: nowhere, if it takes none
+unfoldable pub behind : ℕ → ℕ → ℕ
+behind at count = if eqb count 0 then 0xffff_ffff_ffff_ffff else onward at count
+
 -- its tables: those of numbers as they stand, those of bytes in the numbers as bytes
 pub record TablesOf (ns : List ℕ) (bytes : List ℕ) (t : LentTables) : Type 0 where
   pub ids : t.ids.now ≡ section ns (table_span ns 0)

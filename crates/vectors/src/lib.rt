@@ -5,7 +5,7 @@
 #![tactic(auto)]
 
 ghost use Rattle.std.specs.Prelude.{◌≡◌, ◌-◌, ℕ, ◌≤◌, ◌<◌, length, slice_index_or};
-ghost use Rattle.vectors.specs.Vectors.{onward, number, section, span_at, table_at, table_span, gases_of, gas_of, asked_at, fitted, call_of, CaseAsks, Walks, TablesOf};
+ghost use Rattle.vectors.specs.Vectors.{onward, number, section, span_at, table_at, table_span, gases_of, gas_of, asked_at, fitted, behind, call_of, CaseAsks, Walks, TablesOf};
 ghost use Rattle.vectors.specs.Amounts.{nan_pattern, amount};
 ghost use Rattle.vectors.specs.Cells.{word_before, float_before, event_before, CaseFilled};
 
@@ -84,6 +84,17 @@ pub fn span_at(numbers: &[u32], at: usize) -> Span
     let from = further(at, 1);
     let to = further(from, number_at(numbers, at) as usize);
     Span { from, to }
+}
+
+// Where the vector behind one at a place begins; a vector takes some room.
+pub fn past(at: usize, count: usize) -> usize
+    requires { at < 0xffff_ffff_ffff_ffff }
+    ensures { (result ≡ behind at count) × (at < result) }
+{
+    if count == 0 {
+        return 0xffff_ffff_ffff_ffff;
+    }
+    further(at, count)
 }
 
 // Where the table number k of a case stands: the first behind the call, each one behind the one before.

@@ -1,10 +1,8 @@
 // What came of vectors, and of vectors changed and torn.
 #![tactic(auto)]
 
-ghost use Rattle.std.specs.Prelude.{◌≡◌};
-ghost use Rattle.vectors_count.specs.Count.{trying, one_vector, tallied, answered};
-
-use vectors::Call;
+ghost use Rattle.std.specs.Prelude.{◌≡◌, ◌<◌};
+ghost use Rattle.vectors_count.specs.Count.{counting, trying, one_vector, tallied};
 
 // How many vectors were made wrong in one way, and how many of these were found.
 #[derive(Clone, Copy, Default)]
@@ -25,9 +23,11 @@ impl Tried {
     }
 }
 
-// The numbers that each call answered; the vectors, those that differ and the first of these; and those with a digit changed, and torn.
+// The numbers that each call answered, those of no call first; the vectors, those that differ and the first of these; and those with a digit
+// changed, and torn.
 #[derive(Clone, Copy, Default)]
 pub struct Counts {
+    pub no_call: [u64; 8],
     pub equalize: [u64; 8],
     pub depressurize: [u64; 8],
     pub planet_walk: [u64; 8],
@@ -38,12 +38,12 @@ pub struct Counts {
     pub torn: Tried,
 }
 
-// One more of a number that a call answered.
-fn count(numbers: &mut [u64; 8], number: u32)
-    ensures { numbers.new ≡ answered numbers.old number }
+// One more at a place.
+pub fn count<const N: usize>(counts: &mut [u64; N], k: usize)
+    requires { k < N }
+    ensures { counts.new ≡ counting counts.old k }
 {
-    let k = (number % 8) as usize;
-    numbers[k] = numbers[k].wrapping_add(1);
+    counts[k] = counts[k].wrapping_add(1);
 }
 
 impl Counts {
@@ -53,19 +53,24 @@ impl Counts {
     {
         self.vectors = self.vectors.wrapping_add(1);
         if !met {
+            if self.differ == 0 {
+                self.first = Some(self.vectors);
+            }
             self.differ = self.differ.wrapping_add(1);
-            self.first = self.first.or(Some(self.vectors));
         }
     }
 
-    // A call with the number that it answered.
-    pub fn tally(&mut self, call: Call, number: u32)
+    // A call, by the first number of its vector, with the number that it answered. Any two numbers are taken, since it is promised for all: calls
+    // count by their remainder by 4, and those that leave 0 are none; answers count by their remainder by 8.
+    pub fn tally(&mut self, call: u32, number: u32)
         ensures { self.new ≡ tallied self.old call number }
     {
-        match call {
-            Call::Equalize => count(&mut self.equalize, number),
-            Call::Depressurize => count(&mut self.depressurize, number),
-            Call::PlanetWalk => count(&mut self.planet_walk, number),
+        let k = (number % 8) as usize;
+        match call % 4 {
+            1 => count(&mut self.equalize, k),
+            2 => count(&mut self.depressurize, k),
+            3 => count(&mut self.planet_walk, k),
+            _ => count(&mut self.no_call, k),
         }
     }
 }

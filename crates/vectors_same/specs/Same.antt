@@ -1,8 +1,8 @@
 -- Whether the lent cells hold after a call what a vector expects.
-use Rattle.std.specs.Prelude.{List, ◌≡◌, Bool, ◌&&◌, Option, None, option_map, ℕ, ◌≤◌, eqb, leb, ltb, length, get_or, Float, if◌then◌else◌}
+use Rattle.std.specs.Prelude.{List, ◌≡◌, Bool, ◌&&◌, Option, None, Some, ℕ, ◌≤◌, eqb, leb, ltb, length, get_or, Float, if◌then◌else◌}
 use Rattle.std.specs.Float.{nan}
 use Rattle.basics.specs.Loops.{every, up_from}
-use Rattle.vectors.specs.Vectors.{onward, number, section, span_at, call_of}
+use Rattle.vectors.specs.Vectors.{onward, number, section, span_at}
 use Rattle.vectors.specs.Amounts.{same_bits}
 use Rattle.vectors.specs.Cells.{word_before, float_before, event_before}
 use Rattle.vectors_same.specs.declared.Due.{Due}
@@ -72,18 +72,16 @@ unfoldable pub met : List ℕ → List ℕ → List Float → List ℕ → List 
 met ns answer gas words floats events d =
     same_words d.words words && (same_floats d.floats floats && same_results d ns answer gas events)
 
--- what comes of a call that answered and left these, held to what is expected from a place on: nothing where the vector isn't whole, or makes no call
+-- what comes of a call that answered and left these, held to what is expected from a place on: nothing where the vector isn't whole
 module _ (ns : List ℕ) (gas : List Float) (words : List ℕ) (floats : List Float) (events : List ℕ) where
   pub record CellsHeld (answer : List ℕ) (at : ℕ) (r : Option Vector) : Type 0 where
     pub due : Due
     pub stands : Expects ns at due
     pub says : r ≡ (if ltb (length ns) due.next then None
-        else option_map
-        (λ call. record {
-          call = call;
+        else Some (record {
+          call = number ns 0;
           number = number answer 0;
           expected = at;
           met = met ns answer gas words floats events due;
           next = due.next;
-        })
-        (call_of ns))
+        }))

@@ -6,9 +6,7 @@ ghost use Rattle.vectors.specs.Amounts.{same_bits};
 ghost use Rattle.vectors_same.specs.Same.{Expects, cells_after, event_after};
 ghost use Rattle.vectors_same.specs.Same.{same_answer, same_gas, same_events, same_words, same_floats, same_results, met, CellsHeld};
 
-use vectors::{
-    Call, Span, event_before, float_before, further, number_at, part, span_at, word_before,
-};
+use vectors::{Span, event_before, float_before, further, number_at, part, span_at, word_before};
 
 // What a vector expects: where the answer, the gas and the event bytes stand, how many words and floats are 0, and where the next vector begins.
 #[derive(Clone, Copy)]
@@ -22,9 +20,10 @@ struct Due {
 }
 
 // One vector replayed: the call, the number it answered, where its expectations begin, whether they were met, and where the next vector begins.
+// The call is the vector's first number, whichever it is: what a vector is held to is promised for every one.
 #[derive(Clone, Copy)]
 pub struct Vector {
-    pub call: Call,
+    pub call: u32,
     pub number: u32,
     pub expected: usize,
     pub met: bool,
@@ -157,7 +156,7 @@ fn meets(
         && same_results(due, numbers, answer, gas, events)
 }
 
-// What a call answered and the lent cells, held to what is expected from a place on; nothing comes of a vector that isn't whole, or makes no call.
+// What a call answered and the lent cells, held to what is expected from a place on; nothing comes of a vector that isn't whole.
 pub fn held(
     answer: &[u32],
     at: usize,
@@ -173,9 +172,8 @@ pub fn held(
     if numbers.len() < due.next {
         return None;
     }
-    let call = vectors::call_of(numbers)?;
     Some(Vector {
-        call,
+        call: number_at(numbers, 0),
         number: number_at(answer, 0),
         expected: at,
         met: meets(due, numbers, answer, gas, words, floats, events),

@@ -1,5 +1,5 @@
 -- One turf of the way back: its air, its amounts, its events and its rip, each in an area of its own. Assumes nothing.
-use Prim.Native.Nat.{ℕ, ◌+◌, ◌≤◌, ◌<◌}
+use Prim.Native.Nat.{ℕ, ◌+◌, ◌≤◌}
 use native.Mathlib.Omega.{arith}
 use native.Mathlib.Numerals.{add-one}
 use mathlib.Core.Path.{◌≡◌, refl, ap, ap₂, ◌∙◌, sym, subst}
@@ -139,7 +139,7 @@ module _ (b : Board) (row d : ℕ) (s : Way) (gas : List Float) (e w : List ℕ)
 
   module _ (place : ℕ) (at_place : place ≡ sums_at n) (arrows : ℕ) (last : Bool) (o : last ≡ eqb (get_or (directions n w) d 0) 0) (e' : List ℕ) (used : ℕ) (wr : Wrote (encode_all (tells arrows last)) s.used used e e') (lg : length gas' ≡ length gas) where
     abbrev g : Way
-    g = record { left = s.left; rips = s.rips + 1; used = used }
+    g = record { rips = s.rips + 1; used = used }
 
     tells_size : size (tells arrows last) ≤ 48
     unfolding told
@@ -171,7 +171,6 @@ module _ (b : Board) (row d : ℕ) (s : Way) (gas : List Float) (e w : List ℕ)
         amounts = subst (λ (fs : List (List Float)). T (every not_negative (get_or fs 0 []))) (sym (stores_f place at_place)) (every_set (set mine_of row sums.mine) set-clear d sums.theirs theirs-clear);
         sums = subst (λ (fs : List (List Float)). T (every not_negative (take (s.rips + 1) (get_or fs 1 [])))) (sym (stores_f place at_place)) (rw more-sums (every-snoc (take s.rips (region (back_sizes n) 1 f)) h.sums sums.sum sum-clear));
         rows = subst (λ (ws : List (List ℕ)). Below n (take (s.rips + 1) (get_or ws 0 []))) (sym stores_w) (rw more_rows (Below-snoc n (take s.rips (region (out_sizes n) 0 w)) row h.rows p.from));
-        order = subst (λ (ws : List (List ℕ)). (i : ℕ) → i < s.left → get_or (get_or ws 2 []) i 0 < n) (sym stores_w) h.order;
         directed = subst (λ (ws : List (List ℕ)). (x : ℕ) → get_or (get_or ws 3 []) x 0 ≤ n) (sym stores_w) h.directed;
       };
       kept = rw (length-set w s.rips row, f_length, lg) (ap₂ (λ (ws : List (List ℕ)) (fs : List (List Float)). record { words = length w; arrays = drop 1 ws; floats = length f; beyond = get_or fs 2 []; gas = length gas }) stores_w (stores_f place at_place));

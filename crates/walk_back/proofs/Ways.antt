@@ -1,4 +1,4 @@
--- The order from its end, and then the rips: each turn takes one turf off what is left. Assumes nothing.
+-- The order from its end, and then the rips. Assumes nothing.
 use Prim.Native.Nat.{ℕ, ◌+◌, ◌-◌, ◌*◌, ◌≤◌, ◌<◌}
 use native.Mathlib.Omega.{arith}
 use native.Mathlib.Numerals.{add-one}
@@ -14,7 +14,6 @@ use Rattle.basics.specs.Loops.{run, every, snoc}
 use Rattle.basics.specs.Floats.{0f}
 use Rattle.basics.specs.Regions.{region}
 use Rattle.basics.proofs.Regions.{cut-get, cut-length}
-use Rattle.basics.proofs.Loops.{run-back}
 use Rattle.rules_board.specs.Board.{Board, turf_count}
 use Rattle.rules_events.specs.Events.{encode_all, encode, kind_of, size_of}
 use Rattle.events.specs.Area.{Wrote}
@@ -27,7 +26,6 @@ use Rattle.index_set.proofs.Queue.{Below-at}
 use Rattle.scratch.specs.Layout.{out_sizes, back_sizes, order_at, ways_at, sums_at, out_room}
 use Rattle.walk_links.specs.Does.{WalkDoes}
 use Rattle.walk_links.proofs.Does.{does-as, none-wrote, both-wrote, Going}
-use Rattle.walk_links.specs.Reached.{Ground}
 use Rattle.rules_back.specs.Back.{Back, back_to, back}
 use Rattle.walk_back.specs.Backed.{BackState, back_state_at, rips_of, back_of, BackRest, BackFits, backing, BackGoes, Points, directions, back_next, Rips, rip_at, Ripping, back_areas, BackStarts, Backed}
 use Rattle.walk_back.specs.declared.Way.{Way}
@@ -48,95 +46,68 @@ module _ {f f₀ : Back → Back} {b : Board} {a a' : BackState} (g : Going (bac
   pub kept-area : length a'.area ≡ length a.area
   kept-area = wrote-length g.wrote
 
-  kept-order : region (out_sizes (turf_count b)) 2 a'.words ≡ region (out_sizes (turf_count b)) 2 a.words
+  pub kept-order : region (out_sizes (turf_count b)) 2 a'.words ≡ region (out_sizes (turf_count b)) 2 a.words
   kept-order = ap (λ (r : BackRest). get_or r.arrays 1 []) g.kept
 
   kept-directions : directions (turf_count b) a'.words ≡ directions (turf_count b) a.words
   kept-directions = ap (λ (r : BackRest). get_or r.arrays 2 []) g.kept
 
   -- a turn, by the order and the directions of the start
-  pub turn-as : (arrows left : ℕ) {a'' : BackState} → WalkDoes (backing b) (back_next b arrows left a'.words) a' a''
-      → WalkDoes (backing b) (back b arrows (directions (turf_count b) a.words) (get_or (region (out_sizes (turf_count b)) 2 a.words) (left - 1) 0)) a' a''
-  turn-as arrows left d = does-as (backing b) d (λ es. rw (kept-order, kept-directions))
+  pub turn-as : (arrows at : ℕ) {a'' : BackState} → WalkDoes (backing b) (back_next b arrows at a'.words) a' a''
+      → WalkDoes (backing b) (back b arrows (directions (turf_count b) a.words) (get_or (region (out_sizes (turf_count b)) 2 a.words) at 0)) a' a''
+  turn-as arrows at d = does-as (backing b) d (λ es. rw (kept-order, kept-directions))
 
--- ---- the last turf of those that are left
+-- ---- the turf at a place of the order
 
-module _ (b : Board) (s : Way) (gas : List Float) (e w : List ℕ) (f : List Float) (h : BackFits b (back_state_at s gas w f e)) (p : 0 < s.left)
+module _ (b : Board) (at : ℕ) (s : Way) (gas : List Float) (e w : List ℕ) (f : List Float) (g : BackGoes b (at + 1) (back_state_at s gas w f e))
     (order ways : ℕ) (at-order : order ≡ order_at (turf_count b)) (at-ways : ways ≡ ways_at (turf_count b)) where
   abbrev n : ℕ
   n = turf_count b
 
-  abbrev t : Way
-  t = record { left = s.left - 1; rips = s.rips; used = s.used }
-
   abbrev row : ℕ
-  row = get_or w (order + (s.left - 1)) 0
+  row = get_or w (order + at) 0
 
-  row_at : row ≡ get_or (region (out_sizes n) 2 w) (s.left - 1) 0
-  row_at = cut-get (out_sizes n) w 0 2 (s.left - 1) (order + (s.left - 1)) (omega arith) (omega (arith, h.few)) (omega (arith, at-order))
+  row_at : row ≡ get_or (region (out_sizes n) 2 w) at 0
+  row_at = cut-get (out_sizes n) w 0 2 at (order + at) (omega arith) (omega (arith, g.few)) (omega (arith, at-order))
 
   pub row_below : row < n
-  row_below = rw row_at (h.order (s.left - 1) (omega arith))
+  row_below = rw row_at (g.order at (omega arith))
 
   way_at : get_or w (ways + row) 0 ≡ get_or (directions n w) row 0
   way_at = cut-get (out_sizes n) w 0 3 row (ways + row) (omega arith) row_below (omega (arith, at-ways))
 
   pub way-below : get_or w (ways + row) 0 ≤ n
-  way-below = rw way_at (h.directed row)
+  way-below = rw way_at (g.fit.directed row)
 
-  left-fit : BackFits b (back_state_at t gas w f e)
-  left-fit = record {
-    small = h.small;
-    words = h.words;
-    floats = h.floats;
-    bytes = h.bytes;
-    written = h.written;
-    few = omega (arith, h.few);
-    count = h.count;
-    gas = h.gas;
-    amounts = h.amounts;
-    sums = h.sums;
-    rows = h.rows;
-    order = λ i k. h.order i (omega arith);
-    directed = h.directed;
-  }
+  pub points : (get_or w (ways + row) 0 ≡ 0 → ⊥) → Points b row (get_or w (ways + row) 0 - 1) (back_state_at s gas w f e)
+  points z = record { ground = g.ground; fit = g.fit; from = row_below; to = omega (arith, way-below); room = omega (arith, g.few) }
 
-  pub points : Ground b → (get_or w (ways + row) 0 ≡ 0 → ⊥) → Points b row (get_or w (ways + row) 0 - 1) (back_state_at t gas w f e)
-  points g z = record { ground = g; fit = left-fit; from = row_below; to = omega (arith, way-below); room = omega (arith, h.few) }
-
-  pub back-skip : (arrows : ℕ) → get_or w (ways + row) 0 ≡ 0 → WalkDoes (backing b) (back_next b arrows s.left w) (back_state_at s gas w f e) (back_state_at t gas w f e)
+  pub back-skip : (arrows : ℕ) → get_or w (ways + row) 0 ≡ 0 → WalkDoes (backing b) (back_next b arrows at w) (back_state_at s gas w f e) (back_state_at s gas w f e)
   back-skip arrows z = record {
-    fit = left-fit;
+    fit = g.fit;
     kept = refl;
     new = [];
-    wrote = none-wrote s.used e (written-room b (back_state_at s gas w f e) h);
+    wrote = none-wrote s.used e (written-room b (back_state_at s gas w f e) g.fit);
     same = skip;
   }
     where
-      none : eqb (get_or (directions n w) (get_or (region (out_sizes n) 2 w) (s.left - 1) 0) 0) 0 ≡ true
+      none : eqb (get_or (directions n w) (get_or (region (out_sizes n) 2 w) at 0) 0) 0 ≡ true
       none = eq-eqb _ 0 (ap (λ (x : ℕ). get_or (directions n w) x 0) (sym row_at) ∙ sym way_at ∙ z)
 
-      skip : (es : List Event) → back_of b.ids (back_state_at t gas w f e) (es ++ []) ≡ back_next b arrows s.left w (back_of b.ids (back_state_at s gas w f e) es)
+      skip : (es : List Event) → back_of b.ids (back_state_at s gas w f e) (es ++ []) ≡ back_next b arrows at w (back_of b.ids (back_state_at s gas w f e) es)
       skip es = unfold back_of back in rw (none, append-nil es)
 
-  pub back_on : (arrows : ℕ) → (get_or w (ways + row) 0 ≡ 0 → ⊥) → {a : BackState} → WalkDoes (backing b) (back_to b arrows (directions n w) row (get_or w (ways + row) 0 - 1)) (back_state_at t gas w f e) a
-      → WalkDoes (backing b) (back_next b arrows s.left w) (back_state_at s gas w f e) a
+  pub back_on : (arrows : ℕ) → (get_or w (ways + row) 0 ≡ 0 → ⊥) → {a : BackState} → WalkDoes (backing b) (back_to b arrows (directions n w) row (get_or w (ways + row) 0 - 1)) (back_state_at s gas w f e) a
+      → WalkDoes (backing b) (back_next b arrows at w) (back_state_at s gas w f e) a
   back_on arrows z {a} d = record { fit = d.fit; kept = d.kept; new = d.new; wrote = d.wrote; same = λ es. d.same es ∙ on es }
     where
-      some : eqb (get_or (directions n w) (get_or (region (out_sizes n) 2 w) (s.left - 1) 0) 0) 0 ≡ false
+      some : eqb (get_or (directions n w) (get_or (region (out_sizes n) 2 w) at 0) 0) 0 ≡ false
       some = ne_eqb _ 0 (λ q. z (way_at ∙ ap (λ (x : ℕ). get_or (directions n w) x 0) row_at ∙ q))
 
-      on : (es : List Event) → back_to b arrows (directions n w) row (get_or w (ways + row) 0 - 1) (back_of b.ids (back_state_at t gas w f e) es) ≡ back_next b arrows s.left w (back_of b.ids (back_state_at s gas w f e) es)
+      on : (es : List Event) → back_to b arrows (directions n w) row (get_or w (ways + row) 0 - 1) (back_of b.ids (back_state_at s gas w f e) es) ≡ back_next b arrows at w (back_of b.ids (back_state_at s gas w f e) es)
       on es = unfold back back_of in rw (some, way_at, row_at)
 
 -- ---- the loop
-
--- the turn at the last place that is left
-pub back-next : {S : Type 0} (g : ℕ → S → S) (xs : List ℕ) (v : S) (left left' : ℕ) → left' + 1 ≡ left → left ≤ length xs
-    → run g (reverse (take left xs)) v ≡ run g (reverse (take left' xs)) (g (get_or xs (left - 1) 0) v)
-back-next g xs v left left' q l =
-    let m : left' ≡ left - 1 = omega arith in
-    run-back g xs left left' v q (omega arith) ∙ ap (λ (k : ℕ). run g (reverse (take left' xs)) (g (get_or xs k 0) v)) m
 
 pub order-long : (n left : ℕ) (w : List ℕ) → out_room n ≤ length w → left ≤ n → left ≤ length (region (out_sizes n) 2 w)
 order-long n left w l h = omega (arith, cut-length (out_sizes n) w 2 (omega arith) (omega arith))
@@ -216,7 +187,7 @@ module _ (b : Board) (count used : ℕ) (gas : List Float) (e w : List ℕ) (f f
   m = turf_count b
 
   abbrev first : Way
-  first = record { left = count; rips = 0; used = used }
+  first = record { rips = 0; used = used }
 
   amounts-is : region (back_sizes m) 0 f₁ ≡ replicate m 0f
   amounts-is = ap (take m) c ∙ take_at (replicate m 0f) (drop m f) m (length-replicate m 0f)
@@ -234,18 +205,17 @@ module _ (b : Board) (count used : ℕ) (gas : List Float) (e w : List ℕ) (f f
     floats = rw f₁_length h.floats;
     bytes = h.bytes;
     written = omega (arith, h.written);
-    few = omega (arith, h.few);
+    few = omega arith;
     count = h.total;
     gas = h.gas;
     amounts = rw amounts-is (every-replicate m);
     sums = unfold every in tt;
     rows = unfold Below in tt;
-    order = h.order;
     directed = h.directed;
   }
 
-  pub first_goes : BackGoes b (back_state_at first gas w f₁ e)
-  first_goes = record { ground = h.ground; fit = first-fit }
+  pub first_goes : BackGoes b count (back_state_at first gas w f₁ e)
+  first_goes = record { ground = h.ground; fit = first-fit; few = omega (arith, h.few); order = h.order }
 
   module _ (arrows : ℕ) (t : Way) (gas' : List Float) (e' w' : List ℕ) (f' : List Float)
       (d : WalkDoes (backing b) (run (back b arrows (directions m w)) (reverse (take count (region (out_sizes m) 2 w)))) (back_state_at first gas w f₁ e) (back_state_at t gas' w' f' e')) where

@@ -1,5 +1,5 @@
 -- How the scratch holds the way back: in the first array of words the turfs that the floor rips off, in the floats each row's amount and each rip's sum.
-use Rattle.std.specs.Prelude.{◌≡◌, List, [], ◌∷◌, ◌++◌, reverse, Bool, false, not, ℕ, ◌+◌, ◌-◌, ◌*◌, ◌≤◌, ◌<◌, T, length, get_or, take, drop, set, replicate, Float}
+use Rattle.std.specs.Prelude.{◌≡◌, List, [], ◌∷◌, ◌++◌, reverse, Bool, false, not, ℕ, ◌+◌, ◌*◌, ◌≤◌, ◌<◌, T, length, get_or, take, drop, set, replicate, Float}
 use Rattle.std.specs.Float.{nan, inf, fin}
 use Rattle.std.specs.Float.Ieee.{is_nan}
 use Rattle.basics.specs.Loops.{run, every}
@@ -77,13 +77,12 @@ pub record BackFits (b : Board) (a : BackState) : Type 0 where
   pub floats : back_room (turf_count b) ≤ length a.floats
   pub bytes : 84 * turf_count b ≤ length a.area
   pub written : a.way.used ≤ 24 * turf_count b + 48 * a.way.rips
-  pub few : a.way.rips + a.way.left ≤ turf_count b
+  pub few : a.way.rips ≤ turf_count b
   pub count : length a.gas ≡ mixture_count b * b.gases
   pub gas : T (every not_negative a.gas)
   pub amounts : T (every not_negative (region (back_sizes (turf_count b)) 0 a.floats))
   pub sums : T (every not_negative (take a.way.rips (region (back_sizes (turf_count b)) 1 a.floats)))
   pub rows : Below (turf_count b) (take a.way.rips (region (out_sizes (turf_count b)) 0 a.words))
-  pub order : (i : ℕ) → i < a.way.left → get_or (region (out_sizes (turf_count b)) 2 a.words) i 0 < turf_count b
   pub directed : (r : ℕ) → get_or (region (out_sizes (turf_count b)) 3 a.words) r 0 ≤ turf_count b
 
 -- the way back over a board
@@ -102,10 +101,12 @@ backing b = record {
   Fit = BackFits b;
 }
 
--- the way back between turfs
-pub record BackGoes (b : Board) (a : BackState) : Type 0 where
+-- the way back between turfs, the first `left` of the order still to come
+pub record BackGoes (b : Board) (left : ℕ) (a : BackState) : Type 0 where
   pub ground : Ground b
   pub fit : BackFits b a
+  pub few : a.way.rips + left ≤ turf_count b
+  pub order : (i : ℕ) → i < left → get_or (region (out_sizes (turf_count b)) 2 a.words) i 0 < turf_count b
 
 -- the same at the turf `row`, which points at the turf d
 pub record Points (b : Board) (row d : ℕ) (a : BackState) : Type 0 where
@@ -113,7 +114,7 @@ pub record Points (b : Board) (row d : ℕ) (a : BackState) : Type 0 where
   pub fit : BackFits b a
   pub from : row < turf_count b
   pub to : d < turf_count b
-  pub room : a.way.rips + a.way.left < turf_count b
+  pub room : a.way.rips < turf_count b
 
 -- the directions in the words
 abbrev pub directions : ℕ → List ℕ → List ℕ
@@ -135,9 +136,9 @@ pub record Settled (b : Board) (row d : ℕ) (r : Sums) (gas gas' f f' : List Fl
   pub theirs : r.theirs ≡ get_or (set f row r.mine) d nan +f r.mine
   pub amounts : f' ≡ set (set f row r.mine) d r.theirs
 
--- `back` of the turf before those that are left
+-- `back` of the turf at the place `at` of the order
 abbrev pub back_next : Board → ℕ → ℕ → List ℕ → Back → Back
-back_next b arrows left w s = back b arrows (directions (turf_count b) w) (get_or (region (out_sizes (turf_count b)) 2 w) (left - 1) 0) s
+back_next b arrows at w s = back b arrows (directions (turf_count b) w) (get_or (region (out_sizes (turf_count b)) 2 w) at 0) s
 
 -- the rip number j can be written after `used` bytes
 pub record Rips (ids : List ℕ) (j used : ℕ) (w : List ℕ) (f : List Float) (e : List ℕ) : Type 0 where

@@ -1,7 +1,7 @@
 // The way back of `explosively_depressurize`, and the floor rips at its end: module 9 of document 01.
 #![tactic(auto)]
 
-ghost use Rattle.std.specs.Prelude.{◌≡◌, [], ◌∷◌, reverse, ◌+◌, ◌<◌, length, take, drop};
+ghost use Rattle.std.specs.Prelude.{◌≡◌, [], ◌∷◌, reverse, ◌+◌, ◌≤◌, length, take, drop};
 ghost use Rattle.basics.specs.Loops.{run};
 ghost use Rattle.basics.specs.Regions.{region};
 ghost use Rattle.rules_board.specs.Board.{turf_count};
@@ -17,10 +17,9 @@ use rules_events::Event;
 use scratch::WalkLayout;
 use turfs::LentTables;
 
-// How far the way back has come: turfs of the order that are left, turfs that the floor rips off, event bytes written.
+// How far the way back has come: turfs that the floor rips off, event bytes written.
 #[derive(Clone, Copy)]
 pub struct Way {
-    pub left: usize,
     pub rips: usize,
     pub used: usize,
 }
@@ -79,7 +78,7 @@ fn back_to(
         WalkDoes (backing b) (back_to b leg.arrows (directions (turf_count b) words.old) leg.row leg.next)
         (back_state_at s gas.old words.old floats.old events.old)
         (back_state_at result gas.new words.new floats.new events.new) }
-    ensures left_value { result.left ≡ s.left }
+    ensures rips_value { result.rips ≡ s.rips + 1 }
 {
     let ids = tables.ids;
     let layout = WalkLayout { turfs: ids.len() };
@@ -100,15 +99,12 @@ fn back_to(
     let k = s.rips;
     words[k] = leg.row;
     floats[layout.sums_at() + k] = sums.sum;
-    Way {
-        rips: k + 1,
-        used,
-        ..s
-    }
+    Way { rips: k + 1, used }
 }
 
-// The last turf of those that are left; one without direction is skipped.
+// The turf at the place `at` of the order; one without direction is skipped.
 fn back(
+    at: usize,
     arrows: u32,
     s: Way,
     tables: &LentTables,
@@ -118,24 +114,21 @@ fn back(
     floats: &mut [f32],
     events: &mut [u8],
 ) -> Way
-    requires fact { let b = board_at tables gases in BackGoes b (back_state_at s gas.old words.old floats.old events.old) }
-    requires left_nonzero { 0 < s.left }
-    ensures fact_2 { let b = board_at tables.entry gases in
-        WalkDoes (backing b) (back_next b arrows s.left words.old)
+    requires { let b = board_at tables gases in BackGoes b (at + 1) (back_state_at s gas.old words.old floats.old events.old) }
+    ensures fact { let b = board_at tables.entry gases in
+        WalkDoes (backing b) (back_next b arrows at words.old)
         (back_state_at s gas.old words.old floats.old events.old)
         (back_state_at result gas.new words.new floats.new events.new) }
-    ensures left_value { result.left + 1 ≡ s.left }
+    ensures rips_bound { result.rips ≤ s.rips + 1 }
 {
     let ids = tables.ids;
     let layout = WalkLayout { turfs: ids.len() };
-    let left = s.left - 1;
     let order = layout.order_at();
     let ways = layout.ways_at();
-    let row = words[order + left];
+    let row = words[order + at];
     let way = words[ways + row as usize];
-    let t = Way { left, ..s };
     if way == 0 {
-        return t;
+        return s;
     }
     let d = way as usize - 1;
     let leg = Leg {
@@ -143,11 +136,12 @@ fn back(
         next: d,
         arrows,
     };
-    back_to(leg, t, tables, gases, gas, words, floats, events)
+    back_to(leg, s, tables, gases, gas, words, floats, events)
 }
 
-// The order from its end.
+// The first `count` turfs of the order, from the last of them.
 fn back_all(
+    count: usize,
     arrows: u32,
     s: Way,
     tables: &LentTables,
@@ -157,19 +151,17 @@ fn back_all(
     floats: &mut [f32],
     events: &mut [u8],
 ) -> Way
-    requires { let b = board_at tables gases in BackGoes b (back_state_at s gas.old words.old floats.old events.old) }
-    ensures fact { let b = board_at tables.entry gases in
+    requires { let b = board_at tables gases in BackGoes b count (back_state_at s gas.old words.old floats.old events.old) }
+    ensures { let b = board_at tables.entry gases in
         let w = words.old in
-        let order = take s.left (region (out_sizes (turf_count b)) 2 w) in
+        let order = take count (region (out_sizes (turf_count b)) 2 w) in
         WalkDoes (backing b) (run (back b arrows (directions (turf_count b) w)) (reverse order))
         (back_state_at s gas.old words.old floats.old events.old)
         (back_state_at result gas.new words.new floats.new events.new) }
-    ensures left_value { result.left ≡ 0 }
 {
     let mut t = s;
-    // A while: each turn itself takes one turf off what is left.
-    while t.left > 0 {
-        t = back(arrows, t, tables, gases, gas, words, floats, events);
+    for left in (0..count).rev() {
+        t = back(left, arrows, t, tables, gases, gas, words, floats, events);
     }
     t
 }
@@ -234,11 +226,7 @@ pub fn way_back(
 {
     let ids = tables.ids;
     basics::clear_floats(floats, ids.len());
-    let s = Way {
-        left: count,
-        rips: 0,
-        used,
-    };
-    let t = back_all(arrows, s, tables, gases, gas, words, floats, events);
+    let s = Way { rips: 0, used };
+    let t = back_all(count, arrows, s, tables, gases, gas, words, floats, events);
     rips(t.rips, t.used, ids, words, floats, events)
 }

@@ -30,7 +30,6 @@ hot_id-s-requires c =
     let going = c.if-s.false in
     record {
       accepted = p.accepted;
-      threshold_value = p.threshold_value;
       hot_fits = record { stored = head.invariant.stored; room = loop-open p.accepted _ _ _ _ _ stored none head.id-index head.invariant going; going = going };
     }
 

@@ -33,7 +33,6 @@ passed_over-requires c =
     let row = row-in p.accepted _ _ found _ is_at in
     record {
       accepted = p.accepted;
-      threshold_value = p.threshold_value;
       fact = record { sizes = p.hot_fits.stored.sizes; words = p.hot_fits.stored.words; row = row };
     }
 

@@ -1,10 +1,8 @@
--- |d| < t is d < t and -t < d. Assumes nothing.
-use mathlib.Core.Path.{◌∙◌}
-use Rattle.fill_tests.proofs.Near.{near-here, near-not}
+-- The library's absolute value is the definition's. Assumes nothing.
+use mathlib.Core.Path.{ap, ◌∙◌}
+use lib.Ieee.{Float, lt}
+use Rattle.fill_tests.proofs.Near.{abs-is}
 use Rattle.fill_tests.proofs.nearer.Goals as goal
 
-pub returns-then-d-threshold : goal.returns-then-d-threshold
-returns-then-d-threshold c = near-here _ _ c.requires c.if-d-threshold.true
-
-pub returns-else-d-threshold : goal.returns-else-d-threshold
-returns-else-d-threshold c = c.if-d-threshold.false ∙ near-not _ _ c.requires c.if-d-threshold.false
+pub returns : goal.returns
+returns c = ap (λ (x : Float). lt x c.args.threshold) (c.abs.ensures.value ∙ abs-is _)

@@ -18,7 +18,6 @@ pub all_near-requires : goal.all_near-requires
 all_near-requires c =
     record {
       accepted = c.requires.accepted;
-      threshold_value = c.requires.threshold_value;
       to_bound = omega (arith, (parts c.requires.accepted).end _ c.requires.row_bound, c.links_of-links.ensures.1);
     }
 

@@ -6,4 +6,4 @@ pub loop-k-init : goal.loop-k-init
 loop-k-init c = ran_start _ _ _
 
 pub loop-k-preserved : goal.loop-k-preserved
-loop-k-preserved c = ran_next _ (lift_length c.args.words.now c.args.zone c.args.up) c.loop-k.auto.k c.loop-k.invariant c.lift_at.ensures
+loop-k-preserved c = ran_next _ (lift_length c.args.words.now c.args.zone.number c.args.up) c.loop-k.auto.k c.loop-k.invariant c.lift_at.ensures

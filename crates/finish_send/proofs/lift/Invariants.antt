@@ -4,4 +4,4 @@ use Rattle.finish_send.proofs.Ranges.{Ran}
 use Rattle.finish_send.proofs.lift.Given as goal
 
 abbrev pub invariant-loop-k : goal.invariant-loop-k
-invariant-loop-k l = Ran (lift_at l.words l.zone l.up) l.from l.k l.initial.floats l.floats
+invariant-loop-k l = Ran (lift_at l.words l.zone.number l.up) l.from l.k l.initial.floats l.floats

@@ -8,7 +8,6 @@ pub next_edge-k-requires : goal.next_edge-k-requires
 next_edge-k-requires c =
     let whole = edge-room _ _ c.args.links.stop _ _ _ _ _ _ c.lifted_at-up.ensures c.requires _ c.args.floats.now refl c.requires.order in
     record {
-      zone_bound = whole.0;
       k_le_to = whole.1.0;
       to_in_bounds = whole.1.1.0;
       to_in_bounds_2 = whole.1.1.1;
@@ -70,7 +69,6 @@ next_edge-k-requires-in-loop-k c =
     let send = c.send-now in
     let whole = edge-room _ _ c.args.links.stop _ _ _ _ _ _ lifted-at.ensures c.requires (loop.k + 1) send.new.floats (sent_size send.ensures ∙ loop.invariant.made.kept.floats) (omega (arith, c.loop-k-test.true)) in
     record {
-      zone_bound = whole.0;
       k_le_to = whole.1.0;
       to_in_bounds = whole.1.1.0;
       to_in_bounds_2 = whole.1.1.1;

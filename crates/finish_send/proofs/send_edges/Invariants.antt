@@ -7,7 +7,7 @@ use Rattle.finish_send.proofs.send_edges.Given as goal
 
 abbrev pub invariant-loop-k : goal.invariant-loop-k
 invariant-loop-k l =
-    At (board_of l.tables l.turf.gases) l.words l.stop l.zone l.turf.row l.up l.from l.to (finish_areas l.initial.gas l.initial.floats l.initial.events l.used) l.k (finish_areas l.gas l.floats l.events l.now)
+    At (board_of l.tables l.turf.gases) l.words l.stop l.turf.zone.number l.turf.row l.up l.from l.to (finish_areas l.initial.gas l.initial.floats l.initial.events l.used) l.k (finish_areas l.gas l.floats l.events l.now)
 
 abbrev pub decreases-loop-k : goal.decreases-loop-k
 decreases-loop-k l =

@@ -43,7 +43,6 @@ finalize_eq_neighbors-next_edge-k-requires-in-loop-k t c =
     let finalize-eq = c.finalize_eq-now in
     let whole = edge-room _ _ _ _ _ c.requires _ _ _ lifted-at.ensures links-of.ensures.0 links-of.ensures.1 _ _ loop.invariant loop-test.true finalize-eq.new.floats finalize-eq.ensures.kept.floats in
     record {
-      zone_bound = whole.0;
       k_le_to = whole.1.0;
       to_in_bounds = whole.1.1.0;
       to_in_bounds_2 = whole.1.1.1;

@@ -11,7 +11,7 @@ use Rattle.finish_turf.proofs.+finalize_eq_finalize_eq_neighbors.Given as goal
 
 -- twice the unfinished nodes of the turf's zone
 abbrev pub twice : LentTables → List ℕ → List Float → Turf → ℕ
-twice tables words floats t = let n = unfinished_on (board_of tables t.gases) words t.zone floats in n + n
+twice tables words floats t = let n = unfinished_on (board_of tables t.gases) words t.zone.number floats in n + n
 
 abbrev pub decreases-finalize_eq : goal.decreases-finalize_eq
 decreases-finalize_eq l = twice l.tables.now l.words.now l.floats.now l.turf
@@ -21,7 +21,7 @@ decreases-finalize_eq_neighbors l = twice l.tables.now l.words.now l.floats.now 
 
 abbrev pub invariant-finalize_eq_neighbors-loop-k : goal.invariant-finalize_eq_neighbors-loop-k
 invariant-finalize_eq_neighbors-loop-k l =
-    Giving (board_of l.tables l.turf.gases) l.words l.zone l.up l.from l.to (finish_areas l.initial.gas l.initial.floats l.initial.events l.used) l.k (finish_areas l.gas l.floats l.events l.now)
+    Giving (board_of l.tables l.turf.gases) l.words l.turf.zone.number l.up l.from l.to (finish_areas l.initial.gas l.initial.floats l.initial.events l.used) l.k (finish_areas l.gas l.floats l.events l.now)
 
 abbrev pub decreases-finalize_eq_neighbors-loop-k : goal.decreases-finalize_eq_neighbors-loop-k
 decreases-finalize_eq_neighbors-loop-k l =

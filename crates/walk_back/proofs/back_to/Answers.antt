@@ -19,5 +19,5 @@ returns c =
     let last = ap (λ (x : ℕ). eqb x 0) (direction-at _ _ _ _ _ _ _ _ p _ _ _ q _ c.ways_at.ensures) in
     record {
       fact = does-back _ _ _ _ _ _ _ _ p _ _ _ q _ c.sums_at.ensures _ _ last _ _ c.tell-used.ensures (omega arith);
-      left_value = refl;
+      rips_value = refl;
     }

@@ -10,7 +10,7 @@ rips-requires c =
     let pre = c.requires in
     let clear-floats = c.clear_floats in
     let back-all = c.back_all-t in
-    ripping _ _ _ _ _ _ _ _ pre clear-floats.ensures _ _ _ _ _ _ back-all.ensures.fact
+    ripping _ _ _ _ _ _ _ _ pre clear-floats.ensures _ _ _ _ _ _ back-all.ensures
 
 pub returns : goal.returns
 returns c =
@@ -18,4 +18,4 @@ returns c =
     let clear-floats = c.clear_floats in
     let back-all = c.back_all-t in
     let rips = c.rips in
-    backed _ _ _ _ _ _ _ _ pre clear-floats.ensures _ _ _ _ _ _ back-all.ensures.fact _ _ rips.ensures
+    backed _ _ _ _ _ _ _ _ pre clear-floats.ensures _ _ _ _ _ _ back-all.ensures _ _ rips.ensures
