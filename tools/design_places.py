@@ -15,7 +15,8 @@ PLACES = [
     (1, "a number in place of a bool or of none", r"(cancelled|apart|fast): u32|direction: u32|-> u32 .*0 for none|return k as u32 \+ 1;|\b16,$|\bp == 0\b|way == 0|direction != 0"),
     (1, "a flag with a value beside it", r"(going|inside|wants|done|remark|met): bool"),
     (1, "a kind or a setting by its number", r"\b(kind|arrows|call): u32"),
-    (2, "functions that differ in a type, a size or a constant", r"^\s*(pub )?fn (clear|clear_floats|part|byte_part|table|byte_table|put_bytes|put_amounts|lend_words|lend_floats|lend_events|rows_of|marks_of|same_answer|same_gas|same_events|same_words|same_floats|ascending|rising|gain|lose|one|two|four|put_bad|put_too_long|large_rows_fit)\("),
+    (2, "functions that differ in a type, a size or a constant", r"^\s*(pub )?fn (clear|clear_floats|part|byte_part|table|byte_table|put_bytes|put_amounts|lend_words|lend_floats|lend_events|"
+     r"rows_of|marks_of|same_answer|same_gas|same_events|same_words|same_floats|ascending|rising|gain|lose|one|two|four|put_bad|put_too_long|large_rows_fit)\("),
     (2, "a start of an array of the scratch", r"^\s*pub fn \w+_at\((n: usize|row: usize|k: usize|self)"),
     (3, "a loop that counts by hand", r"^\s*while "),
     (4, "a struct copied field by field", r"^\s+(\w+): (self|s|t|i|hand|met|leg)\.\1,$"),
