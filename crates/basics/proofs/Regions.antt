@@ -8,6 +8,7 @@ use lib.ListN.{length, get_or, take, drop, set, replicate, length-drop, length-r
 use lib.Seq.{take-set-lt, drop-set-lt, take-set-le, drop-set-add, get_or-take, get_or-drop, length-take-le, drop-drop, take_at, drop_at, take-add}
 use Rattle.basics.specs.Regions.{cut, region, base}
 use Rattle.basics.proofs.Parts.{drop-later}
+use Rattle.basics.specs.Worked as worked  -- checked before the laws
 
 module _ {A : Type 0} where
   -- a store at index i of array k: that array has it, and every other is as it was

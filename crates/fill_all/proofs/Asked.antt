@@ -3,8 +3,11 @@ use Prim.Native.Nat.{ℕ}
 use native.Mathlib.Omega.{arith}
 use mathlib.Core.Path.{◌≡◌, refl}
 use mathlib.Core.List.{List}
+use mathlib.Core.Bool.{true}
 use lib.Dec.{T}
+use lib.Ieee.Bits.{is_true}
 use lib.ListN.{length}
+use Rattle.basics.specs.Floats.{finite_sign_clear}
 use Rattle.rules_board.specs.Board.{Board}
 use Rattle.rules_board.specs.Refuse.{links_fit}
 use Rattle.turfs.specs.Tables.{Accepted}
@@ -44,9 +47,9 @@ module _ (b : Board) (q : Ask) (turns : List ℕ) (l : Lent) where
     unfolding equalize_number
     let_links = links-pass b l (equalize_room b) extra z
 
-    -- what filling asks
-    pub fill-asks : Accepted b (length l.gas) × FillFits b l.words l.floats l.area
+    -- what filling asks, and that the threshold is finite
+    pub fill-asks : Accepted b (length l.gas) × ((finite_sign_clear q.threshold ≡ true) × FillFits b l.words l.floats l.area)
     unfolding words_room floats_room
     fill-asks =
         let p = let_pass in
-        (p.board, record { words = omega (arith, p.words); floats = omega (arith, p.floats); events = omega (arith, p.area) })
+        (p.board, (is_true (finite_sign_clear q.threshold) p.threshold, record { words = omega (arith, p.words); floats = omega (arith, p.floats); events = omega (arith, p.area) }))

@@ -19,6 +19,7 @@ use Rattle.rules_mixture.specs.Mixture.{amount_fits}
 use Rattle.rules_events.specs.Events.{encode_all}
 use Rattle.rules_events.specs.declared.Event.{Event}
 use Rattle.rules_lent.specs.Lent.{Lent, Extra, words_room, floats_room, first_failed, refusal, after}
+use Rattle.rules_lent.specs.Worked as worked  -- checked before the laws
 
 held : (t : Bool) (n x : ℕ) → zero < n → cond t x n ≡ 0 → T t × (x ≡ 0)
 held true n x h e = (tt, e)

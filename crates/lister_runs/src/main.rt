@@ -37,11 +37,12 @@ const TORN: [u8; 19] = [8, 0, 2, 0, 5, 0, 0, 0, 12, 0, 4, 0, 1, 0, 0, 0, 2, 0, 0
 
 const HEAD: [u8; 11] = [8, 0, 2, 0, 5, 0, 0, 0, 12, 0, 4];
 
+// As many bytes as are listed at most, and one more.
+const ZEROS: [u8; 65_537] = [0; 65_537];
+
 // Each input in turn, and a line behind it.
 fn main(rt: HostRuntime) -> io::Result<()> {
     let mut out = io::writer(&rt);
-    let whole = [0u8; 65_536];
-    let too_long = [0u8; 65_537];
     let inputs: [&[u8]; 11] = [
         &KINDS,
         &PRESSURE,
@@ -52,8 +53,8 @@ fn main(rt: HostRuntime) -> io::Result<()> {
         &TORN,
         &HEAD,
         &[],
-        &whole,
-        &too_long,
+        &ZEROS[..65_536],
+        &ZEROS,
     ];
     for input in inputs {
         listing::print(&mut out, input)?;

@@ -13,6 +13,7 @@ use lib.Seq.{length-take-le, take-append-le, drop-append-le, drop-append-add, dr
 use lib.Ieee.{Float}
 use Rattle.rules_board.specs.Board.{Board, mixture_count, immutable_mix}
 use Rattle.rules_mixture.specs.Mixture.{part, put_part, scale, plus, remove, amounts, change, move_air}
+use Rattle.rules_mixture.specs.Worked as worked  -- checked before the laws
 use Rattle.mixture.specs.Held.{HoldsGas}
 
 -- the end of a mixture that comes before another

@@ -9,12 +9,13 @@ use std::io;
 use std::io::Write;
 use vectors_count::{Counts, Tried};
 
-// A line with the numbers that a call answered.
-fn report_call<W: Write>(out: &mut W, numbers: &[u64; 8]) -> io::Result<()> {
+// A line with these numbers, behind the line before, which has no end yet.
+fn report_line<W: Write>(out: &mut W, numbers: &[u64]) -> io::Result<()> {
+    out.write_all(b"\n")?;
     for n in numbers {
         write!(out, " {n}")?;
     }
-    writeln!(out)
+    Ok(())
 }
 
 // The counts: a line for each call, and one for the vectors.
@@ -23,17 +24,28 @@ fn report<W: Write>(out: &mut W, counts: &Counts) -> io::Result<()> {
         out,
         "done, refused by 1 to 7: equalize, depressurize, planet walk; then"
     )?;
-    writeln!(
-        out,
-        "vectors, those that differ, the first of these, digits changed, found, times torn, found:"
+    out.write_all(
+        b"vectors, those that differ, the first of these, digits changed, found, times torn, found:",
     )?;
-    report_call(out, &counts.equalize)?;
-    report_call(out, &counts.depressurize)?;
-    report_call(out, &counts.planet_walk)?;
+    report_line(out, &counts.equalize)?;
+    report_line(out, &counts.depressurize)?;
+    report_line(out, &counts.planet_walk)?;
     let first = counts.first.unwrap_or(0);
-    write!(out, " {} {} {first}", counts.vectors, counts.differ)?;
-    write!(out, " {} {}", counts.changed.all, counts.changed.found)?;
-    writeln!(out, " {} {}", counts.torn.all, counts.torn.found)
+    let Tried { all, found } = counts.changed;
+    let torn = counts.torn;
+    report_line(
+        out,
+        &[
+            counts.vectors,
+            counts.differ,
+            first,
+            all,
+            found,
+            torn.all,
+            torn.found,
+        ],
+    )?;
+    out.write_all(b"\n")
 }
 
 // Whether a vector is whole, and its call meets what it expects.

@@ -16,6 +16,7 @@ use Rattle.basics.proofs.Lists.{up_from-above, up_from-below, up_from-apart, Apa
 use Rattle.rules_board.specs.Board.{Board, turf_count, link_count, mixture_count, id_of, links_of, row_of}
 use Rattle.rules_board.specs.Refuse.{within, pairwise, rising, sizes_fit, tables_fit, ids_fit, links_fit}
 use Rattle.turfs.specs.Tables.{Accepted, source}
+use Rattle.rules_board.specs.Worked as worked  -- checked before the laws
 
 in_range : (lo hi n : ℕ) → T (within lo hi n) → (lo ≤ n) × (n ≤ hi)
 in_range lo hi n h = (leb→le lo n (and_left (leb lo n) (leb n hi) h), leb→le n hi (and_right (leb lo n) (leb n hi) h))

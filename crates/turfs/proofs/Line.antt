@@ -8,6 +8,7 @@ use Rattle.basics.specs.Loops.{member, snoc}
 use Rattle.basics.specs.Lists.{All}
 use Rattle.basics.proofs.Lists.{All-snoc, Apart, apart_snoc, not_member, pigeonhole}
 use Rattle.rules_board.specs.Board.{Board, turf_count}
+use Rattle.rules_board.specs.Worked as worked  -- checked before the laws
 
 -- a queue of different turfs of the board
 pub record Line (b : Board) (queue : List ℕ) : Type 0 where

@@ -31,6 +31,7 @@ use Rattle.walk_back.specs.Backed.{not_negative, BackState, back_state_at, rips_
 use Rattle.walk_back.specs.declared.Way.{Way}
 use Rattle.walk_back.specs.declared.Sums.{Sums}
 use Rattle.walk_back.proofs.Signs.{add-clear, clear-number, every-at, every_set, every-snoc, total-clear, cleared-clear}
+use Rattle.rules_back.specs.Worked as worked  -- checked before the laws
 
 -- ---- rips
 

@@ -26,6 +26,7 @@ use Rattle.index_set.proofs.Queue.{Below-at}
 use Rattle.scratch.specs.Layout.{out_sizes, back_sizes, order_at, ways_at, sums_at, out_room}
 use Rattle.walk_links.specs.Does.{WalkDoes}
 use Rattle.walk_links.proofs.Does.{does-as, none-wrote, both-wrote, Going}
+use Rattle.walk_links.specs.Reached.{Ground}
 use Rattle.rules_back.specs.Back.{Back, back_to, back}
 use Rattle.walk_back.specs.Backed.{BackState, back_state_at, rips_of, back_of, BackRest, BackFits, backing, BackGoes, Points, directions, back_next, Rips, rip_at, Ripping, back_areas, BackStarts, Backed}
 use Rattle.walk_back.specs.declared.Way.{Way}
@@ -59,8 +60,8 @@ module _ {f f₀ : Back → Back} {b : Board} {a a' : BackState} (g : Going (bac
 
 -- ---- the turf at a place of the order
 
-module _ (b : Board) (at : ℕ) (s : Way) (gas : List Float) (e w : List ℕ) (f : List Float) (g : BackGoes b (at + 1) (back_state_at s gas w f e))
-    (order ways : ℕ) (at-order : order ≡ order_at (turf_count b)) (at-ways : ways ≡ ways_at (turf_count b)) where
+module _ (b : Board) (at : ℕ) (s : Way) (gas : List Float) (e w : List ℕ) (f : List Float) (h : BackFits b (back_state_at s gas w f e)) (few : s.rips + (at + 1) ≤ turf_count b)
+    (rows : (i : ℕ) → i < at + 1 → get_or (region (out_sizes (turf_count b)) 2 w) i 0 < turf_count b) (order ways : ℕ) (at-order : order ≡ order_at (turf_count b)) (at-ways : ways ≡ ways_at (turf_count b)) where
   abbrev n : ℕ
   n = turf_count b
 
@@ -68,26 +69,26 @@ module _ (b : Board) (at : ℕ) (s : Way) (gas : List Float) (e w : List ℕ) (f
   row = get_or w (order + at) 0
 
   row_at : row ≡ get_or (region (out_sizes n) 2 w) at 0
-  row_at = cut-get (out_sizes n) w 0 2 at (order + at) (omega arith) (omega (arith, g.few)) (omega (arith, at-order))
+  row_at = cut-get (out_sizes n) w 0 2 at (order + at) (omega arith) (omega (arith, few)) (omega (arith, at-order))
 
   pub row_below : row < n
-  row_below = rw row_at (g.order at (omega arith))
+  row_below = rw row_at (rows at (omega arith))
 
   way_at : get_or w (ways + row) 0 ≡ get_or (directions n w) row 0
   way_at = cut-get (out_sizes n) w 0 3 row (ways + row) (omega arith) row_below (omega (arith, at-ways))
 
   pub way-below : get_or w (ways + row) 0 ≤ n
-  way-below = rw way_at (g.fit.directed row)
+  way-below = rw way_at (h.directed row)
 
-  pub points : (get_or w (ways + row) 0 ≡ 0 → ⊥) → Points b row (get_or w (ways + row) 0 - 1) (back_state_at s gas w f e)
-  points z = record { ground = g.ground; fit = g.fit; from = row_below; to = omega (arith, way-below); room = omega (arith, g.few) }
+  pub points : Ground b → (get_or w (ways + row) 0 ≡ 0 → ⊥) → Points b row (get_or w (ways + row) 0 - 1) (back_state_at s gas w f e)
+  points g z = record { ground = g; fit = h; from = row_below; to = omega (arith, way-below); room = omega (arith, few) }
 
   pub back-skip : (arrows : ℕ) → get_or w (ways + row) 0 ≡ 0 → WalkDoes (backing b) (back_next b arrows at w) (back_state_at s gas w f e) (back_state_at s gas w f e)
   back-skip arrows z = record {
-    fit = g.fit;
+    fit = h;
     kept = refl;
     new = [];
-    wrote = none-wrote s.used e (written-room b (back_state_at s gas w f e) g.fit);
+    wrote = none-wrote s.used e (written-room b (back_state_at s gas w f e) h);
     same = skip;
   }
     where

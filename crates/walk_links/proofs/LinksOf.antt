@@ -14,6 +14,7 @@ use Rattle.turfs.proofs.Near.{near-length, near-inside, near-end}
 use Rattle.rules_events.specs.declared.Event.{Event}
 use Rattle.rules_walk.specs.Walk.{Walk, walk_link, spread}
 use Rattle.walk_links.specs.Reached.{WalkState, walk_of, Ground, Leads}
+use Rattle.rules_walk.specs.Worked as worked  -- checked before the laws
 
 pub walked-is : (n : ℕ) (a : WalkState) (es : List Event) → (walk_of n a es).walked ≡ a.reach.walked
 unfolding walk_of

@@ -135,7 +135,8 @@ fn walk_links(
     t
 }
 
-// A turf that is enabled and whose place, counted from 1, is within the limit has its links walked.
+// A turf that is enabled and whose place, counted from 1, is within the limit has its links walked. Inlined, so that a walk keeps how far it has come in registers.
+#[inline(always)]
 pub fn spread(
     limit: u32,
     row: usize,

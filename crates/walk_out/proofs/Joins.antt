@@ -26,6 +26,7 @@ use Rattle.walk_first.proofs.Visits.{target-size}
 use Rattle.rules_out.specs.Out.{Out, out_to, out_link}
 use Rattle.walk_out.specs.Outed.{OutState, out_at, out_in, out_of, OutRest, OutFits, outing, Joins}
 use Rattle.walk_out.specs.declared.Front.{Front}
+use Rattle.rules_out.specs.Worked as worked  -- checked before the laws
 
 -- what is written stands in the area
 pub written-room : (n : ℕ) (a : OutState) → OutFits n a → a.front.used ≤ length a.area

@@ -14,7 +14,7 @@ fill_all-s-requires c =
     let t = c.args.turns.now in
     let l = lent c.args.gas.now c.args.events.now c.args.words.now c.args.floats.now in
     let asks = fill-asks b q t l c.requires in
-    record { accepted = asks.0; fill_fits = asks.1 }
+    record { accepted = asks.0; fill_fits = asks.1.1 }
 
 pub timed-requires : goal.timed-requires
 timed-requires c =

@@ -25,7 +25,7 @@ fill_all-requires c =
     let whole = fill-asks b q [] l (sym (c.accept.ensures c.args.settings.limit c.args.settings.allowance) ∙ was-accepted c.in_ok-accept.was) in
     record {
       accepted = whole.0;
-      fill_fits = whole.1;
+      fill_fits = whole.1.1;
     }
 
 pub returns : goal.returns
