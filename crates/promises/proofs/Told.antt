@@ -33,6 +33,7 @@ alike tell back h x y e = sym (h x) ∙ ap back e ∙ h y
 
 -- ---- each kind of answer, read back
 
+-- a bool by its bit
 abbrev flag : ℕ → Bool
 flag n = eqb n 1
 
@@ -40,10 +41,12 @@ flag-bit : (x : Bool) → flag (bit x) ≡ x
 flag-bit true = refl
 flag-bit false = refl
 
+-- a refusal by its number
 abbrev refusal_of : ℕ → Refusal
 refusal_of n =
     if eqb n 1 then Sizes else if eqb n 2 then Tables else if eqb n 3 then Ids else if eqb n 4 then Links else if eqb n 5 then Amounts else if eqb n 6 then Hot else Areas
 
+-- an answer by its number: done with this where that is 0
 abbrev told_as : {A : Type 0} → ℕ → A → Result A Refusal
 told_as n a = if eqb n 0 then Ok a else Err (refusal_of n)
 
@@ -56,6 +59,7 @@ told-refused a Amounts = refl
 told-refused a Hot = refl
 told-refused a Areas = refl
 
+-- equalize's, the planet walk's, depressurize's
 abbrev equalize_back : EqualizeAnswer → Result EqualizeDone Refusal
 equalize_back a = told_as a.number (record { cancelled = flag a.cancelled; processed = a.processed; tests = a.tests; zones = a.zones; apart = flag a.apart; bytes = a.bytes })
 
@@ -70,6 +74,7 @@ planet-back : (r : Result ℕ Refusal) → planet_back (planet_answer r) ≡ r
 planet-back (Ok n) = refl
 planet-back (Err r) = told-refused _ r
 
+-- an outcome by its number
 abbrev outcome_of : ℕ → Outcome
 outcome_of n = if eqb n 0 then NoSpace else if eqb n 1 then Planet else Emptied
 
@@ -85,10 +90,12 @@ depressurize-back : (r : Result DepressurizeDone Refusal) → depressurize_back 
 depressurize-back (Ok a) = λ i. Ok (record { outcome = outcome-back a.outcome i; bytes = a.bytes })
 depressurize-back (Err r) = told-refused _ r
 
+-- that of the refusals alone
 accept-back : (r : Result Unit Refusal) → told_as (refusal_number r) tt ≡ r
 accept-back (Ok a) = refl
 accept-back (Err r) = told-refused _ r
 
+-- the writer's
 abbrev unwritten_of : ℕ → Unwritten
 unwritten_of n = if eqb n 5 then NotFinite else if eqb n 7 then NoRoom else NoKind
 
@@ -129,6 +136,7 @@ refusal-told-once b l room x r r' p p' = alike refusal_number (λ n. told_as n t
 
 -- ---- the writer
 
+-- two outcomes that an equation with what the definition writes allows
 put-told : (x : Put) (r r' : Result ℕ Unwritten) (a a' : List ℕ) → left r a ≡ x → left r' a' ≡ x → (r ≡ r') × (a ≡ a')
 put-told x r r' a a' p p' =
     let e = p ∙ sym p' in
